@@ -1,0 +1,95 @@
+-- Laws of a CuSum's step: rule 2 in natural numbers, that it is monotone, that a CuSum is at most its L, and where a class that
+-- fails or meets stands. Through the raw value as a difference of naturals, and omega.
+use Prim.Native.Nat.{ℕ, _+_, _*_, _-_, _≤_, _<_, min}
+use mathlib.Core.Path.{_≡_, refl, sym, _∙_, ap}
+use mathlib.Core.Bool.{Bool, true, false, cond}
+use native.Mathlib.Omega.{arith}
+use lib.Dec.{ltb}
+use lib.IntN.{ℤ, pos, negsuc, _+ℤ_, _-ℤ_}
+use borrow.Author.Tests.{ltb-true, ltb-false, lt-ltb, le-ltb}
+use Rattle.cusum.specs.Integers.{maxℤ}
+use Rattle.cusum.specs.Step.{rawValue, aboveLimit, cusumOf, fails, newCusum, stepOf}
+use Rattle.cusum.specs.LargestForm.{defectsLessT}
+use Rattle.cusum.specs.declared.Limits.{Limits}
+use Rattle.cusum.specs.declared.Cusum.{Cusum}
+use Rattle.cusum.proofs.Integers.{up, down, eq-of, plus-is, difference-is, up-max, down-max, one-side}
+
+-- ---- the same in natural numbers
+
+above-limit-is : (l : Limits) (r : ℤ) → aboveLimit l r ≡ ltb (l .limit) (up r)
+unfolding aboveLimit up
+above-limit-is l (pos r) = refl
+above-limit-is l (negsuc r) = sym (le-ltb (l .limit) 0 (omega arith))
+
+cusum-of-is : (l : Limits) (r : ℤ) → cusumOf l r ≡ min (l .limit) (up r)
+unfolding cusumOf up
+cusum-of-is l (pos r) = go (ltb (l .limit) r) refl
+  where
+    go : (t : Bool) → ltb (l .limit) r ≡ t → cond t (l .limit) r ≡ min (l .limit) r
+    go true e = omega (arith, ltb-true (l .limit) r e)
+    go false e = omega (arith, ltb-false (l .limit) r e)
+cusum-of-is l (negsuc r) = omega arith
+
+raw-value-up : (l : Limits) (old c : ℕ) → up (rawValue l old c) ≡ old + 10 * c - l .tolerance
+unfolding rawValue
+raw-value-up l old c = omega (arith, difference-is (old + 10 * c) (l .tolerance), one-side (pos (old + 10 * c) -ℤ pos (l .tolerance)))
+
+pub new-cusum-is : (l : Limits) (old c : ℕ) → newCusum l old c ≡ min (l .limit) (old + 10 * c - l .tolerance)
+unfolding newCusum
+new-cusum-is l old c = cusum-of-is l (rawValue l old c) ∙ ap (min (l .limit)) (raw-value-up l old c)
+
+pub fails-is : (l : Limits) (old c : ℕ) → fails l old c ≡ ltb (l .limit) (old + 10 * c - l .tolerance)
+unfolding fails
+fails-is l old c = above-limit-is l (rawValue l old c) ∙ ap (ltb (l .limit)) (raw-value-up l old c)
+
+-- as code tests it: ten times the count and the old CuSum exceed T+L
+pub fails-sum : (l : Limits) (old c : ℕ) → fails l old c ≡ ltb (l .tolerance + l .limit) (old + 10 * c)
+fails-sum l old c = fails-is l old c ∙ go (ltb (l .tolerance + l .limit) (old + 10 * c)) refl
+  where
+    go : (t : Bool) → ltb (l .tolerance + l .limit) (old + 10 * c) ≡ t → ltb (l .limit) (old + 10 * c - l .tolerance) ≡ t
+    go true e = lt-ltb (l .limit) (old + 10 * c - l .tolerance) (omega (arith, ltb-true (l .tolerance + l .limit) (old + 10 * c) e))
+    go false e = le-ltb (l .limit) (old + 10 * c - l .tolerance) (omega (arith, ltb-false (l .tolerance + l .limit) (old + 10 * c) e))
+
+-- ---- laws of a step
+
+pub fails-true : (l : Limits) (old c : ℕ) → fails l old c ≡ true → l .limit < old + 10 * c - l .tolerance
+fails-true l old c e = ltb-true _ _ (sym (fails-is l old c) ∙ e)
+
+pub fails-false : (l : Limits) (old c : ℕ) → fails l old c ≡ false → old + 10 * c - l .tolerance ≤ l .limit
+fails-false l old c e = ltb-false _ _ (sym (fails-is l old c) ∙ e)
+
+pub new-cusum-mono : (l : Limits) (o o' c c' : ℕ) → o ≤ o' → c ≤ c' → newCusum l o c ≤ newCusum l o' c'
+new-cusum-mono l o o' c c' h k = omega (arith, new-cusum-is l o c, new-cusum-is l o' c')
+
+pub fails-mono : (l : Limits) (o o' c c' : ℕ) → o ≤ o' → c ≤ c' → fails l o c ≡ true → fails l o' c' ≡ true
+fails-mono l o o' c c' h k e = fails-is l o' c' ∙ lt-ltb (l .limit) (o' + 10 * c' - l .tolerance) (omega (arith, fails-true l o c e))
+
+pub new-cusum-le-limit : (l : Limits) (o c : ℕ) → newCusum l o c ≤ l .limit
+new-cusum-le-limit l o c = omega (arith, new-cusum-is l o c)
+
+-- a failing class stands at L
+pub failed-at : (l : Limits) (o c : ℕ) → fails l o c ≡ true → newCusum l o c ≡ l .limit
+failed-at l o c e = omega (arith, new-cusum-is l o c, fails-true l o c e)
+
+-- a class that meets: the larger of zero and the raw value
+pub met-at : (l : Limits) (o c : ℕ) → fails l o c ≡ false → pos (newCusum l o c) ≡ maxℤ (pos 0) (pos o +ℤ defectsLessT l c)
+unfolding defectsLessT up down
+met-at l o c e =
+    let d = pos (10 * c) -ℤ pos (l .tolerance) in
+    let x = pos o +ℤ d in
+    eq-of (pos (newCusum l o c)) (maxℤ (pos 0) x) (omega (arith, new-cusum-is l o c, fails-false l o c e, up-max (pos 0) x, down-max (pos 0) x, plus-is (pos o) d, difference-is (10 * c) (l .tolerance), one-side x))
+
+-- ---- the step as code takes it: the old CuSum and the tenths of the count, against T+L and T
+
+module _ (l : Limits) (old : Cusum) (c : ℕ) where
+  pub step-above : l .tolerance + l .limit < old .tenths + 10 * c → record { cusum = record { tenths = l .limit }; fails = true } ≡ stepOf l old c
+  step-above h =
+      let e : fails l (old .tenths) c ≡ true = fails-sum l (old .tenths) c ∙ lt-ltb (l .tolerance + l .limit) (old .tenths + 10 * c) h in
+      rw (failed-at l (old .tenths) c e, e)
+
+  pub step-within : (n : ℕ) → old .tenths + 10 * c ≤ l .tolerance + l .limit → n ≡ old .tenths + 10 * c - l .tolerance
+      → record { cusum = record { tenths = n }; fails = false } ≡ stepOf l old c
+  step-within n h k =
+      let e : fails l (old .tenths) c ≡ false = fails-sum l (old .tenths) c ∙ le-ltb (l .tolerance + l .limit) (old .tenths + 10 * c) h in
+      let v : newCusum l (old .tenths) c ≡ n = omega (arith, new-cusum-is l (old .tenths) c) in
+      rw (v, e)

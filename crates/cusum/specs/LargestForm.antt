@@ -1,0 +1,18 @@
+-- The 'largest of' form of demand 3, for one class: what a CuSum is, told from an anchor and the counts since it.
+use Prim.Native.Nat.{ℕ}
+use mathlib.Core.List.{List, _∷_, map}
+use lib.IntN.{ℤ, pos, _+ℤ_, _-ℤ_}
+use Rattle.cusum.specs.Integers.{largest, sumℤ, runs}
+use Rattle.cusum.specs.Step.{tenthsOf}
+use Rattle.cusum.specs.declared.Limits.{Limits}
+
+-- defects less T at a unit: ten times the class's count, minus T
+unfoldable pub defectsLessT : Limits → ℕ → ℤ
+defectsLessT limits count = pos (tenthsOf count) -ℤ pos (limits .tolerance)
+
+-- the largest of zero, the anchor plus the sum of defects less T since it, and every such sum, without the anchor, over a run of
+-- units that starts after the anchor and ends with the last
+unfoldable pub largestForm : Limits → ℕ → List ℕ → ℤ
+largestForm limits anchor counts =
+    let since = map (defectsLessT limits) counts in
+    largest ((pos anchor +ℤ sumℤ since) ∷ map sumℤ (runs since))

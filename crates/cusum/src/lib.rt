@@ -1,0 +1,72 @@
+// Rules 1 and 2 of grading a unit: where a CuSum begins, and what a count makes of it.
+ghost use mathlib.Core.Path.{_≡_};
+ghost use Rattle.cusum.specs.Step.{tenthsOf, startOf, stepOf};
+
+// S (start), T (tolerance) and L (acceptance limit) of a class in a plan, in tenths.
+pub struct Limits {
+    pub start: u16,
+    pub tolerance: u16,
+    pub limit: u16,
+}
+
+// A cumulative sum, in tenths.
+pub struct Cusum {
+    pub tenths: u32,
+}
+
+// What a unit makes of a CuSum: the new one, and whether the class fails.
+pub struct Stepped {
+    pub cusum: Cusum,
+    pub fails: bool,
+}
+
+// The tenths of a count: a defect is ten tenths.
+pub fn tenths(count: u32) -> u64
+    ensures { λ r. ⌜ r ≡ tenthsOf count ⌝ }
+{
+    10 * count as u64
+}
+
+impl Cusum {
+    pub const ZERO: Cusum = Cusum { tenths: 0 };
+
+    // The largest number of tenths that a result record's two bytes hold.
+    pub const LARGEST_TENTHS: u32 = 65535;
+
+    // Every CuSum begins at the S of its own class and plan.
+    pub fn starting(limits: Limits) -> Cusum
+        ensures { λ r. ⌜ r ≡ startOf limits ⌝ }
+    {
+        Cusum {
+            tenths: limits.start as u32,
+        }
+    }
+
+    pub fn step(self, limits: Limits, count: u32) -> Stepped
+        ensures { λ r. ⌜ r ≡ stepOf limits self count ⌝ }
+    {
+        let sum = self.tenths as u64 + tenths(count);
+        let tolerance = limits.tolerance as u64;
+        let highest = tolerance + limits.limit as u64;
+        if highest < sum {
+            return Stepped {
+                cusum: Cusum {
+                    tenths: limits.limit as u32,
+                },
+                fails: true,
+            };
+        }
+        if sum <= tolerance {
+            return Stepped {
+                cusum: Cusum::ZERO,
+                fails: false,
+            };
+        }
+        Stepped {
+            cusum: Cusum {
+                tenths: (sum - tolerance) as u32,
+            },
+            fails: false,
+        }
+    }
+}
