@@ -1,0 +1,36 @@
+-- Code grades over the result records in a buffer: the worst portion grade among all records with a code, adjoining or not.
+use Prim.Native.Nat.{ℕ, zero, suc, _+_, _*_, _<_, _≤_}
+use mathlib.Core.Path.{_≡_}
+use mathlib.Core.Bool.{cond}
+use mathlib.Core.List.{List}
+use lib.Dec.{eqb}
+use lib.ListN.{set}
+use Rattle.rules.specs.Words.{worse, substandard}
+use Rattle.results.specs.Record.{resultSize, codeGradeOffset, codeIn, portionIn, codeGradeIn}
+
+-- stands for the code grade in a record whose code is not graded yet; no grade
+abbrev pub ungraded : ℕ
+ungraded = 255
+
+-- the portion grade of record j if it has this code, else the best
+unfoldable pub portionIf : List ℕ → ℕ → ℕ → ℕ
+portionIf results code j = cond (eqb (codeIn results j) code) (portionIn results j) 0
+
+-- the worst portion grade among the first n records with this code
+unfoldable pub worstIn : List ℕ → ℕ → ℕ → ℕ
+worstIn results code zero = 0
+worstIn results code (suc n) = worse (worstIn results code n) (portionIf results code n)
+
+-- the buffer with a code grade stored in each of the first n records
+unfoldable pub withCodeGrades : (ℕ → ℕ) → List ℕ → ℕ → List ℕ
+withCodeGrades grade results zero = results
+withCodeGrades grade results (suc n) = set (withCodeGrades grade results n) (resultSize * n + codeGradeOffset) (grade n)
+
+-- n records with their code grades
+unfoldable pub codesGraded : List ℕ → ℕ → List ℕ
+codesGraded results n = withCodeGrades (λ j. worstIn results (codeIn results j) n) results n
+
+-- n records as the writer leaves them: no code is graded yet, and each portion has a grade
+pub record Ungraded (results : List ℕ) (n : ℕ) : Type 0 where
+  pub no-code-grade : (j : ℕ) → j < n → codeGradeIn results j ≡ ungraded
+  pub portion-grade : (j : ℕ) → j < n → portionIn results j ≤ substandard

@@ -1,0 +1,54 @@
+-- The result record of a unit in bytes: mark 47 52, production code (2), portion grade (1), code grade (1), grade of the plan in
+-- force (1, or 3 if none), standing (1), four CuSums (2 each, tenths).
+use Prim.Native.Nat.{ℕ, _+_, _*_}
+use mathlib.Core.List.{List, [], _∷_}
+use Rattle.cusum.specs.declared.Cusum.{Cusum}
+use Rattle.encoding.specs.Bytes.{byte, number, high, low}
+use Rattle.rules.specs.Words.{tenthsIn}
+use Rattle.results.specs.declared.ResultRecord.{ResultRecord}
+
+-- ---- size of the record, and offsets of its fields
+
+abbrev pub resultSize : ℕ
+resultSize = 16
+
+abbrev pub codeOffset : ℕ
+codeOffset = 2
+
+abbrev pub portionOffset : ℕ
+portionOffset = 4
+
+abbrev pub codeGradeOffset : ℕ
+codeGradeOffset = 5
+
+abbrev pub cusumsOffset : ℕ
+cusumsOffset = 8
+
+-- ---- its bytes
+
+-- the two bytes of each CuSum, class by class
+unfoldable pub cusumBytes : List Cusum → List ℕ
+cusumBytes cusums =
+    high (tenthsIn cusums 0) ∷ low (tenthsIn cusums 0) ∷ high (tenthsIn cusums 1) ∷ low (tenthsIn cusums 1)
+    ∷ high (tenthsIn cusums 2) ∷ low (tenthsIn cusums 2) ∷ high (tenthsIn cusums 3) ∷ low (tenthsIn cusums 3) ∷ []
+
+-- a record with a code grade, which is known last of all
+unfoldable pub resultBytes : ℕ → ResultRecord → List ℕ
+resultBytes codeGrade result =
+    0x47 ∷ 0x52 ∷ high (result .code) ∷ low (result .code)
+    ∷ result .portion ∷ codeGrade ∷ result .plan ∷ result .standing ∷ cusumBytes (result .cusums)
+
+-- ---- a field of the record of unit j, read back from the result buffer
+
+abbrev pub codeIn : List ℕ → ℕ → ℕ
+codeIn results j = number results (resultSize * j + codeOffset)
+
+abbrev pub portionIn : List ℕ → ℕ → ℕ
+portionIn results j = byte results (resultSize * j + portionOffset)
+
+abbrev pub codeGradeIn : List ℕ → ℕ → ℕ
+codeGradeIn results j = byte results (resultSize * j + codeGradeOffset)
+
+-- the CuSum of a class
+abbrev pub cusumIn : List ℕ → ℕ → ℕ → ℕ
+cusumIn results j class = number results (resultSize * j + (cusumsOffset + 2 * class))

@@ -1,0 +1,24 @@
+use borrow.Author.Needs.{needs}
+use Rattle.rules.proofs.Phase.ends_step_three.Statement.{statement}
+use Rattle.rules.proofs.Phase.ends_step_three.Tie as tie
+use Rattle.rules.proofs.Phase.ends_step_three.Reads as reads
+use Rattle.rules.proofs.Phase.ends_step_three.Lts as lts
+
+-- src/lib.rt:393:18
+enum-told : tie.Need-enum-told
+enum-told c = search needs
+
+-- src/lib.rt:397:17
+enum-known-self : tie.Need-enum-known-self
+enum-known-self c = search needs
+
+-- src/lib.rt:386:5
+returns : tie.Need-returns
+returns c = ?
+
+-- src/lib.rt:386:5
+returns-2 : tie.Need-returns-2
+returns-2 c = ?
+
+pub ends-step-three-spec : {M : Type 1} → statement M
+ends-step-three-spec = tie.close (tie.spec enum-told enum-known-self returns returns-2)

@@ -1,0 +1,32 @@
+use borrow.Author.Needs.{needs}
+use Rattle.rules.proofs.Phase.standing.Statement.{statement}
+use Rattle.rules.proofs.Phase.standing.Tie as tie
+use Rattle.rules.proofs.Phase.standing.Reads as reads
+use Rattle.rules.proofs.Phase.standing.Lts as lts
+
+-- src/lib.rt:448:13
+returns : tie.Need-returns
+returns c = ?
+
+-- src/lib.rt:455:20
+enum-told : tie.Need-enum-told
+enum-told c = search needs
+
+-- src/lib.rt:456:21
+returns-2 : tie.Need-returns-2
+returns-2 c = ?
+
+-- src/lib.rt:464:18
+enum-told-2 : tie.Need-enum-told-2
+enum-told-2 c = search needs
+
+-- src/lib.rt:444:5
+returns-3 : tie.Need-returns-3
+returns-3 c = ?
+
+-- src/lib.rt:444:5
+returns-4 : tie.Need-returns-4
+returns-4 c = ?
+
+pub standing-spec : {M : Type 1} → statement M
+standing-spec = tie.close (tie.spec returns enum-told returns-2 enum-told-2 returns-3 returns-4)

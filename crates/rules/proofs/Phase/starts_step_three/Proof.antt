@@ -1,0 +1,38 @@
+use borrow.Author.Needs.{needs}
+use Rattle.rules.proofs.Phase.starts_step_three.Statement.{statement}
+use Rattle.rules.proofs.Phase.starts_step_three.Tie as tie
+use Rattle.rules.proofs.Phase.starts_step_three.Reads as reads
+use Rattle.rules.proofs.Phase.starts_step_three.Lts as lts
+
+-- src/lib.rt:408:17
+enum-known-self : tie.Need-enum-known-self
+enum-known-self c = search needs
+
+-- src/lib.rt:410:40
+enum-told : tie.Need-enum-told
+enum-told c = search needs
+
+-- src/lib.rt:411:41
+enum-told-2 : tie.Need-enum-told-2
+enum-told-2 c = search needs
+
+-- src/lib.rt:417:18
+enum-told-3 : tie.Need-enum-told-3
+enum-told-3 c = search needs
+
+-- src/lib.rt:402:5
+returns : tie.Need-returns
+returns c = ?
+
+-- src/lib.rt:402:5
+returns-2 : tie.Need-returns-2
+returns-2 c = ?
+
+-- src/lib.rt:402:5
+returns-3 : tie.Need-returns-3
+returns-3 c = ?
+
+pub starts-step-three-spec : {M : Type 1} → statement M
+starts-step-three-spec =
+    tie.close
+    (tie.spec enum-known-self enum-told enum-told-2 enum-told-3 returns returns-2 returns-3)

@@ -1,0 +1,4 @@
+pub mod Words
+pub mod Unit
+pub mod StepThree
+pub mod Sheet

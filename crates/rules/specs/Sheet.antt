@@ -1,0 +1,83 @@
+-- A whole sheet by the number of its records: the state before each, and what is recorded of each unit.
+use Prim.Native.Nat.{ℕ, zero, suc, _+_}
+use mathlib.Core.Bool.{Bool, true, false, cond, _&&_, _||_}
+use lib.Dec.{eqb}
+use Rattle.cusum.specs.declared.Cusum.{Cusum}
+use Rattle.rules.specs.Words.{worse, Table}
+use Rattle.rules.specs.StepThree.{designatedIn, inForce, opening, graded, endsAt, next}
+use Rattle.rules.specs.declared.Sample.{Sample}
+use Rattle.rules.specs.declared.Grading.{Grading}
+use Rattle.rules.specs.declared.Entry.{Entry}
+use Rattle.rules.specs.declared.Entry.the-variants.{SampleUnit, Redesignation, Break}
+use Rattle.rules.specs.declared.Phase.{Phase}
+use Rattle.rules.specs.declared.Phase.the-variants.{Designated, StepThree}
+use Rattle.rules.specs.declared.State.{State}
+
+-- the plan's table, the grade designated at the opening, the records after the plan from number 0 on, and how many there are
+pub record Sheet : Type 0 where
+  pub table : Table
+  pub designated : ℕ
+  pub entry : ℕ → Entry
+  pub size : ℕ
+
+-- standing: 0 met the designated plan, 1 failed it, 2 in step 3 and not recovered, 3 recovered
+unfoldable pub standingOf : Phase → Bool → Bool → ℕ
+standingOf phase fails true = 3
+standingOf (Designated designated previous) fails false = cond fails 1 0
+standingOf (StepThree designated lower run) fails false = 2
+
+-- rule 4: the worse of defect grade and prerequisite grade; a recovered portion gets the worse of designated grade and
+-- prerequisite grade
+unfoldable pub portionOf : ℕ → ℕ → ℕ → Bool → ℕ
+portionOf designated defectGrade prerequisite recovered = worse (cond recovered designated defectGrade) prerequisite
+
+module _ (sheet : Sheet) where
+  -- the state before record i
+  unfoldable pub before : ℕ → State
+  before zero = opening (sheet .table) (sheet .designated)
+  before (suc i) = next (sheet .table) (before i) (sheet .entry i)
+
+  -- the grade designated just before record i, and that of the plan in force for it
+  abbrev pub designatedBefore : ℕ → ℕ
+  designatedBefore i = designatedIn (before i .phase)
+
+  abbrev pub inForceAt : ℕ → ℕ
+  inForceAt i = inForce (before i .phase)
+
+  -- the unit that is record i, graded
+  abbrev pub gradedAt : ℕ → Sample → Grading
+  gradedAt i unit = graded (sheet .table) (before i) unit
+
+  -- step 3 ends at record i
+  unfoldable pub stepThreeEnds : ℕ → Bool
+  stepThreeEnds i = endsAt (sheet .table) (before i) (sheet .entry i)
+
+  -- record i is one of the three units in a row at whose last step 3 ends. They are records i to i + 2 side by side, since every
+  -- other record sets the run to none (law `finished-run`)
+  unfoldable pub inFinishedRun : ℕ → Bool
+  inFinishedRun i = stepThreeEnds i || (stepThreeEnds (i + 1) || stepThreeEnds (i + 2))
+
+  -- each of those three portions marked recoverable is recovered
+  unfoldable pub recovered : ℕ → Sample → Bool
+  recovered i unit = unit .recoverable && inFinishedRun i
+
+  unfoldable pub portion : ℕ → Sample → ℕ
+  portion i unit = portionOf (designatedBefore i) (gradedAt i unit .grade) (unit .prerequisite) (recovered i unit)
+
+  unfoldable pub standing : ℕ → Sample → ℕ
+  standing i unit = standingOf (before i .phase) (gradedAt i unit .fails) (recovered i unit)
+
+  -- the portion grade of record i if it is a unit with this code, else the best
+  unfoldable pub portionWith : ℕ → ℕ → Entry → ℕ
+  portionWith code i (SampleUnit unit) = cond (eqb (unit .code) code) (portion i unit) 0
+  portionWith code i (Redesignation new) = 0
+  portionWith code i Break = 0
+
+  -- the worst portion grade among the units with this code of the first n records
+  unfoldable pub worstBefore : ℕ → ℕ → ℕ
+  worstBefore code zero = 0
+  worstBefore code (suc n) = worse (worstBefore code n) (portionWith code n (sheet .entry n))
+
+  -- the code grade: the worst portion grade among all units of the sheet with that code, adjoining or not
+  unfoldable pub codeGrade : ℕ → ℕ
+  codeGrade code = worstBefore code (sheet .size)

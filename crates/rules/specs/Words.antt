@@ -1,0 +1,84 @@
+-- The line and its words: grades, classes, the plan's table, a sample unit's counts.
+use Prim.Native.Nat.{ℕ, _+_, max}
+use mathlib.Core.Bool.{Bool, true, false, _&&_, _||_}
+use mathlib.Core.List.{List, [], _∷_}
+use lib.Dec.{ltb}
+use lib.ListN.{getD}
+use Rattle.cusum.specs.declared.Limits.{Limits}
+use Rattle.cusum.specs.declared.Cusum.{Cusum}
+use Rattle.rules.specs.declared.Plan.{Plan}
+use Rattle.rules.specs.declared.Sample.{Sample}
+
+-- grades run A, B, C, Substandard, best first, coded 0, 1, 2, 3
+abbrev pub substandard : ℕ
+substandard = 3
+
+-- there is a plan for A, B and C, and none for Substandard
+unfoldable pub hasPlan : ℕ → Bool
+hasPlan grade = ltb grade substandard
+
+-- the worse of two grades
+abbrev pub worse : ℕ → ℕ → ℕ
+worse = max
+
+-- classes are critical, severe, major and total, always in that order
+abbrev pub classes : List ℕ
+classes = 0 ∷ 1 ∷ 2 ∷ 3 ∷ []
+
+-- a condition holds of a member of a list; of all its members
+unfoldable pub any {ℓ} : {A : Type ℓ} → (A → Bool) → List A → Bool
+any p [] = false
+any p (x ∷ xs) = p x || any p xs
+
+unfoldable pub all {ℓ} : {A : Type ℓ} → (A → Bool) → List A → Bool
+all p [] = true
+all p (x ∷ xs) = p x && all p xs
+
+-- the plan is a table of three grades by four classes: a row for each grade, in it S, T and L for each class
+abbrev pub Table : Type 0
+Table = List (List Limits)
+
+-- what stands for S, T and L where there is no plan
+abbrev pub noLimits : Limits
+noLimits = record { start = 0; tolerance = 0; limit = 0 }
+
+abbrev pub noRow : List Limits
+noRow = noLimits ∷ noLimits ∷ noLimits ∷ noLimits ∷ []
+
+abbrev pub rowOf : Table → ℕ → List Limits
+rowOf table grade = getD table grade noRow
+
+-- S, T and L of a class
+abbrev pub inClass : List Limits → ℕ → Limits
+inClass row class = getD row class noLimits
+
+-- S, T and L of a class in the plan of a grade
+abbrev pub limitsOf : Table → ℕ → ℕ → Limits
+limitsOf table grade class = inClass (rowOf table grade) class
+
+-- the table of a plan that holds its cells one after the other, grade by grade and in each class by class
+abbrev pub cellOf : Plan → ℕ → Limits
+cellOf plan cell = getD (plan .limits) cell noLimits
+
+abbrev pub tableOf : Plan → Table
+tableOf plan =
+    (cellOf plan 0 ∷ cellOf plan 1 ∷ cellOf plan 2 ∷ cellOf plan 3 ∷ [])
+    ∷ (cellOf plan 4 ∷ cellOf plan 5 ∷ cellOf plan 6 ∷ cellOf plan 7 ∷ [])
+    ∷ (cellOf plan 8 ∷ cellOf plan 9 ∷ cellOf plan 10 ∷ cellOf plan 11 ∷ [])
+    ∷ []
+
+-- a unit's counts by class: total is the sum of critical, severe, major and minor
+abbrev pub countsOf : Sample → List ℕ
+countsOf unit =
+    unit .critical ∷ unit .severe ∷ unit .major ∷ (unit .critical + unit .severe + unit .major + unit .minor) ∷ []
+
+-- the count of a class
+abbrev pub countIn : List ℕ → ℕ → ℕ
+countIn counts class = getD counts class 0
+
+-- the CuSum of a class, in tenths
+abbrev pub zeroCusum : Cusum
+zeroCusum = record { tenths = 0 }
+
+abbrev pub tenthsIn : List Cusum → ℕ → ℕ
+tenthsIn cusums class = getD cusums class zeroCusum .tenths

@@ -1,0 +1,550 @@
+// The rules of grading over the records of a sheet: a unit, step 3, redesignations, breaks, restarts.
+ghost use mathlib.Core.Path.{_≡_};
+ghost use Prim.Native.Nat.{_+_};
+ghost use lib.Dec.{leb};
+ghost use Rattle.cusum.specs.Step.{tenthsOf};
+ghost use Rattle.rules.specs.Words.{tableOf, rowOf, countsOf, worse};
+ghost use Rattle.rules.specs.Unit.{starting, steppedIn, admits, withinTolerance, allZero, newCusums, unitFails, bestLower, gradingOf};
+ghost use Rattle.rules.specs.StepThree.{designatedIn, inForce, afterDesignated, endsStepThree, afterStepThree, phaseAfterUnit, phaseAfterRedesignation, phaseAfterBreak, unitEndsStepThree, unitStartsStepThree, unitRestarts, redesignationRestarts, opening, graded, endsAt, stateWith, next};
+ghost use Rattle.rules.specs.Sheet.{standingOf, portionOf};
+use cusum::Cusum;
+use cusum::Limits;
+
+// Classes are critical, severe, major and total.
+pub const CLASSES: usize = 4;
+
+// Grades A, B and C, coded 0 to 2, have a plan; Substandard, coded 3, has none.
+pub const GRADES: usize = 3;
+pub const SUBSTANDARD: u8 = 3;
+
+// The designated grade, and S, T and L of grades A, B, C, in each by class.
+pub struct Plan {
+    pub designated: u8,
+    pub limits: [Limits; 12],
+}
+
+// A sample unit.
+pub struct Sample {
+    pub code: u16,
+    pub critical: u16,
+    pub severe: u16,
+    pub major: u16,
+    pub minor: u16,
+    pub prerequisite: u8,
+    pub recoverable: bool,
+}
+
+// A record of the sheet behind its plan.
+pub enum Entry {
+    SampleUnit(Sample),
+    Redesignation(u8),
+    Break,
+}
+
+// Whether the unit just before failed the designated plan, and its defect grade.
+pub enum Previous {
+    NoFailure,
+    Failure(u8),
+}
+
+// The designated plan is in force, or that of the lower grade in step 3, with the qualifying units in a row.
+pub enum Phase {
+    Designated {
+        designated: u8,
+        previous: Previous,
+    },
+    StepThree {
+        designated: u8,
+        lower: u8,
+        run: u8,
+    },
+}
+
+// Where the grading stands before a record.
+pub struct State {
+    pub phase: Phase,
+    pub cusums: [Cusum; 4],
+}
+
+// A unit graded under the plan in force: its new CuSums, whether it fails, its defect grade, whether it qualifies.
+pub struct Grading {
+    pub cusums: [Cusum; 4],
+    pub fails: bool,
+    pub grade: u8,
+    pub qualifies: bool,
+}
+
+// The four CuSums after a unit, and whether a class fails.
+pub struct SteppedClasses {
+    pub cusums: [Cusum; 4],
+    pub fails: bool,
+}
+
+impl Plan {
+    pub fn table(self) -> [[Limits; 4]; 3]
+        ensures { λ r. ⌜ r ≡ tableOf self ⌝ }
+    {
+        let cells = self.limits;
+        [
+            [cells[0], cells[1], cells[2], cells[3]],
+            [cells[4], cells[5], cells[6], cells[7]],
+            [cells[8], cells[9], cells[10], cells[11]],
+        ]
+    }
+}
+
+pub fn row_of(table: [[Limits; 4]; 3], grade: u8) -> [Limits; 4]
+    ensures { λ r. ⌜ r ≡ rowOf table grade ⌝ }
+{
+    if grade < SUBSTANDARD {
+        return table[grade as usize];
+    }
+    let none = Limits {
+        start: 0,
+        tolerance: 0,
+        limit: 0,
+    };
+    [none, none, none, none]
+}
+
+fn counts_of(unit: Sample) -> [u32; 4]
+    ensures { λ r. ⌜ r ≡ countsOf unit ⌝ }
+{
+    let critical = unit.critical as u32;
+    let severe = unit.severe as u32;
+    let major = unit.major as u32;
+    let minor = unit.minor as u32;
+    [critical, severe, major, critical + severe + major + minor]
+}
+
+fn worse_of(first: u8, second: u8) -> u8
+    ensures { λ r. ⌜ r ≡ worse first second ⌝ }
+{
+    if first < second { second } else { first }
+}
+
+fn starts(row: [Limits; 4]) -> [Cusum; 4]
+    ensures { λ r. ⌜ r ≡ starting row ⌝ }
+{
+    [
+        Cusum::starting(row[0]),
+        Cusum::starting(row[1]),
+        Cusum::starting(row[2]),
+        Cusum::starting(row[3]),
+    ]
+}
+
+fn step_classes(row: [Limits; 4], cusums: [Cusum; 4], counts: [u32; 4]) -> SteppedClasses
+    ensures { λ r. ⌜ r ≡ steppedIn row cusums counts ⌝ }
+{
+    let critical = cusums[0].step(row[0], counts[0]);
+    let severe = cusums[1].step(row[1], counts[1]);
+    let major = cusums[2].step(row[2], counts[2]);
+    let total = cusums[3].step(row[3], counts[3]);
+    let first = critical.cusum;
+    let second = severe.cusum;
+    let third = major.cusum;
+    let fourth = total.cusum;
+    SteppedClasses {
+        cusums: [first, second, third, fourth],
+        fails: critical.fails | (severe.fails | (major.fails | total.fails)),
+    }
+}
+
+// Under the plan of a grade; where there is none no class fails, and every CuSum is zero.
+fn step_in_force(table: [[Limits; 4]; 3], grade: u8, cusums: [Cusum; 4], counts: [u32; 4]) -> SteppedClasses
+    ensures { λ r. ⌜ r ≡ record { cusums = newCusums table grade cusums counts; fails = unitFails table grade cusums counts } ⌝ }
+{
+    if grade < SUBSTANDARD {
+        return step_classes(row_of(table, grade), cusums, counts);
+    }
+    SteppedClasses {
+        cusums: [Cusum::ZERO, Cusum::ZERO, Cusum::ZERO, Cusum::ZERO],
+        fails: false,
+    }
+}
+
+// Whether ten times the count is at most T+L of its class.
+fn admits_class(limits: Limits, count: u32) -> bool
+    ensures { λ r. ⌜ r ≡ leb (tenthsOf count) (limits .tolerance + limits .limit) ⌝ }
+{
+    let highest = limits.tolerance as u64 + limits.limit as u64;
+    cusum::tenths(count) <= highest
+}
+
+fn admits_all(row: [Limits; 4], counts: [u32; 4]) -> bool
+    ensures { λ r. ⌜ r ≡ admits row counts ⌝ }
+{
+    admits_class(row[0], counts[0])
+        & (admits_class(row[1], counts[1]) & (admits_class(row[2], counts[2]) & admits_class(row[3], counts[3])))
+}
+
+// Whether ten times the count is at most T of its class.
+fn within_class(limits: Limits, count: u32) -> bool
+    ensures { λ r. ⌜ r ≡ leb (tenthsOf count) (limits .tolerance) ⌝ }
+{
+    let tolerance = limits.tolerance as u64;
+    cusum::tenths(count) <= tolerance
+}
+
+fn within_all(row: [Limits; 4], counts: [u32; 4]) -> bool
+    ensures { λ r. ⌜ r ≡ withinTolerance row counts ⌝ }
+{
+    within_class(row[0], counts[0])
+        & (within_class(row[1], counts[1]) & (within_class(row[2], counts[2]) & within_class(row[3], counts[3])))
+}
+
+fn all_zero(cusums: [Cusum; 4]) -> bool
+    ensures { λ r. ⌜ r ≡ allZero cusums ⌝ }
+{
+    (cusums[0].tenths == 0)
+        & ((cusums[1].tenths == 0) & ((cusums[2].tenths == 0) & (cusums[3].tenths == 0)))
+}
+
+fn best_lower(table: [[Limits; 4]; 3], grade: u8, counts: [u32; 4]) -> u8
+    ensures { λ r. ⌜ r ≡ bestLower table grade counts ⌝ }
+{
+    if (grade < 1) & admits_all(row_of(table, 1), counts) {
+        return 1;
+    }
+    if (grade < 2) & admits_all(row_of(table, 2), counts) {
+        return 2;
+    }
+    SUBSTANDARD
+}
+
+// A unit graded: the table, the designated grade, the grade of the plan in force, the CuSums before the unit, its counts.
+pub fn grade_counts(table: [[Limits; 4]; 3], designated: u8, grade: u8, cusums: [Cusum; 4], counts: [u32; 4]) -> Grading
+    ensures { λ r. ⌜ r ≡ gradingOf table designated grade cusums counts ⌝ }
+{
+    let stepped = step_in_force(table, grade, cusums, counts);
+    let new = stepped.cusums;
+    let within = within_all(row_of(table, designated), counts);
+    let qualifies = all_zero(new) & within;
+    let mut defect_grade = grade;
+    if stepped.fails {
+        defect_grade = best_lower(table, grade, counts);
+    }
+    Grading {
+        cusums: new,
+        fails: stepped.fails,
+        grade: defect_grade,
+        qualifies: qualifies,
+    }
+}
+
+fn after_designated(designated: u8, previous: Previous, fails: bool, grade: u8) -> Phase
+    ensures { λ r. ⌜ r ≡ afterDesignated designated previous fails grade ⌝ }
+{
+    if fails {
+        match previous {
+            Previous::NoFailure => Phase::Designated {
+                designated: designated,
+                previous: Previous::Failure(grade),
+            },
+            Previous::Failure(earlier) => Phase::StepThree {
+                designated: designated,
+                lower: worse_of(earlier, grade),
+                run: 0,
+            },
+        }
+    } else {
+        Phase::Designated {
+            designated: designated,
+            previous: Previous::NoFailure,
+        }
+    }
+}
+
+fn after_step_three(designated: u8, lower: u8, run: u8, qualifies: bool) -> Phase
+    ensures { λ r. ⌜ r ≡ afterStepThree designated lower run qualifies ⌝ }
+{
+    if qualifies {
+        if 2 <= run {
+            return Phase::Designated {
+                designated: designated,
+                previous: Previous::NoFailure,
+            };
+        }
+        return Phase::StepThree {
+            designated: designated,
+            lower: lower,
+            run: run + 1,
+        };
+    }
+    Phase::StepThree {
+        designated: designated,
+        lower: lower,
+        run: 0,
+    }
+}
+
+impl Phase {
+    pub fn designated(self) -> u8
+        ensures { λ r. ⌜ r ≡ designatedIn self ⌝ }
+    {
+        match self {
+            Phase::Designated {
+                designated,
+                previous: _,
+            } => designated,
+            Phase::StepThree {
+                designated,
+                lower: _,
+                run: _,
+            } => designated,
+        }
+    }
+
+    // The grade of the plan in force, or 3 if there is none.
+    pub fn in_force(self) -> u8
+        ensures { λ r. ⌜ r ≡ inForce self ⌝ }
+    {
+        match self {
+            Phase::Designated {
+                designated,
+                previous: _,
+            } => designated,
+            Phase::StepThree {
+                designated: _,
+                lower,
+                run: _,
+            } => lower,
+        }
+    }
+
+    fn after_unit(self, grading: Grading) -> Phase
+        ensures { λ r. ⌜ r ≡ phaseAfterUnit self grading ⌝ }
+    {
+        match self {
+            Phase::Designated {
+                designated,
+                previous,
+            } => after_designated(designated, previous, grading.fails, grading.grade),
+            Phase::StepThree {
+                designated,
+                lower,
+                run,
+            } => after_step_three(designated, lower, run, grading.qualifies),
+        }
+    }
+
+    fn after_redesignation(self, new: u8) -> Phase
+        ensures { λ r. ⌜ r ≡ phaseAfterRedesignation self new ⌝ }
+    {
+        match self {
+            Phase::Designated {
+                designated: _,
+                previous: _,
+            } => Phase::Designated {
+                designated: new,
+                previous: Previous::NoFailure,
+            },
+            Phase::StepThree {
+                designated: _,
+                lower,
+                run: _,
+            } => {
+                if new < lower {
+                    return Phase::StepThree {
+                        designated: new,
+                        lower: lower,
+                        run: 0,
+                    };
+                }
+                Phase::Designated {
+                    designated: new,
+                    previous: Previous::NoFailure,
+                }
+            }
+        }
+    }
+
+    fn after_break(self) -> Phase
+        ensures { λ r. ⌜ r ≡ phaseAfterBreak self ⌝ }
+    {
+        match self {
+            Phase::Designated {
+                designated,
+                previous: _,
+            } => Phase::Designated {
+                designated: designated,
+                previous: Previous::NoFailure,
+            },
+            Phase::StepThree {
+                designated,
+                lower,
+                run: _,
+            } => Phase::StepThree {
+                designated: designated,
+                lower: lower,
+                run: 0,
+            },
+        }
+    }
+
+    fn ends_step_three(self, grading: Grading) -> bool
+        ensures { λ r. ⌜ r ≡ unitEndsStepThree self grading ⌝ }
+    {
+        match self {
+            Phase::Designated {
+                designated: _,
+                previous: _,
+            } => false,
+            Phase::StepThree {
+                designated: _,
+                lower: _,
+                run,
+            } => grading.qualifies & (2 <= run),
+        }
+    }
+
+    fn starts_step_three(self, grading: Grading) -> bool
+        ensures { λ r. ⌜ r ≡ unitStartsStepThree self grading ⌝ }
+    {
+        match self {
+            Phase::Designated {
+                designated: _,
+                previous,
+            } => match previous {
+                Previous::NoFailure => false,
+                Previous::Failure(_) => grading.fails,
+            },
+            Phase::StepThree {
+                designated: _,
+                lower: _,
+                run: _,
+            } => false,
+        }
+    }
+
+    fn unit_restarts(self, grading: Grading) -> bool
+        ensures { λ r. ⌜ r ≡ unitRestarts self grading ⌝ }
+    {
+        self.ends_step_three(grading) | self.starts_step_three(grading)
+    }
+
+    fn redesignation_restarts(self, new: u8) -> bool
+        ensures { λ r. ⌜ r ≡ redesignationRestarts self new ⌝ }
+    {
+        match self {
+            Phase::Designated {
+                designated: _,
+                previous: _,
+            } => true,
+            Phase::StepThree {
+                designated: _,
+                lower,
+                run: _,
+            } => !(new < lower),
+        }
+    }
+
+    // Standing: 0 met the designated plan, 1 failed it, 2 in step 3 and not recovered, 3 recovered.
+    pub fn standing(self, fails: bool, recovered: bool) -> u8
+        ensures { λ r. ⌜ r ≡ standingOf self fails recovered ⌝ }
+    {
+        if recovered {
+            return 3;
+        }
+        match self {
+            Phase::Designated {
+                designated: _,
+                previous: _,
+            } => {
+                if fails {
+                    return 1;
+                }
+                0
+            }
+            Phase::StepThree {
+                designated: _,
+                lower: _,
+                run: _,
+            } => 2,
+        }
+    }
+}
+
+// The portion grade: the worse of the defect grade, or the designated grade where the portion is recovered, and the prerequisite.
+pub fn portion(designated: u8, defect: u8, prerequisite: u8, recovered: bool) -> u8
+    ensures { λ r. ⌜ r ≡ portionOf designated defect prerequisite recovered ⌝ }
+{
+    if recovered {
+        return worse_of(designated, prerequisite);
+    }
+    worse_of(defect, prerequisite)
+}
+
+// A state in a phase, with these CuSums or, at a restart, every class of the plan in force at its S.
+fn state_with(table: [[Limits; 4]; 3], phase: Phase, restarts: bool, cusums: [Cusum; 4]) -> State
+    ensures { λ r. ⌜ r ≡ stateWith table phase restarts cusums ⌝ }
+{
+    if restarts {
+        let started = starts(row_of(table, phase.in_force()));
+        return State {
+            phase: phase,
+            cusums: started,
+        };
+    }
+    State {
+        phase: phase,
+        cusums: cusums,
+    }
+}
+
+impl State {
+    pub fn opening(table: [[Limits; 4]; 3], designated: u8) -> State
+        ensures { λ r. ⌜ r ≡ opening table designated ⌝ }
+    {
+        let started = starts(row_of(table, designated));
+        State {
+            phase: Phase::Designated {
+                designated: designated,
+                previous: Previous::NoFailure,
+            },
+            cusums: started,
+        }
+    }
+
+    pub fn grade(self, table: [[Limits; 4]; 3], unit: Sample) -> Grading
+        ensures { λ r. ⌜ r ≡ graded table self unit ⌝ }
+    {
+        let phase = self.phase;
+        let cusums = self.cusums;
+        grade_counts(table, phase.designated(), phase.in_force(), cusums, counts_of(unit))
+    }
+
+    fn after_unit(self, table: [[Limits; 4]; 3], grading: Grading) -> State
+        ensures { λ r. ⌜ r ≡ stateWith table (phaseAfterUnit (self .phase) grading) (unitRestarts (self .phase) grading) (grading .cusums) ⌝ }
+    {
+        let phase = self.phase;
+        let cusums = grading.cusums;
+        state_with(table, phase.after_unit(grading), phase.unit_restarts(grading), cusums)
+    }
+
+    // The state after a record.
+    pub fn after(self, table: [[Limits; 4]; 3], entry: Entry) -> State
+        ensures { λ r. ⌜ r ≡ next table self entry ⌝ }
+    {
+        let phase = self.phase;
+        let cusums = self.cusums;
+        match entry {
+            Entry::SampleUnit(unit) => self.after_unit(table, self.grade(table, unit)),
+            Entry::Redesignation(new) => state_with(table, phase.after_redesignation(new), phase.redesignation_restarts(new), cusums),
+            Entry::Break => state_with(table, phase.after_break(), true, cusums),
+        }
+    }
+
+    // Whether step 3 ends at a record.
+    pub fn ends_at(self, table: [[Limits; 4]; 3], entry: Entry) -> bool
+        ensures { λ r. ⌜ r ≡ endsAt table self entry ⌝ }
+    {
+        let phase = self.phase;
+        match entry {
+            Entry::SampleUnit(unit) => phase.ends_step_three(self.grade(table, unit)),
+            Entry::Redesignation(_) => false,
+            Entry::Break => false,
+        }
+    }
+}

@@ -1,0 +1,132 @@
+-- The tally sheet in bytes: the plan, and the records behind it by their number.
+use Prim.Native.Nat.{ℕ, zero, suc, _+_, _*_}
+use mathlib.Core.Bool.{Bool}
+use mathlib.Core.List.{List, [], _∷_, map}
+use lib.Dec.{eqb}
+use Rattle.cusum.specs.declared.Limits.{Limits}
+use Rattle.encoding.specs.Bytes.{byte, number}
+use Rattle.rules.specs.Words.{tableOf}
+use Rattle.rules.specs.StepThree.{pick}
+use Rattle.rules.specs.Sheet.{Sheet}
+use Rattle.rules.specs.declared.Plan.{Plan}
+use Rattle.rules.specs.declared.Sample.{Sample}
+use Rattle.rules.specs.declared.Entry.{Entry}
+use Rattle.rules.specs.declared.Entry.the-variants.{SampleUnit, Redesignation, Break}
+use Rattle.sheet.specs.declared.Mark.{Mark}
+use Rattle.sheet.specs.declared.Mark.the-variants.{UnitMark, RedesignationMark, BreakMark, NoMark}
+
+-- ---- sizes of the records, and offsets of their fields
+
+abbrev pub markSize : ℕ
+markSize = 2
+
+-- S, T and L, two bytes each
+abbrev pub limitsSize : ℕ
+limitsSize = 6
+
+-- plan: mark (2), designated grade (1), then for grades A, B, C, within each the four classes, within each S, T, L
+abbrev pub planSize : ℕ
+planSize = 75
+
+abbrev pub tableOffset : ℕ
+tableOffset = 3
+
+-- sample unit: mark (2), production code (2), counts of critical, severe, major, minor (2 each), prerequisite grade (1), recoverable (1)
+abbrev pub unitSize : ℕ
+unitSize = 14
+
+abbrev pub codeOffset : ℕ
+codeOffset = 2
+
+abbrev pub countsOffset : ℕ
+countsOffset = 4
+
+abbrev pub prerequisiteOffset : ℕ
+prerequisiteOffset = 12
+
+abbrev pub recoverableOffset : ℕ
+recoverableOffset = 13
+
+-- redesignation: mark (2), new designated grade (1)
+abbrev pub redesignationSize : ℕ
+redesignationSize = 3
+
+-- ---- the plan
+
+abbrev pub limitsAt : List ℕ → ℕ → Limits
+limitsAt bytes at = record { start = number bytes at; tolerance = number bytes (at + 2); limit = number bytes (at + 4) }
+
+-- the cells of the table, grade by grade and in each class by class
+abbrev pub cells : List ℕ
+cells = 0 ∷ 1 ∷ 2 ∷ 3 ∷ 4 ∷ 5 ∷ 6 ∷ 7 ∷ 8 ∷ 9 ∷ 10 ∷ 11 ∷ []
+
+unfoldable pub planOf : List ℕ → Plan
+planOf bytes =
+    record { designated = byte bytes 2; limits = map (λ cell. limitsAt bytes (tableOffset + limitsSize * cell)) cells }
+
+-- ---- the records
+
+-- marks: 53 55 a sample unit, 52 44 a redesignation, 42 4B a break in production
+unfoldable pub markOf : ℕ → Mark
+markOf mark =
+    pick (eqb mark 0x5355) UnitMark
+    (pick (eqb mark 0x5244) RedesignationMark
+    (pick (eqb mark 0x424B) BreakMark NoMark))
+
+unfoldable pub markAt : List ℕ → ℕ → Mark
+markAt bytes at = markOf (number bytes at)
+
+-- the size of a record by its mark; where there is no mark, that of a mark
+unfoldable pub sizeOf : Mark → ℕ
+sizeOf UnitMark = unitSize
+sizeOf RedesignationMark = redesignationSize
+sizeOf BreakMark = markSize
+sizeOf NoMark = markSize
+
+-- the sample unit at an offset; recoverable: 1 if the portion is separately coded and within reach, else 0
+unfoldable pub sampleAt : List ℕ → ℕ → Sample
+sampleAt bytes at =
+    record {
+      code = number bytes (at + codeOffset);
+      critical = number bytes (at + 4);
+      severe = number bytes (at + 6);
+      major = number bytes (at + 8);
+      minor = number bytes (at + 10);
+      prerequisite = byte bytes (at + prerequisiteOffset);
+      recoverable = eqb (byte bytes (at + recoverableOffset)) 1;
+    }
+
+-- the record at an offset. In an accepted sheet every record has a mark; where there is none, behind the last record, a break
+-- stands in, which grades no unit
+unfoldable pub entryOf : List ℕ → ℕ → Mark → Entry
+entryOf bytes at UnitMark = SampleUnit (sampleAt bytes at)
+entryOf bytes at RedesignationMark = Redesignation (byte bytes (at + 2))
+entryOf bytes at BreakMark = Break
+entryOf bytes at NoMark = Break
+
+-- the offset of record i: the first stands behind the plan, each other behind the one before it
+unfoldable pub offset : List ℕ → ℕ → ℕ
+offset bytes zero = planSize
+offset bytes (suc i) = offset bytes i + sizeOf (markAt bytes (offset bytes i))
+
+abbrev pub mark : List ℕ → ℕ → Mark
+mark bytes i = markAt bytes (offset bytes i)
+
+unfoldable pub entryAt : List ℕ → ℕ → Entry
+entryAt bytes i = entryOf bytes (offset bytes i) (mark bytes i)
+
+-- how many sample units stand before record i
+unfoldable pub unitOf : Mark → ℕ
+unitOf UnitMark = 1
+unitOf RedesignationMark = 0
+unitOf BreakMark = 0
+unitOf NoMark = 0
+
+unfoldable pub unitsBefore : List ℕ → ℕ → ℕ
+unitsBefore bytes zero = 0
+unitsBefore bytes (suc i) = unitsBefore bytes i + unitOf (mark bytes i)
+
+-- the sheet with its first n records, as the rules grade it
+unfoldable pub sheetOf : List ℕ → ℕ → Sheet
+sheetOf bytes n =
+    record { table = tableOf (planOf bytes); designated = planOf bytes .designated; entry = entryAt bytes; size = n }

@@ -1,0 +1,143 @@
+-- Where a sheet is turned away: numbers 1 to 12, in the order of the table. A refusal is its number and an offset.
+use Prim.Native.Nat.{ℕ, zero, suc, _+_}
+use mathlib.Core.Bool.{Bool, true, false, not, _||_}
+use mathlib.Core.List.{List, [], _∷_}
+use lib.Dec.{ltb, leb, eqb}
+use lib.ListN.{length}
+use Rattle.cusum.specs.declared.Limits.{Limits}
+use Rattle.encoding.specs.Bytes.{byte, number}
+use Rattle.rules.specs.Words.{classes, any, Table, inClass, rowOf, limitsOf, tableOf}
+use Rattle.rules.specs.StepThree.{pick}
+use Rattle.rules.specs.declared.Entry.{Entry}
+use Rattle.rules.specs.declared.Entry.the-variants.{SampleUnit, Redesignation, Break}
+use Rattle.rules.specs.declared.Sample.{Sample}
+use Rattle.sheet.specs.Layout.{markSize, planSize, unitSize, redesignationSize, prerequisiteOffset, recoverableOffset, planOf, sampleAt, markAt, offset, entryAt, unitsBefore}
+use Rattle.sheet.specs.declared.Mark.{Mark}
+use Rattle.sheet.specs.declared.Mark.the-variants.{UnitMark, RedesignationMark, BreakMark, NoMark}
+use Rattle.sheet.specs.declared.Verdict.{Verdict}
+use Rattle.sheet.specs.declared.Verdict.the-variants.{Accepted, Refused}
+
+-- a row of the table: its number if its condition is met, else what the rows after it say; 0 if none is met
+unfoldable pub row : Bool → ℕ → ℕ → ℕ
+row true number rest = number
+row false number rest = rest
+
+-- limits of the numbers on a sheet
+abbrev pub largestLimit : ℕ
+largestLimit = 9999
+
+abbrev pub largestCount : ℕ
+largestCount = 2000
+
+abbrev pub mostUnits : ℕ
+mostUnits = 1000
+
+-- ---- the plan, at offset 0
+
+-- a condition holds of a class in the plan of a grade
+unfoldable pub anyClass : (Limits → Bool) → List Limits → Bool
+anyClass condition limits = any (λ class. condition (inClass limits class)) classes
+
+unfoldable pub anyLimits : (Limits → Bool) → Table → Bool
+anyLimits condition table = any (λ grade. anyClass condition (rowOf table grade)) (0 ∷ 1 ∷ 2 ∷ [])
+
+-- 1: shorter than 75 bytes, or first mark not 50 4C
+unfoldable pub noPlan : List ℕ → Bool
+noPlan bytes = ltb (length bytes) planSize || not (eqb (number bytes 0) 0x504C)
+
+-- 3: an S, T or L above 9,999
+unfoldable pub tooLarge : Limits → Bool
+tooLarge limits = ltb largestLimit (limits .start) || (ltb largestLimit (limits .tolerance) || ltb largestLimit (limits .limit))
+
+-- 4: an S above its L
+unfoldable pub startsAbove : Limits → Bool
+startsAbove limits = ltb (limits .limit) (limits .start)
+
+-- 5: in a class, T or T+L smaller at B than at A, or at C than at B
+unfoldable pub smaller : Limits → Limits → Bool
+smaller better lower =
+    ltb (lower .tolerance) (better .tolerance) || ltb (lower .tolerance + lower .limit) (better .tolerance + better .limit)
+
+unfoldable pub anySmaller : Table → Bool
+anySmaller table =
+    any (λ class. smaller (limitsOf table 0 class) (limitsOf table 1 class) || smaller (limitsOf table 1 class) (limitsOf table 2 class)) classes
+
+unfoldable pub tableRefusal : Table → ℕ
+tableRefusal table =
+    row (anyLimits tooLarge table) 3
+    (row (anyLimits startsAbove table) 4
+    (row (anySmaller table) 5
+    0))
+
+unfoldable pub planRefusal : List ℕ → ℕ
+planRefusal bytes =
+    row (noPlan bytes) 1
+    (row (ltb 2 (byte bytes 2)) 2
+    (tableRefusal (tableOf (planOf bytes))))
+
+-- ---- a record, at the offset of its mark
+
+-- 8: a count above 2,000
+unfoldable pub countTooLarge : Sample → Bool
+countTooLarge unit =
+    ltb largestCount (unit .critical)
+    || (ltb largestCount (unit .severe) || (ltb largestCount (unit .major) || ltb largestCount (unit .minor)))
+
+-- of a unit at an offset, with so many units before it. 7: cut short; 12: after the 1,000th; 8; 9: prerequisite above 3 or
+-- recoverable above 1
+unfoldable pub unitRefusal : List ℕ → ℕ → ℕ → ℕ
+unitRefusal bytes at units =
+    row (ltb (length bytes) (at + unitSize)) 7
+    (row (leb mostUnits units) 12
+    (row (countTooLarge (sampleAt bytes at)) 8
+    (row (ltb 3 (byte bytes (at + prerequisiteOffset)) || ltb 1 (byte bytes (at + recoverableOffset))) 9
+    0)))
+
+-- of a redesignation, with the grade designated just before it. 7: cut short; 10: new grade above 2; 11: equal to that one
+unfoldable pub redesignationRefusal : List ℕ → ℕ → ℕ → ℕ
+redesignationRefusal bytes at designated =
+    row (ltb (length bytes) (at + redesignationSize)) 7
+    (row (ltb 2 (byte bytes (at + 2))) 10
+    (row (eqb (byte bytes (at + 2)) designated) 11
+    0))
+
+-- 6: a mark not of a unit, redesignation or break
+unfoldable pub refusalBy : List ℕ → ℕ → ℕ → ℕ → Mark → ℕ
+refusalBy bytes at units designated UnitMark = unitRefusal bytes at units
+refusalBy bytes at units designated RedesignationMark = redesignationRefusal bytes at designated
+refusalBy bytes at units designated BreakMark = 0
+refusalBy bytes at units designated NoMark = 6
+
+-- 6: one byte left
+unfoldable pub refusalAt : List ℕ → ℕ → ℕ → ℕ → ℕ
+refusalAt bytes at units designated =
+    row (ltb (length bytes) (at + markSize)) 6 (refusalBy bytes at units designated (markAt bytes at))
+
+-- the grade designated just before record i
+unfoldable pub designatedBy : ℕ → Entry → ℕ
+designatedBy designated (SampleUnit unit) = designated
+designatedBy designated (Redesignation new) = new
+designatedBy designated Break = designated
+
+unfoldable pub designatedBefore : List ℕ → ℕ → ℕ
+designatedBefore bytes zero = planOf bytes .designated
+designatedBefore bytes (suc i) = designatedBy (designatedBefore bytes i) (entryAt bytes i)
+
+unfoldable pub recordRefusal : List ℕ → ℕ → ℕ
+recordRefusal bytes i = refusalAt bytes (offset bytes i) (unitsBefore bytes i) (designatedBefore bytes i)
+
+-- ---- the sheet
+
+-- records are checked left to right, each wholly before the next; the first row met is returned. From record i on, at most so many
+-- (every record has two bytes or more, so the sheet's length is always enough: law `check-fits`)
+unfoldable pub checkFrom : List ℕ → ℕ → ℕ → Verdict
+checkFrom bytes zero i = Accepted i (unitsBefore bytes i)
+checkFrom bytes (suc most) i =
+    pick (leb (length bytes) (offset bytes i)) (Accepted i (unitsBefore bytes i))
+    (pick (eqb (recordRefusal bytes i) 0) (checkFrom bytes most (suc i))
+    (Refused (recordRefusal bytes i) (offset bytes i)))
+
+-- a sheet that passes numbers 1 to 12, with its records and units, or the number of the first row met and its offset
+unfoldable pub verdict : List ℕ → Verdict
+verdict bytes =
+    pick (eqb (planRefusal bytes) 0) (checkFrom bytes (length bytes) 0) (Refused (planRefusal bytes) 0)

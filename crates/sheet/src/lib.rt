@@ -1,0 +1,346 @@
+// The tally sheet in bytes: its plan, its records, and the check for refusals 1 to 12.
+ghost use mathlib.Core.Path.{_≡_};
+ghost use Prim.Native.Nat.{_+_, _≤_};
+ghost use lib.ListN.{length};
+ghost use Rattle.sheet.specs.Layout.{limitsAt, rowAt, planOf, markAt, sizeOf, sampleAt, entryOf, unitOf};
+ghost use Rattle.sheet.specs.Refusals.{tooLarge, startsAbove, smaller, anyClass, anyLimits, anySmaller, tableRefusal, planRefusal, countTooLarge, unitRefusal, redesignationRefusal, refusalAt, designatedBy, verdict};
+use cusum::Limits;
+use encoding::number_at;
+use rules::Entry;
+use rules::Plan;
+use rules::Sample;
+use rules::row_of;
+
+// Sizes of the records.
+pub const MARK_SIZE: usize = 2;
+pub const PLAN_SIZE: usize = 75;
+pub const UNIT_SIZE: usize = 14;
+pub const REDESIGNATION_SIZE: usize = 3;
+
+// Limits of the numbers on a sheet.
+const LARGEST_LIMIT: u16 = 9999;
+const LARGEST_COUNT: u16 = 2000;
+const MOST_UNITS: usize = 1000;
+
+pub enum Mark {
+    UnitMark,
+    RedesignationMark,
+    BreakMark,
+    NoMark,
+}
+
+// A sheet that passes, with the number of its records and of its units; or a refusal, with its number and offset.
+pub enum Verdict {
+    Accepted { records: usize, units: usize },
+    Refused { number: u8, offset: usize },
+}
+
+fn limits_at(bytes: &[u8], at: usize) -> Limits
+    requires { ⌜ at + 6 ≤ length (now bytes) ⌝ }
+    ensures { λ r. ⌜ r ≡ limitsAt (now (bytes .entry)) at ⌝ }
+{
+    Limits {
+        start: number_at(bytes, at),
+        tolerance: number_at(bytes, at + 2),
+        limit: number_at(bytes, at + 4),
+    }
+}
+
+fn row_at(bytes: &[u8], at: usize) -> [Limits; 4]
+    requires { ⌜ at + 24 ≤ length (now bytes) ⌝ }
+    ensures { λ r. ⌜ r ≡ rowAt (now (bytes .entry)) at ⌝ }
+{
+    [
+        limits_at(bytes, at),
+        limits_at(bytes, at + 6),
+        limits_at(bytes, at + 12),
+        limits_at(bytes, at + 18),
+    ]
+}
+
+pub fn plan_of(bytes: &[u8]) -> Plan
+    requires { ⌜ 75 ≤ length (now bytes) ⌝ }
+    ensures { λ r. ⌜ r ≡ planOf (now (bytes .entry)) ⌝ }
+{
+    let a = row_at(bytes, 3);
+    let b = row_at(bytes, 27);
+    let c = row_at(bytes, 51);
+    let limits = [
+        a[0], a[1], a[2], a[3], b[0], b[1], b[2], b[3], c[0], c[1], c[2], c[3],
+    ];
+    Plan {
+        designated: bytes[2],
+        limits: limits,
+    }
+}
+
+fn too_large(limits: Limits) -> bool
+    ensures { λ r. ⌜ r ≡ tooLarge limits ⌝ }
+{
+    (LARGEST_LIMIT < limits.start)
+        | ((LARGEST_LIMIT < limits.tolerance) | (LARGEST_LIMIT < limits.limit))
+}
+
+fn row_too_large(row: [Limits; 4]) -> bool
+    ensures { λ r. ⌜ r ≡ anyClass tooLarge row ⌝ }
+{
+    too_large(row[0]) | (too_large(row[1]) | (too_large(row[2]) | too_large(row[3])))
+}
+
+fn table_too_large(table: [[Limits; 4]; 3]) -> bool
+    ensures { λ r. ⌜ r ≡ anyLimits tooLarge table ⌝ }
+{
+    row_too_large(row_of(table, 0))
+        | (row_too_large(row_of(table, 1)) | row_too_large(row_of(table, 2)))
+}
+
+fn starts_above(limits: Limits) -> bool
+    ensures { λ r. ⌜ r ≡ startsAbove limits ⌝ }
+{
+    limits.limit < limits.start
+}
+
+fn row_starts_above(row: [Limits; 4]) -> bool
+    ensures { λ r. ⌜ r ≡ anyClass startsAbove row ⌝ }
+{
+    starts_above(row[0]) | (starts_above(row[1]) | (starts_above(row[2]) | starts_above(row[3])))
+}
+
+fn table_starts_above(table: [[Limits; 4]; 3]) -> bool
+    ensures { λ r. ⌜ r ≡ anyLimits startsAbove table ⌝ }
+{
+    row_starts_above(row_of(table, 0))
+        | (row_starts_above(row_of(table, 1)) | row_starts_above(row_of(table, 2)))
+}
+
+// Whether T or T+L is smaller at the lower grade than at the better one.
+fn is_smaller(better: Limits, lower: Limits) -> bool
+    ensures { λ r. ⌜ r ≡ smaller better lower ⌝ }
+{
+    let at_lower = lower.tolerance as u32 + lower.limit as u32;
+    let at_better = better.tolerance as u32 + better.limit as u32;
+    (lower.tolerance < better.tolerance) | (at_lower < at_better)
+}
+
+// The same in one class of A, B and C.
+fn falls_in_class(a: Limits, b: Limits, c: Limits) -> bool
+    ensures { λ r. ⌜ r ≡ (smaller a b || smaller b c) ⌝ }
+{
+    is_smaller(a, b) | is_smaller(b, c)
+}
+
+fn table_falls(table: [[Limits; 4]; 3]) -> bool
+    ensures { λ r. ⌜ r ≡ anySmaller table ⌝ }
+{
+    let a = row_of(table, 0);
+    let b = row_of(table, 1);
+    let c = row_of(table, 2);
+    falls_in_class(a[0], b[0], c[0])
+        | (falls_in_class(a[1], b[1], c[1]) | (falls_in_class(a[2], b[2], c[2]) | falls_in_class(a[3], b[3], c[3])))
+}
+
+fn table_refusal(table: [[Limits; 4]; 3]) -> u8
+    ensures { λ r. ⌜ r ≡ tableRefusal table ⌝ }
+{
+    if table_too_large(table) {
+        return 3;
+    }
+    if table_starts_above(table) {
+        return 4;
+    }
+    if table_falls(table) {
+        return 5;
+    }
+    0
+}
+
+// The number of the first row that the plan meets, or 0.
+fn plan_refusal(bytes: &[u8]) -> u8
+    ensures { λ r. ⌜ r ≡ planRefusal (now (bytes .entry)) ⌝ }
+{
+    if bytes.len() < PLAN_SIZE {
+        return 1;
+    }
+    if number_at(bytes, 0) != 0x504c {
+        return 1;
+    }
+    if 2 < bytes[2] {
+        return 2;
+    }
+    let plan = plan_of(bytes);
+    table_refusal(plan.table())
+}
+
+pub fn mark_at(bytes: &[u8], at: usize) -> Mark
+    requires { ⌜ at + 2 ≤ length (now bytes) ⌝ }
+    ensures { λ r. ⌜ r ≡ markAt (now (bytes .entry)) at ⌝ }
+{
+    let mark = number_at(bytes, at);
+    if mark == 0x5355 {
+        return Mark::UnitMark;
+    }
+    if mark == 0x5244 {
+        return Mark::RedesignationMark;
+    }
+    if mark == 0x424b {
+        return Mark::BreakMark;
+    }
+    Mark::NoMark
+}
+
+pub fn size_of(mark: Mark) -> usize
+    ensures { λ r. ⌜ r ≡ sizeOf mark ⌝ }
+{
+    match mark {
+        Mark::UnitMark => UNIT_SIZE,
+        Mark::RedesignationMark => REDESIGNATION_SIZE,
+        Mark::BreakMark => MARK_SIZE,
+        Mark::NoMark => MARK_SIZE,
+    }
+}
+
+// 1 for a unit, 0 for any other record.
+pub fn unit_of(mark: Mark) -> usize
+    ensures { λ r. ⌜ r ≡ unitOf mark ⌝ }
+{
+    match mark {
+        Mark::UnitMark => 1,
+        Mark::RedesignationMark => 0,
+        Mark::BreakMark => 0,
+        Mark::NoMark => 0,
+    }
+}
+
+fn sample_at(bytes: &[u8], at: usize) -> Sample
+    requires { ⌜ at + 14 ≤ length (now bytes) ⌝ }
+    ensures { λ r. ⌜ r ≡ sampleAt (now (bytes .entry)) at ⌝ }
+{
+    Sample {
+        code: number_at(bytes, at + 2),
+        critical: number_at(bytes, at + 4),
+        severe: number_at(bytes, at + 6),
+        major: number_at(bytes, at + 8),
+        minor: number_at(bytes, at + 10),
+        prerequisite: bytes[at + 12],
+        recoverable: bytes[at + 13] == 1,
+    }
+}
+
+// The record at an offset, which has its mark and is whole.
+pub fn entry_at(bytes: &[u8], at: usize, mark: Mark) -> Entry
+    requires { ⌜ at + sizeOf mark ≤ length (now bytes) ⌝ }
+    ensures { λ r. ⌜ r ≡ entryOf (now (bytes .entry)) at mark ⌝ }
+{
+    match mark {
+        Mark::UnitMark => Entry::SampleUnit(sample_at(bytes, at)),
+        Mark::RedesignationMark => Entry::Redesignation(bytes[at + 2]),
+        Mark::BreakMark => Entry::Break,
+        Mark::NoMark => Entry::Break,
+    }
+}
+
+fn count_too_large(unit: Sample) -> bool
+    ensures { λ r. ⌜ r ≡ countTooLarge unit ⌝ }
+{
+    (LARGEST_COUNT < unit.critical)
+        | ((LARGEST_COUNT < unit.severe) | ((LARGEST_COUNT < unit.major) | (LARGEST_COUNT < unit.minor)))
+}
+
+fn unit_refusal(bytes: &[u8], at: usize, units: usize) -> u8
+    requires { ⌜ at ≤ length (now bytes) ⌝ }
+    ensures { λ r. ⌜ r ≡ unitRefusal (now (bytes .entry)) at units ⌝ }
+{
+    if bytes.len() - at < UNIT_SIZE {
+        return 7;
+    }
+    if MOST_UNITS <= units {
+        return 12;
+    }
+    if count_too_large(sample_at(bytes, at)) {
+        return 8;
+    }
+    if (3 < bytes[at + 12]) | (1 < bytes[at + 13]) {
+        return 9;
+    }
+    0
+}
+
+fn redesignation_refusal(bytes: &[u8], at: usize, designated: u8) -> u8
+    requires { ⌜ at ≤ length (now bytes) ⌝ }
+    ensures { λ r. ⌜ r ≡ redesignationRefusal (now (bytes .entry)) at designated ⌝ }
+{
+    if bytes.len() - at < REDESIGNATION_SIZE {
+        return 7;
+    }
+    let new = bytes[at + 2];
+    if 2 < new {
+        return 10;
+    }
+    if new == designated {
+        return 11;
+    }
+    0
+}
+
+// The number of the first row that the record at an offset meets, or 0.
+fn refusal_at(bytes: &[u8], at: usize, units: usize, designated: u8) -> u8
+    requires { ⌜ at ≤ length (now bytes) ⌝ }
+    ensures { λ r. ⌜ r ≡ refusalAt (now (bytes .entry)) at units designated ⌝ }
+{
+    if bytes.len() - at < MARK_SIZE {
+        return 6;
+    }
+    match mark_at(bytes, at) {
+        Mark::UnitMark => unit_refusal(bytes, at, units),
+        Mark::RedesignationMark => redesignation_refusal(bytes, at, designated),
+        Mark::BreakMark => 0,
+        Mark::NoMark => 6,
+    }
+}
+
+fn designated_by(designated: u8, entry: Entry) -> u8
+    ensures { λ r. ⌜ r ≡ designatedBy designated entry ⌝ }
+{
+    match entry {
+        Entry::SampleUnit(_) => designated,
+        Entry::Redesignation(new) => new,
+        Entry::Break => designated,
+    }
+}
+
+// Where the check stands: the number of a record, its offset, the units and the grade designated before it.
+struct Place {
+    record: usize,
+    at: usize,
+    units: usize,
+    designated: u8,
+}
+
+// Past a record that is not refused.
+fn past(bytes: &[u8], place: Place) -> Place
+    requires { ⌜ Passes (now bytes) place ⌝ }
+    ensures { λ r. ⌜ r ≡ placeAfter (now (bytes .entry)) place ⌝ }
+{
+    let at = place.at;
+    let mark = mark_at(bytes, at);
+    Place {
+        record: place.record + 1,
+        at: at + size_of(mark),
+        units: place.units + unit_of(mark),
+        designated: designated_by(place.designated, entry_at(bytes, at, mark)),
+    }
+}
+
+// The check of a whole sheet for refusals 1 to 12.
+pub fn check(bytes: &[u8]) -> Verdict
+    ensures { λ r. ⌜ r ≡ verdict (now (bytes .entry)) ⌝ }
+{
+    let number = plan_refusal(bytes);
+    if number != 0 {
+        return Verdict::Refused {
+            number: number,
+            offset: 0,
+        };
+    }
+    check_records(bytes)
+}
