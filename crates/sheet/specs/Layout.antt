@@ -56,6 +56,10 @@ redesignationSize = 3
 abbrev pub limitsAt : List ℕ → ℕ → Limits
 limitsAt bytes at = record { start = number bytes at; tolerance = number bytes (at + 2); limit = number bytes (at + 4) }
 
+-- the four classes of a grade
+abbrev pub rowAt : List ℕ → ℕ → List Limits
+rowAt bytes at = limitsAt bytes at ∷ limitsAt bytes (at + 6) ∷ limitsAt bytes (at + 12) ∷ limitsAt bytes (at + 18) ∷ []
+
 -- the cells of the table, grade by grade and in each class by class
 abbrev pub cells : List ℕ
 cells = 0 ∷ 1 ∷ 2 ∷ 3 ∷ 4 ∷ 5 ∷ 6 ∷ 7 ∷ 8 ∷ 9 ∷ 10 ∷ 11 ∷ []

@@ -1,5 +1,6 @@
 // The tally sheet in bytes: its plan, its records, and the check for refusals 1 to 12.
 ghost use mathlib.Core.Path.{_≡_};
+ghost use mathlib.Core.Bool.{_||_};
 ghost use Prim.Native.Nat.{_+_, _≤_};
 ghost use lib.ListN.{length};
 ghost use Rattle.sheet.specs.Layout.{limitsAt, rowAt, planOf, markAt, sizeOf, sampleAt, entryOf, unitOf};
@@ -308,39 +309,3 @@ fn designated_by(designated: u8, entry: Entry) -> u8
     }
 }
 
-// Where the check stands: the number of a record, its offset, the units and the grade designated before it.
-struct Place {
-    record: usize,
-    at: usize,
-    units: usize,
-    designated: u8,
-}
-
-// Past a record that is not refused.
-fn past(bytes: &[u8], place: Place) -> Place
-    requires { ⌜ Passes (now bytes) place ⌝ }
-    ensures { λ r. ⌜ r ≡ placeAfter (now (bytes .entry)) place ⌝ }
-{
-    let at = place.at;
-    let mark = mark_at(bytes, at);
-    Place {
-        record: place.record + 1,
-        at: at + size_of(mark),
-        units: place.units + unit_of(mark),
-        designated: designated_by(place.designated, entry_at(bytes, at, mark)),
-    }
-}
-
-// The check of a whole sheet for refusals 1 to 12.
-pub fn check(bytes: &[u8]) -> Verdict
-    ensures { λ r. ⌜ r ≡ verdict (now (bytes .entry)) ⌝ }
-{
-    let number = plan_refusal(bytes);
-    if number != 0 {
-        return Verdict::Refused {
-            number: number,
-            offset: 0,
-        };
-    }
-    check_records(bytes)
-}

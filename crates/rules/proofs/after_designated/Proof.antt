@@ -1,3 +1,4 @@
+use Rattle.rules.specs.StepThree.{afterDesignated}
 use borrow.Author.Needs.{needs}
 use Rattle.rules.proofs.after_designated.Statement.{statement}
 use Rattle.rules.proofs.after_designated.Tie as tie
@@ -19,15 +20,18 @@ worse-of-requires c κs = search needs
 
 -- src/lib.rt:236:1
 returns : tie.Need-returns
-returns c = ?
+unfolding afterDesignated
+returns c = rw (c .before .before .if1 .taken, c .enum-told .given .1)
 
 -- src/lib.rt:236:1
 returns-2 : tie.Need-returns-2
-returns-2 c = ?
+unfolding afterDesignated
+returns-2 c = rw (c .before .before .before .before .if1 .taken, c .before .before .previous .given .1, c .worse-of .ensures)
 
 -- src/lib.rt:236:1
 returns-3 : tie.Need-returns-3
-returns-3 c = ?
+unfolding afterDesignated
+returns-3 c = rw (c .if1 .left)
 
 pub after-designated-spec : {M : Type 1} → statement M
 after-designated-spec =

@@ -1,3 +1,5 @@
+use mathlib.Core.Path.{_∙_, sym, ap}
+use Rattle.rules.specs.Unit.{defectGrade, qualifies}
 use borrow.Author.Needs.{needs}
 use Rattle.rules.proofs.grade_counts.Statement.{statement}
 use Rattle.rules.proofs.grade_counts.Tie as tie
@@ -31,11 +33,13 @@ best-lower-requires c κs = search needs
 
 -- src/lib.rt:217:1
 returns : tie.Need-returns
-returns c = ?
+unfolding defectGrade qualifies
+returns c = simp (c .best-lower .ensures, c .before .before .all-zero .ensures, c .before .before .before .within-all .ensures, c .before .before .before .before .row-of .ensures, c .before .before .before .before .before .before .step-in-force .ensures, sym (ap (λ s. s .fails) (c .before .before .before .before .before .before .step-in-force .ensures)) ∙ c .before .if1 .taken)
 
 -- src/lib.rt:217:1
 returns-2 : tie.Need-returns-2
-returns-2 c = ?
+unfolding defectGrade qualifies
+returns-2 c = simp (c .before .all-zero .ensures, c .before .before .within-all .ensures, c .before .before .before .row-of .ensures, c .before .before .before .before .before .step-in-force .ensures, sym (ap (λ s. s .fails) (c .before .before .before .before .before .step-in-force .ensures)) ∙ c .if1 .left)
 
 pub grade-counts-spec : {M : Type 1} → statement M
 grade-counts-spec =

@@ -1,3 +1,4 @@
+use Rattle.rules.specs.StepThree.{stateWith, pick}
 use borrow.Author.Needs.{needs}
 use Rattle.rules.proofs.state_with.Statement.{statement}
 use Rattle.rules.proofs.state_with.Tie as tie
@@ -21,11 +22,13 @@ starts-requires c κs = search needs
 
 -- src/lib.rt:485:9
 returns : tie.Need-returns
-returns c = ?
+unfolding stateWith pick
+returns c = rw (c .before .before .before .if1 .taken, c .starts .ensures, c .before .row-of .ensures, c .before .before .in-force .ensures)
 
 -- src/lib.rt:480:1
 returns-2 : tie.Need-returns-2
-returns-2 c = ?
+unfolding stateWith pick
+returns-2 c = rw (c .if1 .left)
 
 pub state-with-spec : {M : Type 1} → statement M
 state-with-spec =

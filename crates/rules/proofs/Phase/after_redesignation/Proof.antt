@@ -1,3 +1,5 @@
+use borrow.Author.Tests.{lt-ltb, le-ltb}
+use Rattle.rules.specs.StepThree.{phaseAfterRedesignation, pick}
 use borrow.Author.Needs.{needs}
 use Rattle.rules.proofs.Phase.after_redesignation.Statement.{statement}
 use Rattle.rules.proofs.Phase.after_redesignation.Tie as tie
@@ -14,15 +16,18 @@ enum-known-self c = search needs
 
 -- src/lib.rt:349:21
 returns : tie.Need-returns
-returns c = ?
+unfolding phaseAfterRedesignation pick
+returns c = rw (c .before .before .self .given .1, lt-ltb _ _ (c .if1 .taken))
 
 -- src/lib.rt:332:5
 returns-2 : tie.Need-returns-2
-returns-2 c = ?
+unfolding phaseAfterRedesignation
+returns-2 c = rw (c .enum-told .given .1)
 
 -- src/lib.rt:332:5
 returns-3 : tie.Need-returns-3
-returns-3 c = ?
+unfolding phaseAfterRedesignation pick
+returns-3 c = rw (c .before .before .self .given .1, le-ltb _ _ (c .if1 .left))
 
 pub after-redesignation-spec : {M : Type 1} → statement M
 after-redesignation-spec =

@@ -1,3 +1,5 @@
+use mathlib.Core.Path.{_∙_}
+use Rattle.rules.specs.StepThree.{phaseAfterUnit}
 use borrow.Author.Needs.{needs}
 use Rattle.rules.proofs.Phase.after_unit.Statement.{statement}
 use Rattle.rules.proofs.Phase.after_unit.Tie as tie
@@ -24,11 +26,13 @@ after-step-three-requires c κs = search needs
 
 -- src/lib.rt:316:5
 returns : tie.Need-returns
-returns c = ?
+unfolding phaseAfterUnit
+returns c = rw (c .before .before .self .given .1) (c .after-designated .ensures)
 
 -- src/lib.rt:316:5
 returns-2 : tie.Need-returns-2
-returns-2 c = ?
+unfolding phaseAfterUnit
+returns-2 c = rw (c .before .before .self2 .given .1) (c .after-step-three .ensures)
 
 pub after-unit-spec : {M : Type 1} → statement M
 after-unit-spec =

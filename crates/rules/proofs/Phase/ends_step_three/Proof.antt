@@ -1,3 +1,4 @@
+use Rattle.rules.specs.StepThree.{unitEndsStepThree, endsStepThree}
 use borrow.Author.Needs.{needs}
 use Rattle.rules.proofs.Phase.ends_step_three.Statement.{statement}
 use Rattle.rules.proofs.Phase.ends_step_three.Tie as tie
@@ -14,11 +15,13 @@ enum-known-self c = search needs
 
 -- src/lib.rt:386:5
 returns : tie.Need-returns
-returns c = ?
+unfolding unitEndsStepThree
+returns c = rw (c .enum-told .given .1)
 
 -- src/lib.rt:386:5
 returns-2 : tie.Need-returns-2
-returns-2 c = ?
+unfolding unitEndsStepThree endsStepThree
+returns-2 c = rw (c .before .before .self .given .1)
 
 pub ends-step-three-spec : {M : Type 1} → statement M
 ends-step-three-spec = tie.close (tie.spec enum-told enum-known-self returns returns-2)

@@ -1,3 +1,4 @@
+use Rattle.rules.specs.StepThree.{unitStartsStepThree}
 use borrow.Author.Needs.{needs}
 use Rattle.rules.proofs.Phase.starts_step_three.Statement.{statement}
 use Rattle.rules.proofs.Phase.starts_step_three.Tie as tie
@@ -22,15 +23,18 @@ enum-told-3 c = search needs
 
 -- src/lib.rt:402:5
 returns : tie.Need-returns
-returns c = ?
+unfolding unitStartsStepThree
+returns c = rw (c .before .before .before .self .given .1, c .enum-told .given .1)
 
 -- src/lib.rt:402:5
 returns-2 : tie.Need-returns-2
-returns-2 c = ?
+unfolding unitStartsStepThree
+returns-2 c = rw (c .before .before .before .self .given .1, c .enum-told2 .given .1)
 
 -- src/lib.rt:402:5
 returns-3 : tie.Need-returns-3
-returns-3 c = ?
+unfolding unitStartsStepThree
+returns-3 c = rw (c .enum-told3 .given .1)
 
 pub starts-step-three-spec : {M : Type 1} → statement M
 starts-step-three-spec =

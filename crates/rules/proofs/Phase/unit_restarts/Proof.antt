@@ -1,3 +1,4 @@
+use Rattle.rules.specs.StepThree.{unitRestarts}
 use borrow.Author.Needs.{needs}
 use Rattle.rules.proofs.Phase.unit_restarts.Statement.{statement}
 use Rattle.rules.proofs.Phase.unit_restarts.Tie as tie
@@ -16,7 +17,8 @@ starts-step-three-requires c κs = search needs
 
 -- src/lib.rt:421:5
 returns : tie.Need-returns
-returns c = ?
+unfolding unitRestarts
+returns c = rw (c .starts-step-three .ensures, c .before .ends-step-three .ensures)
 
 pub unit-restarts-spec : {M : Type 1} → statement M
 unit-restarts-spec =

@@ -1,3 +1,4 @@
+use Rattle.rules.specs.StepThree.{stateWith, next, phaseAfter, restarts, cusumsAfter}
 use borrow.Author.Needs.{needs}
 use Rattle.rules.proofs.State.after.Statement.{statement}
 use Rattle.rules.proofs.State.after.Tie as tie
@@ -52,15 +53,18 @@ state-with-requires-2 c κs = search needs
 
 -- src/lib.rt:527:5
 returns : tie.Need-returns
-returns c = ?
+unfolding next phaseAfter restarts cusumsAfter
+returns c = rw (c .after-unit .ensures, c .before .grade .ensures, c .before .before .before .entry .given .1)
 
 -- src/lib.rt:527:5
 returns-2 : tie.Need-returns-2
-returns-2 c = ?
+unfolding next phaseAfter restarts cusumsAfter
+returns-2 c = rw (c .state-with .ensures, c .before .redesignation-restarts .ensures, c .before .before .after-redesignation .ensures, c .before .before .before .before .entry2 .given .1)
 
 -- src/lib.rt:527:5
 returns-3 : tie.Need-returns-3
-returns-3 c = ?
+unfolding next phaseAfter restarts cusumsAfter
+returns-3 c = rw (c .state-with2 .ensures, c .before .after-break .ensures, c .before .before .enum-told .given .1)
 
 pub after-spec : {M : Type 1} → statement M
 after-spec =

@@ -1,3 +1,4 @@
+use Rattle.rules.specs.StepThree.{stateWith}
 use borrow.Author.Needs.{needs}
 use Rattle.rules.proofs.State.after_unit.Statement.{statement}
 use Rattle.rules.proofs.State.after_unit.Tie as tie
@@ -21,7 +22,7 @@ state-with-requires c κs = search needs
 
 -- src/lib.rt:518:5
 returns : tie.Need-returns
-returns c = ?
+returns c = rw (c .state-with .ensures, c .before .unit-restarts .ensures, c .before .before .after-unit .ensures)
 
 pub after-unit-spec : {M : Type 1} → statement M
 after-unit-spec =

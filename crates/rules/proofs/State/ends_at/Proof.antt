@@ -1,3 +1,4 @@
+use Rattle.rules.specs.StepThree.{endsAt}
 use borrow.Author.Needs.{needs}
 use Rattle.rules.proofs.State.ends_at.Statement.{statement}
 use Rattle.rules.proofs.State.ends_at.Tie as tie
@@ -28,15 +29,18 @@ enum-told-2 c = search needs
 
 -- src/lib.rt:540:5
 returns : tie.Need-returns
-returns c = ?
+unfolding endsAt
+returns c = rw (c .ends-step-three .ensures, c .before .grade .ensures, c .before .before .before .entry .given .1)
 
 -- src/lib.rt:540:5
 returns-2 : tie.Need-returns-2
-returns-2 c = ?
+unfolding endsAt
+returns-2 c = rw (c .enum-told .given .1)
 
 -- src/lib.rt:540:5
 returns-3 : tie.Need-returns-3
-returns-3 c = ?
+unfolding endsAt
+returns-3 c = rw (c .enum-told2 .given .1)
 
 pub ends-at-spec : {M : Type 1} → statement M
 ends-at-spec =

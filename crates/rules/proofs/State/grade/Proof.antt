@@ -1,3 +1,4 @@
+use Rattle.rules.specs.StepThree.{graded}
 use borrow.Author.Needs.{needs}
 use Rattle.rules.proofs.State.grade.Statement.{statement}
 use Rattle.rules.proofs.State.grade.Tie as tie
@@ -26,7 +27,8 @@ grade-counts-requires c κs = search needs
 
 -- src/lib.rt:510:5
 returns : tie.Need-returns
-returns c = ?
+unfolding graded
+returns c = rw (c .grade-counts .ensures, c .before .counts-of .ensures, c .before .before .in-force .ensures, c .before .before .before .designated .ensures)
 
 pub grade-spec : {M : Type 1} → statement M
 grade-spec =

@@ -1,3 +1,4 @@
+use Rattle.rules.specs.StepThree.{opening}
 use borrow.Author.Needs.{needs}
 use Rattle.rules.proofs.State.opening.Statement.{statement}
 use Rattle.rules.proofs.State.opening.Tie as tie
@@ -16,7 +17,8 @@ starts-requires c κs = search needs
 
 -- src/lib.rt:497:5
 returns : tie.Need-returns
-returns c = ?
+unfolding opening
+returns c = rw (c .starts .ensures, c .before .row-of .ensures)
 
 pub opening-spec : {M : Type 1} → statement M
 opening-spec = tie.close (tie.spec row-of-requires starts-requires returns)
