@@ -2,3 +2,5 @@ pub mod Words
 pub mod Unit
 pub mod StepThree
 pub mod Sheet
+pub mod Anchor
+pub mod TwoInARow

@@ -1,0 +1,56 @@
+-- The words of demand 3's first half: restarts, failures and anchors, told from the sheet by the rules and by their place.
+use Prim.Native.Nat.{ℕ, zero, suc, _+_, _<_, _≤_}
+use mathlib.Core.Path.{_≡_}
+use mathlib.Core.Bool.{Bool, true, false, cond}
+use mathlib.Core.List.{List, [], _∷_, _++_}
+use Rattle.cusum.specs.declared.Limits.{Limits}
+use Rattle.rules.specs.Words.{Table, countsOf, countIn}
+use Rattle.rules.specs.Unit.{classFails}
+use Rattle.rules.specs.StepThree.{inForce, restarts}
+use Rattle.rules.specs.Sheet.{Sheet, before}
+use Rattle.rules.specs.declared.Entry.{Entry}
+use Rattle.rules.specs.declared.Entry.the-variants.{SampleUnit, Redesignation, Break}
+use Rattle.rules.specs.declared.State.{State}
+
+-- a class fails at a record by rule 2
+unfoldable pub failsAt : Table → ℕ → State → Entry → Bool
+failsAt table class state (SampleUnit unit) = classFails table (inForce (state .phase)) (state .cusums) (countsOf unit) class
+failsAt table class state (Redesignation new) = false
+failsAt table class state Break = false
+
+-- the count of a class at a record, if that is a unit
+unfoldable pub countAt : ℕ → Entry → List ℕ
+countAt class (SampleUnit unit) = countIn (countsOf unit) class ∷ []
+countAt class (Redesignation new) = []
+countAt class Break = []
+
+module _ (sheet : Sheet) where
+  -- record j brings about a restart, which comes after it
+  unfoldable pub restartAt : ℕ → Bool
+  restartAt j = restarts (sheet .table) (before sheet j) (sheet .entry j)
+
+  -- record j is a unit at which the class fails
+  unfoldable pub failureAt : ℕ → ℕ → Bool
+  failureAt class j = failsAt (sheet .table) class (before sheet j) (sheet .entry j)
+
+  -- the counts of the class at the units among the n records from record `from` on
+  unfoldable pub countsFrom : ℕ → ℕ → ℕ → List ℕ
+  countsFrom class from zero = []
+  countsFrom class from (suc n) = countsFrom class from n ++ countAt class (sheet .entry (from + n))
+
+-- an anchor of the class for the unit that is record i, right before record `from`: S at the opening of the sheet or at a restart
+-- before the unit, L (true) at a failing unit, this one included. A restart that a failing unit brings about comes after it
+pub data Anchor (sheet : Sheet) (class i : ℕ) : ℕ → Bool → Type 0 where
+  opening : Anchor sheet class i 0 false
+  restart : (j : ℕ) → j < i → restartAt sheet j ≡ true → Anchor sheet class i (suc j) false
+  failure : (j : ℕ) → j ≤ i → failureAt sheet class j ≡ true → (j < i → restartAt sheet j ≡ false) → Anchor sheet class i (suc j) true
+
+-- it is the latest: from record `from` on there is no failure of the class, record i's included, and no restart before record i
+pub record Latest (sheet : Sheet) (class i from : ℕ) : Type 0 where
+  pub no-failure : (j : ℕ) → from ≤ j → j ≤ i → failureAt sheet class j ≡ false
+  pub no-restart : (j : ℕ) → from ≤ j → j < i → restartAt sheet j ≡ false
+
+-- L at a failure, else S
+unfoldable pub anchorValue : Limits → Bool → ℕ
+anchorValue limits true = limits .limit
+anchorValue limits false = limits .start
