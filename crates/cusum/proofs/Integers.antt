@@ -40,7 +40,6 @@ plus-is (pos a) (negsuc b) = omega (arith, sub-is a (suc b))
 plus-is (negsuc a) (pos b) = omega (arith, sub-is b (suc a))
 plus-is (negsuc a) (negsuc b) = omega arith
 
-
 pub up-max : (x y : ℤ) → up (maxℤ x y) ≡ max (up x) (up y)
 unfolding up
 up-max (pos a) (pos b) = refl

@@ -4,7 +4,7 @@ use mathlib.Core.Path.{_≡_}
 use mathlib.Core.Bool.{cond}
 use mathlib.Core.List.{List}
 use lib.Dec.{eqb}
-use lib.ListN.{set}
+use lib.ListN.{length, set}
 use Rattle.rules.specs.Words.{worse, substandard}
 use Rattle.results.specs.Record.{resultSize, codeGradeOffset, codeIn, portionIn, codeGradeIn}
 
@@ -34,3 +34,13 @@ codesGraded results n = withCodeGrades (λ j. worstIn results (codeIn results j)
 pub record Ungraded (results : List ℕ) (n : ℕ) : Type 0 where
   pub no-code-grade : (j : ℕ) → j < n → codeGradeIn results j ≡ ungraded
   pub portion-grade : (j : ℕ) → j < n → portionIn results j ≤ substandard
+
+-- n records inside the buffer, of which none before this one has this code
+pub record FirstMet (results : List ℕ) (code first n : ℕ) : Type 0 where
+  pub inside : resultSize * n ≤ length results
+  pub before-end : first ≤ n
+  pub none-before : (j : ℕ) → j < first → codeIn results j ≡ code → ⊥
+
+-- the code grade of record j once this code has a grade
+unfoldable pub gradeWith : List ℕ → ℕ → ℕ → ℕ → ℕ
+gradeWith results code grade j = cond (eqb (codeIn results j) code) grade (codeGradeIn results j)

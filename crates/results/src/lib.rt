@@ -1,16 +1,21 @@
 // The result records: one is written into the rest of the buffer, and at last the code grades over all of them.
 ghost use mathlib.Core.Path.{_≡_};
 ghost use Prim.Native.Nat.{_+_, _*_, _≤_};
-ghost use lib.ListN.{length};
+ghost use lib.ListN.{length, set};
 ghost use lib.Seq.{sets};
-ghost use Rattle.results.specs.Record.{resultBytes, codeIn, portionIn};
-ghost use Rattle.results.specs.Codes.{ungraded, codesGraded, Ungraded};
+ghost use Rattle.rules.specs.Words.{worse};
+ghost use Rattle.results.specs.Record.{resultSize, codeGradeOffset, resultBytes};
+ghost use Rattle.results.specs.Codes.{ungraded, portionIf, worstIn, withCodeGrades, codesGraded, Ungraded, FirstMet, gradeWith};
 use cusum::Cusum;
+use rules::worse_of;
 
 // Bytes of a result record, and offsets of its fields.
 pub const RESULT_SIZE: usize = 16;
+
 pub const CODE_OFFSET: usize = 2;
+
 pub const PORTION_OFFSET: usize = 4;
+
 pub const CODE_GRADE_OFFSET: usize = 5;
 
 // In place of the code grade while the code is not graded.
@@ -25,7 +30,7 @@ pub struct ResultRecord {
     pub cusums: [Cusum; 4],
 }
 
-fn bytes_of(result: ResultRecord) -> [u8; 16]
+fn bytes_of(result: ResultRecord) -> [u8; RESULT_SIZE]
     ensures { λ r. ⌜ r ≡ resultBytes ungraded result ⌝ }
 {
     let cusums = result.cusums;
@@ -55,8 +60,8 @@ fn bytes_of(result: ResultRecord) -> [u8; 16]
 }
 
 // Copies a record to the start of `rest`.
-fn put(rest: &mut [u8], bytes: [u8; 16])
-    requires { ⌜ 16 ≤ length (now rest) ⌝ }
+fn put(rest: &mut [u8], bytes: [u8; RESULT_SIZE])
+    requires { ⌜ resultSize ≤ length (now rest) ⌝ }
     ensures { λ _. ⌜ now (rest .exit) ≡ sets (now (rest .entry)) 0 bytes ⌝ }
 {
     let mut i: usize = 0;
@@ -68,8 +73,72 @@ fn put(rest: &mut [u8], bytes: [u8; 16])
 
 // Writes a record, its code not graded yet, to the start of the rest of the result buffer.
 pub fn write(rest: &mut [u8], result: ResultRecord)
-    requires { ⌜ 16 ≤ length (now rest) ⌝ }
+    requires { ⌜ resultSize ≤ length (now rest) ⌝ }
     ensures { λ _. ⌜ now (rest .exit) ≡ sets (now (rest .entry)) 0 (resultBytes ungraded result) ⌝ }
 {
     put(rest, bytes_of(result));
+}
+
+// The portion grade of record j if it has this code, else the best.
+fn portion_if(results: &[u8], code: u16, j: usize) -> u8
+    requires { ⌜ resultSize * j + resultSize ≤ length (now results) ⌝ }
+    ensures { λ r. ⌜ r ≡ portionIf (now (results .entry)) code j ⌝ }
+{
+    if encoding::number_at(results, RESULT_SIZE * j + CODE_OFFSET) == code {
+        return results[RESULT_SIZE * j + PORTION_OFFSET];
+    }
+    0
+}
+
+// The worst portion grade of a code that no record before `first` has.
+fn worst_from(results: &[u8], code: u16, first: usize, units: usize) -> u8
+    requires { ⌜ FirstMet (now results) code first units ⌝ }
+    ensures { λ r. ⌜ r ≡ worstIn (now (results .entry)) code units ⌝ }
+{
+    let mut worst: u8 = 0;
+    let mut j = first;
+    while j < units {
+        worst = worse_of(worst, portion_if(results, code, j));
+        j += 1;
+    }
+    worst
+}
+
+// Stores the grade in record j if it has this code.
+fn write_if(results: &mut [u8], code: u16, grade: u8, j: usize)
+    requires { ⌜ resultSize * j + resultSize ≤ length (now results) ⌝ }
+    ensures { λ _. ⌜ now (results .exit) ≡ set (now (results .entry)) (resultSize * j + codeGradeOffset) (gradeWith (now (results .entry)) code grade j) ⌝ }
+{
+    if encoding::number_at(&results[..], RESULT_SIZE * j + CODE_OFFSET) == code {
+        results[RESULT_SIZE * j + CODE_GRADE_OFFSET] = grade;
+    }
+}
+
+// Stores the grade of a code that no record before `first` has.
+fn write_code(results: &mut [u8], code: u16, grade: u8, first: usize, units: usize)
+    requires { ⌜ FirstMet (now results) code first units ⌝ }
+    ensures { λ _. ⌜ now (results .exit) ≡ withCodeGrades (gradeWith (now (results .entry)) code grade) (now (results .entry)) units ⌝ }
+{
+    let mut j = first;
+    while j < units {
+        write_if(results, code, grade, j);
+        j += 1;
+    }
+}
+
+// Grades every code. A record whose code is graded tells so; for a code first met the records from there on are read once for
+// the worst portion grade, and once to write it.
+pub fn grade_codes(results: &mut [u8], units: usize)
+    requires { ⌜ (resultSize * units ≤ length (now results)) × Ungraded (now results) units ⌝ }
+    ensures { λ _. ⌜ now (results .exit) ≡ codesGraded (now (results .entry)) units ⌝ }
+{
+    let mut i: usize = 0;
+    while i < units {
+        if results[RESULT_SIZE * i + CODE_GRADE_OFFSET] == UNGRADED {
+            let code = encoding::number_at(&results[..], RESULT_SIZE * i + CODE_OFFSET);
+            let grade = worst_from(&results[..], code, i, units);
+            write_code(results, code, grade, i, units);
+        }
+        i += 1;
+    }
 }

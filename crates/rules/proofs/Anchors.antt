@@ -58,7 +58,7 @@ module _ (sheet : Sheet) (class : ℕ) where
   closed a n x e l =
       meets (a + n) (l .no-failure (a + n) (omega arith) (omega arith))
       ∙ ap (λ (t : Trail). record { failed = t .failed; counts = t .counts ++ countAt class (sheet .entry (a + n)) })
-        (run a n x e (λ j h m. l .no-failure j h (omega arith)) (λ j h m. l .no-restart j h m))
+      (run a n x e (λ j h m. l .no-failure j h (omega arith)) (λ j h m. l .no-restart j h m))
 
   -- the trail before a record that an anchor lies right before
   behind : (i a : ℕ) (x : Bool) → a ≤ i → Anchor sheet class i a x → trailBefore sheet class a ≡ record { failed = x; counts = [] }
@@ -101,24 +101,34 @@ module _ (sheet : Sheet) (class : ℕ) where
   -- at a failure of this record's own
   own : (i : ℕ) → failureAt sheet class i ≡ true → Found i
   own i e = record {
-      place = suc i; failed = true; lies = failure i (omega arith) e (λ h. absurd (omega arith));
-      latest = record { no-failure = λ j h l. absurd (omega arith); no-restart = λ j h l. absurd (omega arith) } }
+    place = suc i;
+    failed = true;
+    lies = failure i (omega arith) e (λ h. absurd (omega arith));
+    latest = record { no-failure = λ j h l. absurd (omega arith); no-restart = λ j h l. absurd (omega arith) };
+  }
 
   -- right behind the restart or the opening that lies right before this record
   fresh : (i : ℕ) → failureAt sheet class i ≡ false → Anchor sheet class i i false → Found i
   fresh i e l = record {
-      place = i; failed = false; lies = l;
-      latest = record { no-failure = λ j h m. let q : j ≡ i = omega arith in ap (failureAt sheet class) q ∙ e; no-restart = λ j h m. absurd (omega arith) } }
+    place = i;
+    failed = false;
+    lies = l;
+    latest = record { no-failure = λ j h m. let q : j ≡ i = omega arith in ap (failureAt sheet class) q ∙ e; no-restart = λ j h m. absurd (omega arith) };
+  }
 
   -- that of the record before
   kept : (i : ℕ) → failureAt sheet class (suc i) ≡ false → restartAt sheet i ≡ false → Found i → Found (suc i)
   kept i e r f = record {
-      place = f .place; failed = f .failed; lies = later i (f .place) (f .failed) r (f .lies);
-      latest = record { no-failure = λ j h m. fall j h (eq-or-lt-of-le m); no-restart = λ j h m. rest j h (eq-or-lt-of-le (le-of-suc-le-suc m)) } }
+    place = f .place;
+    failed = f .failed;
+    lies = later i (f .place) (f .failed) r (f .lies);
+    latest = record { no-failure = λ j h m. fall j h (eq-or-lt-of-le m); no-restart = λ j h m. rest j h (eq-or-lt-of-le (le-of-suc-le-suc m)) };
+  }
     where
       fall : (j : ℕ) → f .place ≤ j → (j ≡ suc i) ⊎ (j < suc i) → failureAt sheet class j ≡ false
       fall j h (inl q) = ap (failureAt sheet class) q ∙ e
       fall j h (inr m) = f .latest .no-failure j h (omega arith)
+
       rest : (j : ℕ) → f .place ≤ j → (j ≡ i) ⊎ (j < i) → restartAt sheet j ≡ false
       rest j h (inl q) = ap (restartAt sheet) q ∙ r
       rest j h (inr m) = f .latest .no-restart j h m

@@ -127,7 +127,11 @@ module _ (sheet : Sheet) where
           let (j, ej, second, b) = back i d l 1 (third .in-step-three) in
           let (k, ek, first, c) = back j d l 0 (second .in-step-three) in
           record {
-            start = k; designated = d; lower = l; first = first;
+            start = k;
+            designated = d;
+            lower = l;
+            first = first;
             second = rw ek at second;
             third = rw (ej, ek) at third;
-            ends-here = ej ∙ ap suc ek }
+            ends-here = ej ∙ ap suc ek;
+          }

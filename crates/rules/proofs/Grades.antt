@@ -146,6 +146,7 @@ module _ (sheet : Sheet) (designated : sheet .designated ≤ 2) (new-grades : (i
       one i (SampleUnit unit) e = choice-le (eqb (unit .code) code) (portion sheet i unit) 0 3 (portion-at-most i unit (prerequisites i unit e)) (omega arith)
       one i (Redesignation new) e = omega arith
       one i Break e = omega arith
+
       worst : (n : ℕ) → worstBefore sheet code n ≤ 3
       worst zero = omega arith
       worst (suc n) = omega (arith, worst n, one n (sheet .entry n) refl)

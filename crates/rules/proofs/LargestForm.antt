@@ -124,15 +124,16 @@ one-unit : (limits : Limits) (value count : ℕ) (trail : Trail) → Reached lim
     → Reached limits (newCusum limits value count) (cond b failedHere (record { failed = trail .failed; counts = trail .counts ++ count ∷ [] }))
 unfolding after Meets anchorValue
 one-unit limits value count trail r true e = (failed-at limits value count e, tt)
-one-unit limits value count trail r false e =
-    (ap (λ (x : ℕ). newCusum limits x count) (r .0) ∙ sym (after-snoc limits _ (trail .counts) count),
-     meets-snoc limits _ (trail .counts) count (r .1) (ap (λ (x : ℕ). fails limits x count) (sym (r .0)) ∙ e))
+one-unit limits value count trail r false e = (
+  ap (λ (x : ℕ). newCusum limits x count) (r .0) ∙ sym (after-snoc limits _ (trail .counts) count),
+  meets-snoc limits _ (trail .counts) count (r .1) (ap (λ (x : ℕ). fails limits x count) (sym (r .0)) ∙ e),
+)
 
 module _ (table : Table) (class : ℕ) (in-range : class < length classes) where
   -- after a unit under a plan, before any restart
   at-unit : (phase : Phase) (cusums : List Cusum) (unit : Sample) (trail : Trail) → hasPlan (inForce phase) ≡ true → Held table class (inForce phase) cusums trail
       → Reached (limitsOf table (inForce phase) class) (classCusum table (inForce phase) cusums (countsOf unit) class)
-        (trailWith table class (record { phase = phase; cusums = cusums }) (SampleUnit unit) trail)
+      (trailWith table class (record { phase = phase; cusums = cusums }) (SampleUnit unit) trail)
   unfolding classCusum trailWith failsAt countAt classFails
   at-unit phase cusums unit trail h held =
       rw h (one-unit (limitsOf table (inForce phase) class) (tenthsIn cusums class) (countIn (countsOf unit) class) trail (held h) _ refl)
@@ -152,7 +153,7 @@ module _ (table : Table) (class : ℕ) (in-range : class < length classes) where
 
   at-next : (state : State) (entry : Entry) (trail : Trail) → Held table class (inForce (state .phase)) (state .cusums) trail → (b : Bool) → restarts table state entry ≡ b
       → Held table class (inForce (phaseAfter table state entry)) (pick b (starting (rowOf table (inForce (phaseAfter table state entry)))) (cusumsAfter table state entry))
-        (cond b restarted (trailWith table class state entry trail))
+      (cond b restarted (trailWith table class state entry trail))
   unfolding after Meets anchorValue pick
   at-next state entry trail held true eq h = (starts-at (inForce (phaseAfter table state entry)), tt)
   at-next state entry trail held false eq h =

@@ -98,12 +98,15 @@ module _ (counts counts' : List ℕ) (fewer : NoMore counts counts') where
       pair true false h = omega arith
       pair false true h = absurd (false≢true (h refl))
       pair false false h = omega arith
+
       at-most : (x : Bool) → 1 ≤ cond x 2 3
       at-most true = omega arith
       at-most false = omega arith
+
       last : (s z w : Bool) → (w ≡ true → z ≡ true) → cond (s && z) 2 3 ≤ cond (s && w) 2 3
       last true z w k = pair z w k
       last false z w k = omega arith
+
       go : (r s x y : Bool) → (y ≡ true → x ≡ true) → (z w : Bool) → (w ≡ true → z ≡ true)
           → cond (r && x) 1 (cond (s && z) 2 3) ≤ cond (r && y) 1 (cond (s && w) 2 3)
       go false s x y h z w k = last s z w k

@@ -108,7 +108,7 @@ module _ (table : Table) where
       → (failed p ≡ true → failed p' ≡ true) → (failed p' ≡ true → just-failed ≡ true) → NoHigher cs cs' → Below e e' → NoRedesignation e
       → (just-failed && failsDesignated table (Designated d p') cs' e') ≡ false
       → let t = next table (state (Designated d p) cs) e in let t' = next table (state (Designated d p') cs') e' in
-        Both d (failsDesignated table (Designated d p') cs' e') (t .phase) (t' .phase) × NoHigher (t .cusums) (t' .cusums)
+      Both d (failsDesignated table (Designated d p') cs' e') (t .phase) (t' .phase) × NoHigher (t .cusums) (t' .cusums)
   unfolding Below NoRedesignation next stateWith phaseAfter phaseAfterUnit phaseAfterBreak restarts cusumsAfter graded designatedIn inForce failsDesignated Both failed pick
   same-next d p p' cs cs' b (SampleUnit u) (SampleUnit v) m n l w o two =
       let fewer = counts-fewer u v (w .fewer) in
@@ -126,12 +126,12 @@ module _ (table : Table) where
       → Both d just-failed phase phase' → NoHigher cs cs' → Below e e' → NoRedesignation e
       → (just-failed && failsDesignated table phase' cs' e') ≡ false
       → let t = next table (state phase cs) e in let t' = next table (state phase' cs') e' in
-        Both d (failsDesignated table phase' cs' e') (t .phase) (t' .phase) × NoHigher (t .cusums) (t' .cusums)
+      Both d (failsDesignated table phase' cs' e') (t .phase) (t' .phase) × NoHigher (t .cusums) (t' .cusums)
   unfolding Both
   both-next x (Designated d p) (Designated d' p') cs cs' b e e' both l w o two =
       subst₂ (λ (y z : ℕ). (b && failsDesignated table (Designated z p') cs' e') ≡ false
-          → Both x (failsDesignated table (Designated z p') cs' e') (next table (state (Designated y p) cs) e .phase) (next table (state (Designated z p') cs') e' .phase)
-          × NoHigher (next table (state (Designated y p) cs) e .cusums) (next table (state (Designated z p') cs') e' .cusums))
+      → Both x (failsDesignated table (Designated z p') cs' e') (next table (state (Designated y p) cs) e .phase) (next table (state (Designated z p') cs') e' .phase)
+      × NoHigher (next table (state (Designated y p) cs) e .cusums) (next table (state (Designated z p') cs') e' .cusums))
       (both .0) (both .1) (same-next x p p' cs cs' b e e' (both .2) (both .3) l w o) two
   both-next x (Designated d p) (StepThree d' lower run) cs cs' b e e' both l below o two = absurd both
   both-next x (StepThree d lower run) phase' cs cs' b e e' both l below o two = absurd both
@@ -141,6 +141,7 @@ module _ (table : Table) where
 module _ (table : Table) (designated : ℕ) (es fs : ℕ → Entry) (size : ℕ) (fellows : (i : ℕ) → Below (es i) (fs i)) (none : (i : ℕ) → NoRedesignation (es i)) where
   abbrev pub first : Sheet
   first = record { table = table; designated = designated; entry = es; size = size }
+
   abbrev pub second : Sheet
   second = record { table = table; designated = designated; entry = fs; size = size }
 
@@ -213,8 +214,11 @@ module _ (table : Table) (designated : ℕ) (es fs : ℕ → Entry) (size : ℕ)
     portion-mono i u v w =
         let g = both-in-force designated (failedBefore second i) (before first i .phase) (before second i .phase) (always i .0) in
         rw (recovered-first i u, recovered-second i v, ← g .0, ← g .1)
-        (omega (arith, w .same-prerequisite,
-            defect-grade-mono table designated (before first i .cusums) (before second i .cusums) (countsOf u) (countsOf v) (always i .1) (counts-fewer u v (w .fewer)) graded-designated))
+        (omega (
+          arith,
+          w .same-prerequisite,
+          defect-grade-mono table designated (before first i .cusums) (before second i .cusums) (countsOf u) (countsOf v) (always i .1) (counts-fewer u v (w .fewer)) graded-designated,
+        ))
 
     portion-with-mono : (code i : ℕ) (e e' : Entry) → Below e e' → portionWith first code i e ≤ portionWith second code i e'
     unfolding portionWith Below

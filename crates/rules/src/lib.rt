@@ -15,6 +15,7 @@ pub const CLASSES: usize = 4;
 
 // Grades A, B and C, coded 0 to 2, have a plan; Substandard, coded 3, has none.
 pub const GRADES: usize = 3;
+
 pub const SUBSTANDARD: u8 = 3;
 
 // The designated grade, and S, T and L of grades A, B, C, in each by class.
@@ -49,15 +50,8 @@ pub enum Previous {
 
 // The designated plan is in force, or that of the lower grade in step 3, with the qualifying units in a row.
 pub enum Phase {
-    Designated {
-        designated: u8,
-        previous: Previous,
-    },
-    StepThree {
-        designated: u8,
-        lower: u8,
-        run: u8,
-    },
+    Designated { designated: u8, previous: Previous },
+    StepThree { designated: u8, lower: u8, run: u8 },
 }
 
 // Where the grading stands before a record.
@@ -117,7 +111,7 @@ fn counts_of(unit: Sample) -> [u32; 4]
     [critical, severe, major, critical + severe + major + minor]
 }
 
-fn worse_of(first: u8, second: u8) -> u8
+pub fn worse_of(first: u8, second: u8) -> u8
     ensures { λ r. ⌜ r ≡ worse first second ⌝ }
 {
     if first < second { second } else { first }
@@ -152,7 +146,12 @@ fn step_classes(row: [Limits; 4], cusums: [Cusum; 4], counts: [u32; 4]) -> Stepp
 }
 
 // Under the plan of a grade; where there is none no class fails, and every CuSum is zero.
-fn step_in_force(table: [[Limits; 4]; 3], grade: u8, cusums: [Cusum; 4], counts: [u32; 4]) -> SteppedClasses
+fn step_in_force(
+    table: [[Limits; 4]; 3],
+    grade: u8,
+    cusums: [Cusum; 4],
+    counts: [u32; 4],
+) -> SteppedClasses
     ensures { λ r. ⌜ r ≡ record { cusums = newCusums table grade cusums counts; fails = unitFails table grade cusums counts } ⌝ }
 {
     if grade < SUBSTANDARD {
@@ -176,7 +175,8 @@ fn admits_all(row: [Limits; 4], counts: [u32; 4]) -> bool
     ensures { λ r. ⌜ r ≡ admits row counts ⌝ }
 {
     admits_class(row[0], counts[0])
-        & (admits_class(row[1], counts[1]) & (admits_class(row[2], counts[2]) & admits_class(row[3], counts[3])))
+        & (admits_class(row[1], counts[1])
+            & (admits_class(row[2], counts[2]) & admits_class(row[3], counts[3])))
 }
 
 // Whether ten times the count is at most T of its class.
@@ -191,7 +191,8 @@ fn within_all(row: [Limits; 4], counts: [u32; 4]) -> bool
     ensures { λ r. ⌜ r ≡ withinTolerance row counts ⌝ }
 {
     within_class(row[0], counts[0])
-        & (within_class(row[1], counts[1]) & (within_class(row[2], counts[2]) & within_class(row[3], counts[3])))
+        & (within_class(row[1], counts[1])
+            & (within_class(row[2], counts[2]) & within_class(row[3], counts[3])))
 }
 
 fn all_zero(cusums: [Cusum; 4]) -> bool
@@ -214,7 +215,13 @@ fn best_lower(table: [[Limits; 4]; 3], grade: u8, counts: [u32; 4]) -> u8
 }
 
 // A unit graded: the table, the designated grade, the grade of the plan in force, the CuSums before the unit, its counts.
-pub fn grade_counts(table: [[Limits; 4]; 3], designated: u8, grade: u8, cusums: [Cusum; 4], counts: [u32; 4]) -> Grading
+pub fn grade_counts(
+    table: [[Limits; 4]; 3],
+    designated: u8,
+    grade: u8,
+    cusums: [Cusum; 4],
+    counts: [u32; 4],
+) -> Grading
     ensures { λ r. ⌜ r ≡ gradingOf table designated grade cusums counts ⌝ }
 {
     let stepped = step_in_force(table, grade, cusums, counts);
@@ -512,7 +519,13 @@ impl State {
     {
         let phase = self.phase;
         let cusums = self.cusums;
-        grade_counts(table, phase.designated(), phase.in_force(), cusums, counts_of(unit))
+        grade_counts(
+            table,
+            phase.designated(),
+            phase.in_force(),
+            cusums,
+            counts_of(unit),
+        )
     }
 
     fn after_unit(self, table: [[Limits; 4]; 3], grading: Grading) -> State
@@ -520,7 +533,12 @@ impl State {
     {
         let phase = self.phase;
         let cusums = grading.cusums;
-        state_with(table, phase.after_unit(grading), phase.unit_restarts(grading), cusums)
+        state_with(
+            table,
+            phase.after_unit(grading),
+            phase.unit_restarts(grading),
+            cusums,
+        )
     }
 
     // The state after a record.
@@ -531,7 +549,12 @@ impl State {
         let cusums = self.cusums;
         match entry {
             Entry::SampleUnit(unit) => self.after_unit(table, self.grade(table, unit)),
-            Entry::Redesignation(new) => state_with(table, phase.after_redesignation(new), phase.redesignation_restarts(new), cusums),
+            Entry::Redesignation(new) => state_with(
+                table,
+                phase.after_redesignation(new),
+                phase.redesignation_restarts(new),
+                cusums,
+            ),
             Entry::Break => state_with(table, phase.after_break(), true, cusums),
         }
     }

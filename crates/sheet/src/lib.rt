@@ -4,7 +4,7 @@ ghost use mathlib.Core.Bool.{_||_};
 ghost use Prim.Native.Nat.{_+_, _≤_};
 ghost use lib.ListN.{length};
 ghost use Rattle.sheet.specs.Layout.{limitsAt, rowAt, planOf, markAt, sizeOf, sampleAt, entryOf, unitOf};
-ghost use Rattle.sheet.specs.Refusals.{tooLarge, startsAbove, smaller, anyClass, anyLimits, anySmaller, tableRefusal, planRefusal, countTooLarge, unitRefusal, redesignationRefusal, refusalAt, designatedBy, verdict};
+ghost use Rattle.sheet.specs.Refusals.{tooLarge, startsAbove, smaller, anyClass, anyLimits, anySmaller, tableRefusal, planRefusal, countTooLarge, unitRefusal, redesignationRefusal, refusalAt, designatedBy, checkFrom, verdict};
 use cusum::Limits;
 use encoding::number_at;
 use rules::Entry;
@@ -14,14 +14,27 @@ use rules::row_of;
 
 // Sizes of the records.
 pub const MARK_SIZE: usize = 2;
+
 pub const PLAN_SIZE: usize = 75;
+
 pub const UNIT_SIZE: usize = 14;
+
 pub const REDESIGNATION_SIZE: usize = 3;
 
 // Limits of the numbers on a sheet.
 const LARGEST_LIMIT: u16 = 9999;
+
 const LARGEST_COUNT: u16 = 2000;
+
 const MOST_UNITS: usize = 1000;
+
+// Where a check stands: so many records and units before it, the offset of the next record, the grade designated there.
+struct Place {
+    records: usize,
+    at: usize,
+    units: usize,
+    designated: u8,
+}
 
 pub enum Mark {
     UnitMark,
@@ -67,7 +80,18 @@ pub fn plan_of(bytes: &[u8]) -> Plan
     let b = row_at(bytes, 27);
     let c = row_at(bytes, 51);
     let limits = [
-        a[0], a[1], a[2], a[3], b[0], b[1], b[2], b[3], c[0], c[1], c[2], c[3],
+        a[0],
+        a[1],
+        a[2],
+        a[3],
+        b[0],
+        b[1],
+        b[2],
+        b[3],
+        c[0],
+        c[1],
+        c[2],
+        c[3],
     ];
     Plan {
         designated: bytes[2],
@@ -137,7 +161,8 @@ fn table_falls(table: [[Limits; 4]; 3]) -> bool
     let b = row_of(table, 1);
     let c = row_of(table, 2);
     falls_in_class(a[0], b[0], c[0])
-        | (falls_in_class(a[1], b[1], c[1]) | (falls_in_class(a[2], b[2], c[2]) | falls_in_class(a[3], b[3], c[3])))
+        | (falls_in_class(a[1], b[1], c[1])
+            | (falls_in_class(a[2], b[2], c[2]) | falls_in_class(a[3], b[3], c[3])))
 }
 
 fn table_refusal(table: [[Limits; 4]; 3]) -> u8
@@ -244,7 +269,8 @@ fn count_too_large(unit: Sample) -> bool
     ensures { λ r. ⌜ r ≡ countTooLarge unit ⌝ }
 {
     (LARGEST_COUNT < unit.critical)
-        | ((LARGEST_COUNT < unit.severe) | ((LARGEST_COUNT < unit.major) | (LARGEST_COUNT < unit.minor)))
+        | ((LARGEST_COUNT < unit.severe)
+            | ((LARGEST_COUNT < unit.major) | (LARGEST_COUNT < unit.minor)))
 }
 
 fn unit_refusal(bytes: &[u8], at: usize, units: usize) -> u8
@@ -309,3 +335,58 @@ fn designated_by(designated: u8, entry: Entry) -> u8
     }
 }
 
+// The place behind the record at a place, which is whole.
+fn place_after(bytes: &[u8], place: Place) -> Place
+    requires { ⌜ (place .at + sizeOf (markAt (now bytes) (place .at)) ≤ length (now bytes)) × (place .units ≤ place .records) × (place .records ≤ place .at) ⌝ }
+    ensures { λ r. ⌜ r ≡ record { records = place .records + 1; at = place .at + sizeOf (markAt (now (bytes .entry)) (place .at)); units = place .units + unitOf (markAt (now (bytes .entry)) (place .at)); designated = designatedBy (place .designated) (entryOf (now (bytes .entry)) (place .at) (markAt (now (bytes .entry)) (place .at))) } ⌝ }
+{
+    let mark = mark_at(bytes, place.at);
+    let entry = entry_at(bytes, place.at, mark);
+    Place {
+        records: place.records + 1,
+        at: place.at + size_of(mark),
+        units: place.units + unit_of(mark),
+        designated: designated_by(place.designated, entry),
+    }
+}
+
+// The records behind a plan, from left to right.
+fn check_records(bytes: &[u8]) -> Verdict
+    requires { ⌜ 75 ≤ length (now bytes) ⌝ }
+    ensures { λ r. ⌜ r ≡ checkFrom (now (bytes .entry)) (length (now (bytes .entry))) 0 ⌝ }
+{
+    let mut place = Place {
+        records: 0,
+        at: PLAN_SIZE,
+        units: 0,
+        designated: bytes[2],
+    };
+    while place.at < bytes.len() {
+        let number = refusal_at(bytes, place.at, place.units, place.designated);
+        if number != 0 {
+            return Verdict::Refused {
+                number: number,
+                offset: place.at,
+            };
+        }
+        place = place_after(bytes, place);
+    }
+    Verdict::Accepted {
+        records: place.records,
+        units: place.units,
+    }
+}
+
+// The check of a sheet for refusals 1 to 12.
+pub fn check(bytes: &[u8]) -> Verdict
+    ensures { λ r. ⌜ r ≡ verdict (now (bytes .entry)) ⌝ }
+{
+    let number = plan_refusal(bytes);
+    if number != 0 {
+        return Verdict::Refused {
+            number: number,
+            offset: 0,
+        };
+    }
+    check_records(bytes)
+}

@@ -1,0 +1,108 @@
+-- Laws of `withCodeGrades`: which bytes it keeps and which it writes, what it leaves of codes, portion grades and worst grades,
+-- and when it gives equal buffers. By induction on the number of records.
+use Prim.Native.Nat.{ℕ, zero, suc, _+_, _*_, _<_, _≤_}
+use mathlib.Core.Path.{_≡_, refl, _∙_}
+use mathlib.Core.Bool.{Bool, true, false}
+use mathlib.Core.List.{List}
+use native.Mathlib.Omega.{arith}
+use borrow.Author.Tests.{ltb-true, ltb-false}
+use lib.Dec.{ltb}
+use lib.ListN.{length, set}
+use lib.Seq.{getD-set-same, getD-set-other, set-getD, set-set, set-comm}
+use Rattle.encoding.specs.Bytes.{byte}
+use Rattle.results.specs.Record.{resultSize, codeOffset, portionOffset, codeGradeOffset, codeIn, portionIn, codeGradeIn}
+use Rattle.results.specs.Codes.{portionIf, worstIn, withCodeGrades}
+use Rattle.results.proofs.Graded.{length-graded}
+
+-- ---- what is kept
+
+module _ (grade : ℕ → ℕ) (results : List ℕ) where
+  pub byte-kept : (n at : ℕ) → ((j : ℕ) → j < n → at ≡ resultSize * j + codeGradeOffset → ⊥)
+      → byte (withCodeGrades grade results n) at ≡ byte results at
+  unfolding withCodeGrades
+  byte-kept zero at other = refl
+  byte-kept (suc n) at other =
+      getD-set-other (withCodeGrades grade results n) (resultSize * n + codeGradeOffset) at (grade n) 0 (other n (omega arith))
+      ∙ byte-kept n at (λ j below. other j (omega arith))
+
+  pub code-kept : (n k : ℕ) → codeIn (withCodeGrades grade results n) k ≡ codeIn results k
+  code-kept n k =
+      rw (
+        byte-kept n (resultSize * k + codeOffset) (λ j below e. omega arith),
+        byte-kept n (resultSize * k + codeOffset + 1) (λ j below e. omega arith),
+      )
+
+  pub portion-kept : (n k : ℕ) → portionIn (withCodeGrades grade results n) k ≡ portionIn results k
+  portion-kept n k = byte-kept n (resultSize * k + portionOffset) (λ j below e. omega arith)
+
+  pub grade-kept : (n k : ℕ) → n ≤ k → codeGradeIn (withCodeGrades grade results n) k ≡ codeGradeIn results k
+  grade-kept n k behind = byte-kept n (resultSize * k + codeGradeOffset) (λ j below e. omega arith)
+
+  pub worst-kept : (n code m : ℕ) → worstIn (withCodeGrades grade results n) code m ≡ worstIn results code m
+  unfolding worstIn portionIf
+  worst-kept n code zero = refl
+  worst-kept n code (suc m) = rw (worst-kept n code m, code-kept n m, portion-kept n m)
+
+-- ---- what is written
+
+pub grade-written : (grade : ℕ → ℕ) (results : List ℕ) (n j : ℕ) → resultSize * n ≤ length results → j < n
+    → codeGradeIn (withCodeGrades grade results n) j ≡ grade j
+unfolding withCodeGrades
+grade-written grade results zero j inside below = absurd (omega arith)
+grade-written grade results (suc n) j inside below = go (ltb j n) refl (grade-written grade results n j (omega arith))
+  where
+    go : (earlier : Bool) → ltb j n ≡ earlier
+        → (j < n → codeGradeIn (withCodeGrades grade results n) j ≡ grade j)
+        → byte (set (withCodeGrades grade results n) (resultSize * n + codeGradeOffset) (grade n)) (resultSize * j + codeGradeOffset) ≡ grade j
+    go true test written =
+        let earlier : j < n = ltb-true j n test in
+        getD-set-other (withCodeGrades grade results n) (resultSize * n + codeGradeOffset) (resultSize * j + codeGradeOffset) (grade n) 0
+        (λ e. omega arith)
+        ∙ written earlier
+    go false test written =
+        let last : j ≡ n = omega (arith, ltb-false j n test) in
+        rw last
+        (getD-set-same (withCodeGrades grade results n) (resultSize * n + codeGradeOffset) (grade n) 0
+        (omega (arith, length-graded grade results n)))
+
+-- ---- equal buffers
+
+-- grades that are there already
+pub nothing-written : (grade : ℕ → ℕ) (results : List ℕ) (n : ℕ) → ((j : ℕ) → j < n → grade j ≡ codeGradeIn results j)
+    → withCodeGrades grade results n ≡ results
+unfolding withCodeGrades
+nothing-written grade results zero same = refl
+nothing-written grade results (suc n) same =
+    rw (nothing-written grade results n (λ j below. same j (omega arith)), same n (omega arith))
+    (set-getD results (resultSize * n + codeGradeOffset) 0)
+
+-- grades that agree
+pub same-written : (grade other : ℕ → ℕ) (results : List ℕ) (n : ℕ) → ((j : ℕ) → j < n → grade j ≡ other j)
+    → withCodeGrades grade results n ≡ withCodeGrades other results n
+unfolding withCodeGrades
+same-written grade other results zero same = refl
+same-written grade other results (suc n) same =
+    rw (same-written grade other results n (λ j below. same j (omega arith)), same n (omega arith))
+
+-- a store in a later record
+store-apart : (grade : ℕ → ℕ) (results : List ℕ) (n m value : ℕ) → n ≤ m
+    → withCodeGrades grade (set results (resultSize * m + codeGradeOffset) value) n
+    ≡ set (withCodeGrades grade results n) (resultSize * m + codeGradeOffset) value
+unfolding withCodeGrades
+store-apart grade results zero m value behind = refl
+store-apart grade results (suc n) m value behind =
+    rw (store-apart grade results n m value (omega arith))
+    (set-comm (withCodeGrades grade results n) (resultSize * m + codeGradeOffset) (resultSize * n + codeGradeOffset) value (grade n)
+    (λ e. omega arith))
+
+-- grades written over others
+pub written-over : (grade old : ℕ → ℕ) (results : List ℕ) (n : ℕ)
+    → withCodeGrades grade (withCodeGrades old results n) n ≡ withCodeGrades grade results n
+unfolding withCodeGrades
+written-over grade old results zero = refl
+written-over grade old results (suc n) =
+    rw (
+      store-apart grade (withCodeGrades old results n) n n (old n) (omega arith),
+      set-set (withCodeGrades grade (withCodeGrades old results n) n) (resultSize * n + codeGradeOffset) (old n) (grade n),
+      written-over grade old results n,
+    )

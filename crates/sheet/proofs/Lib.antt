@@ -1,0 +1,7 @@
+pub mod Offsets
+pub mod Rows
+pub mod Checking
+pub mod Accepted
+pub mod Past
+pub mod Ranges
+pub mod Designated

@@ -1,0 +1,62 @@
+-- `entry_at` is `entryOf`, by cases on the mark; the record is whole, so every byte read is inside the sheet.
+use native.Mathlib.Omega.{arith}
+use mathlib.Core.Path.{ap}
+use Rattle.sheet.specs.Layout.{sizeOf, entryOf}
+use borrow.Author.Needs.{needs}
+use Rattle.sheet.proofs.entry_at.Statement.{statement}
+use Rattle.sheet.proofs.entry_at.Tie as tie
+
+enum-told : tie.Need-enum-told
+enum-told c = search needs
+
+sample-at-requires : tie.Need-sample-at-requires
+unfolding sizeOf
+sample-at-requires c κs = omega (arith, ap sizeOf (c .enum-told .given .1))
+
+enum-told-2 : tie.Need-enum-told-2
+enum-told-2 c = search needs
+
+add-t6 : tie.Need-add-t6
+add-t6 c = search needs
+
+shared-slice-read-t8 : tie.Need-shared-slice-read-t8
+unfolding sizeOf
+shared-slice-read-t8 c = omega (arith, ap sizeOf (c .before .enum-told2 .given .1))
+
+enum-told-3 : tie.Need-enum-told-3
+enum-told-3 c = search needs
+
+enum-told-4 : tie.Need-enum-told-4
+enum-told-4 c = search needs
+
+returns : tie.Need-returns
+unfolding entryOf
+returns c = rw (c .before .enum-told .given .1, c .sample-at .ensures)
+
+returns-2 : tie.Need-returns-2
+unfolding entryOf
+returns-2 c = rw (c .before .enum-told2 .given .1)
+
+returns-3 : tie.Need-returns-3
+unfolding entryOf
+returns-3 c = rw (c .enum-told3 .given .1)
+
+returns-4 : tie.Need-returns-4
+unfolding entryOf
+returns-4 c = rw (c .enum-told4 .given .1)
+
+pub entry-at-spec : {M : Type 1} → statement M
+entry-at-spec =
+    tie.close
+    (tie.spec
+    enum-told
+    sample-at-requires
+    enum-told-2
+    add-t6
+    shared-slice-read-t8
+    enum-told-3
+    enum-told-4
+    returns
+    returns-2
+    returns-3
+    returns-4)

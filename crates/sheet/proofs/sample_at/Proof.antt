@@ -1,0 +1,71 @@
+-- `sample_at` is `sampleAt`, from what `number_at` ensures of each number.
+use Rattle.sheet.specs.Layout.{sampleAt}
+use borrow.Author.Needs.{needs}
+use Rattle.sheet.proofs.sample_at.Statement.{statement}
+use Rattle.sheet.proofs.sample_at.Tie as tie
+
+add-number-at : tie.Need-add-number-at
+add-number-at c = search needs
+
+number-at-requires : tie.Need-number-at-requires
+number-at-requires c κs = search needs
+
+add-number-at-2 : tie.Need-add-number-at-2
+add-number-at-2 c = search needs
+
+number-at-requires-2 : tie.Need-number-at-requires-2
+number-at-requires-2 c κs = search needs
+
+add-number-at-3 : tie.Need-add-number-at-3
+add-number-at-3 c = search needs
+
+number-at-requires-3 : tie.Need-number-at-requires-3
+number-at-requires-3 c κs = search needs
+
+add-number-at-4 : tie.Need-add-number-at-4
+add-number-at-4 c = search needs
+
+number-at-requires-4 : tie.Need-number-at-requires-4
+number-at-requires-4 c κs = search needs
+
+add-number-at-5 : tie.Need-add-number-at-5
+add-number-at-5 c = search needs
+
+number-at-requires-5 : tie.Need-number-at-requires-5
+number-at-requires-5 c κs = search needs
+
+add-t13 : tie.Need-add-t13
+add-t13 c = search needs
+
+shared-slice-read-t15 : tie.Need-shared-slice-read-t15
+shared-slice-read-t15 c = search needs
+
+add-t16 : tie.Need-add-t16
+add-t16 c = search needs
+
+shared-slice-read-t18 : tie.Need-shared-slice-read-t18
+shared-slice-read-t18 c = search needs
+
+returns : tie.Need-returns
+unfolding sampleAt
+returns c = rw (c .before .before .before .before .before .before .number-at .ensures, c .before .before .before .before .before .number-at2 .ensures, c .before .before .before .before .number-at3 .ensures, c .before .before .before .number-at4 .ensures, c .before .before .number-at5 .ensures)
+
+pub sample-at-spec : {M : Type 1} → statement M
+sample-at-spec =
+    tie.close
+    (tie.spec
+    add-number-at
+    number-at-requires
+    add-number-at-2
+    number-at-requires-2
+    add-number-at-3
+    number-at-requires-3
+    add-number-at-4
+    number-at-requires-4
+    add-number-at-5
+    number-at-requires-5
+    add-t13
+    shared-slice-read-t15
+    add-t16
+    shared-slice-read-t18
+    returns)

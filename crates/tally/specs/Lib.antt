@@ -1,0 +1,4 @@
+pub mod Outcome
+pub mod Demand3
+pub mod WorkedCases
+pub mod Position

@@ -1,0 +1,94 @@
+-- Grading a whole sheet into a result buffer: the answer and the buffer as it is left, for every sheet and every buffer.
+use Prim.Native.Nat.{ℕ, zero, suc, _*_}
+use mathlib.Core.Bool.{Bool, false, _||_}
+use mathlib.Core.List.{List, [], _++_}
+use lib.Dec.{ltb}
+use lib.ListN.{length, drop}
+use Rattle.cusum.specs.declared.Cusum.{Cusum}
+use Rattle.rules.specs.Words.{classes, any, tenthsIn}
+use Rattle.rules.specs.StepThree.{pick}
+use Rattle.rules.specs.Sheet.{Sheet, before, inForceAt, gradedAt, portion, standing, codeGrade}
+use Rattle.rules.specs.declared.Sample.{Sample}
+use Rattle.rules.specs.declared.Entry.{Entry}
+use Rattle.rules.specs.declared.Entry.the-variants.{SampleUnit, Redesignation, Break}
+use Rattle.sheet.specs.Layout.{sheetOf}
+use Rattle.sheet.specs.Refusals.{verdict}
+use Rattle.sheet.specs.declared.Verdict.{Verdict}
+use Rattle.sheet.specs.declared.Verdict.the-variants.{Accepted, Refused}
+use Rattle.results.specs.Record.{resultSize, resultBytes}
+use Rattle.results.specs.declared.ResultRecord.{ResultRecord}
+use Rattle.tally.specs.declared.Answer.{Answer}
+
+-- ---- the result records
+
+-- what is recorded of the unit that is record i, but for its code grade
+unfoldable pub resultOf : Sheet → ℕ → Sample → ResultRecord
+resultOf sheet i unit =
+    record {
+      code = unit .code;
+      portion = portion sheet i unit;
+      plan = inForceAt sheet i;
+      standing = standing sheet i unit;
+      cusums = gradedAt sheet i unit .cusums;
+    }
+
+-- what record i writes, where this is the grade of each code: a unit writes its result record
+unfoldable pub bytesBy : (ℕ → ℕ) → Sheet → ℕ → Entry → List ℕ
+bytesBy grades sheet i (SampleUnit unit) = resultBytes (grades (unit .code)) (resultOf sheet i unit)
+bytesBy grades sheet i (Redesignation new) = []
+bytesBy grades sheet i Break = []
+
+-- what the first n records write: each result record after those before it
+unfoldable pub written : (ℕ → ℕ) → Sheet → ℕ → List ℕ
+written grades sheet zero = []
+written grades sheet (suc n) = written grades sheet n ++ bytesBy grades sheet n (sheet .entry n)
+
+-- ---- number 14
+
+-- the most tenths that two bytes hold
+abbrev pub largestTenths : ℕ
+largestTenths = 65535
+
+-- a CuSum too large for two bytes
+unfoldable pub anyTooLarge : List Cusum → Bool
+anyTooLarge cusums = any (λ class. ltb largestTenths (tenthsIn cusums class)) classes
+
+-- at a record, and at one of the first n records
+unfoldable pub overfullBy : Sheet → ℕ → Entry → Bool
+overfullBy sheet i (SampleUnit unit) = anyTooLarge (gradedAt sheet i unit .cusums)
+overfullBy sheet i (Redesignation new) = false
+overfullBy sheet i Break = false
+
+unfoldable pub overfullBefore : Sheet → ℕ → Bool
+overfullBefore sheet zero = false
+overfullBefore sheet (suc n) = overfullBefore sheet n || overfullBy sheet n (sheet .entry n)
+
+-- ---- the outcome
+
+-- the answer, and the result buffer as it is left
+pub record Outcome : Type 0 where
+  pub answer : Answer
+  pub buffer : List ℕ
+
+-- a refusal returns its number, no units and an offset; the buffer keeps every byte
+abbrev pub refusal : ℕ → ℕ → List ℕ → Outcome
+refusal number offset buffer = record { answer = record { number = number; units = 0; offset = offset }; buffer = buffer }
+
+-- acceptance returns 0, the number of units and the sheet's length; bytes behind the last result record keep theirs
+unfoldable pub acceptance : List ℕ → List ℕ → ℕ → ℕ → Outcome
+acceptance bytes buffer records units =
+    record {
+      answer = record { number = 0; units = units; offset = length bytes };
+      buffer = written (codeGrade (sheetOf bytes records)) (sheetOf bytes records) records ++ drop (resultSize * units) buffer;
+    }
+
+-- 1 to 12 by the check of the sheet; then 13, a buffer shorter than 16 times the units; then 14; both at the sheet's length
+unfoldable pub outcomeBy : List ℕ → List ℕ → Verdict → Outcome
+outcomeBy bytes buffer (Refused number offset) = refusal number offset buffer
+outcomeBy bytes buffer (Accepted records units) =
+    pick (ltb (length buffer) (resultSize * units)) (refusal 13 (length bytes) buffer)
+    (pick (overfullBefore (sheetOf bytes records) records) (refusal 14 (length bytes) buffer)
+    (acceptance bytes buffer records units))
+
+unfoldable pub outcome : List ℕ → List ℕ → Outcome
+outcome bytes buffer = outcomeBy bytes buffer (verdict bytes)
