@@ -5,7 +5,7 @@ ghost use lib.Dec.{leb};
 ghost use Rattle.cusum.specs.Step.{tenthsOf};
 ghost use Rattle.rules.specs.Words.{tableOf, rowOf, countsOf, worse};
 ghost use Rattle.rules.specs.Unit.{starting, steppedIn, admits, withinTolerance, allZero, newCusums, unitFails, bestLower, gradingOf};
-ghost use Rattle.rules.specs.StepThree.{designatedIn, inForce, afterDesignated, endsStepThree, afterStepThree, phaseAfterUnit, phaseAfterRedesignation, phaseAfterBreak, unitEndsStepThree, unitStartsStepThree, unitRestarts, redesignationRestarts, opening, graded, endsAt, stateWith, next};
+ghost use Rattle.rules.specs.StepThree.{designatedIn, inForce, inStepThree, afterDesignated, endsStepThree, afterStepThree, phaseAfterUnit, phaseAfterRedesignation, phaseAfterBreak, unitEndsStepThree, unitStartsStepThree, unitRestarts, redesignationRestarts, opening, graded, endsAt, stateWith, next};
 ghost use Rattle.rules.specs.Sheet.{standingOf, portionOf};
 use cusum::Cusum;
 use cusum::Limits;
@@ -317,6 +317,22 @@ impl Phase {
                 lower,
                 run: _,
             } => lower,
+        }
+    }
+
+    pub fn in_step_three(self) -> bool
+        ensures { λ r. ⌜ r ≡ inStepThree self ⌝ }
+    {
+        match self {
+            Phase::Designated {
+                designated: _,
+                previous: _,
+            } => false,
+            Phase::StepThree {
+                designated: _,
+                lower: _,
+                run: _,
+            } => true,
         }
     }
 
