@@ -41,6 +41,10 @@ codeOffset = 2
 abbrev pub countsOffset : ℕ
 countsOffset = 4
 
+-- how many counts a unit lists: critical, severe, major, minor
+abbrev pub kinds : ℕ
+kinds = 4
+
 abbrev pub prerequisiteOffset : ℕ
 prerequisiteOffset = 12
 

@@ -1,0 +1,46 @@
+-- The result records lie one after the other: how long they are, and where the record of a unit stands among them.
+-- By induction on the records of the sheet.
+use Prim.Native.Nat.{ℕ, zero, suc, _+_, _*_, _≤_, _<_}
+use mathlib.Core.Path.{_≡_, refl, sym, _∙_, ap}
+use mathlib.Core.Logic.{_⊎_, inl, inr}
+use mathlib.Core.List.{List, [], _++_, append-assoc, append-nil}
+use native.Mathlib.Nat.{eq-or-lt-of-le, le-of-suc-le-suc}
+use native.Mathlib.Omega.{arith}
+use lib.ListN.{length, length-append}
+use Rattle.rules.specs.Sheet.{Sheet}
+use Rattle.sheet.specs.Layout.{offset, mark, entryOf, entryAt, unitOf, unitsBefore, sheetOf}
+use Rattle.sheet.specs.declared.Mark.{Mark}
+use Rattle.sheet.specs.declared.Mark.the-variants.{UnitMark, RedesignationMark, BreakMark, NoMark}
+use Rattle.results.specs.Record.{resultSize}
+use Rattle.results.proofs.Fields.{length-result}
+use Rattle.tally.specs.Outcome.{bytesBy, written}
+
+length-by : (grades : ℕ → ℕ) (bytes : List ℕ) (sheet : Sheet) (i at : ℕ) (m : Mark)
+    → length (bytesBy grades sheet i (entryOf bytes at m)) ≡ resultSize * unitOf m
+unfolding bytesBy entryOf unitOf
+length-by grades bytes sheet i at UnitMark = length-result _ _
+length-by grades bytes sheet i at RedesignationMark = refl
+length-by grades bytes sheet i at BreakMark = refl
+length-by grades bytes sheet i at NoMark = refl
+
+-- the records of n sheet records fill exactly 16 times their units
+pub length-written : (grades : ℕ → ℕ) (bytes : List ℕ) (records n : ℕ) → length (written grades (sheetOf bytes records) n) ≡ resultSize * unitsBefore bytes n
+unfolding written unitsBefore sheetOf entryAt
+length-written grades bytes records zero = refl
+length-written grades bytes records (suc n) =
+    let sheet = sheetOf bytes records in
+    omega (arith, length-append (written grades sheet n) (bytesBy grades sheet n (entryAt bytes n)), length-written grades bytes records n, length-by grades bytes sheet n (offset bytes n) (mark bytes n))
+
+-- what n records write begins with what those before record i write, then what record i writes
+pub written-around : (grades : ℕ → ℕ) (sheet : Sheet) (i n : ℕ) → i < n
+    → (rest : List ℕ) × (written grades sheet n ≡ written grades sheet i ++ (bytesBy grades sheet i (sheet .entry i) ++ rest))
+unfolding written
+written-around grades sheet i zero h = absurd (omega arith)
+written-around grades sheet i (suc n) h = go (eq-or-lt-of-le (le-of-suc-le-suc h)) (written-around grades sheet i n)
+  where
+    go : (i ≡ n) ⊎ (i < n) → (i < n → (rest : List ℕ) × (written grades sheet n ≡ written grades sheet i ++ (bytesBy grades sheet i (sheet .entry i) ++ rest)))
+        → (rest : List ℕ) × (written grades sheet n ++ bytesBy grades sheet n (sheet .entry n) ≡ written grades sheet i ++ (bytesBy grades sheet i (sheet .entry i) ++ rest))
+    go (inl e) r = ([], rw (e, append-nil))
+    go (inr l) r =
+        let (rest, e) = r l in
+        (rest ++ bytesBy grades sheet n (sheet .entry n), ap (λ (w : List ℕ). w ++ bytesBy grades sheet n (sheet .entry n)) e ∙ simp append-assoc)

@@ -1,0 +1,26 @@
+use borrow.Author.Needs.{needs}
+use Rattle.tally.proofs.ends_here.Statement.{statement}
+use Rattle.tally.proofs.ends_here.Tie as tie
+use Rattle.tally.proofs.ends_here.Reads as reads
+use Rattle.tally.proofs.ends_here.Lts as lts
+use Rattle.rules.proofs.State.ends_at.Reads as ends-at-reads
+use Rattle.tally.proofs.entry_here.Reads as entry-here-reads
+
+-- src/lib.rt:136:37
+entry-here-requires : tie.Need-entry-here-requires
+entry-here-requires c κs = search needs
+
+-- src/lib.rt:136:9
+ends-at-requires : tie.Need-ends-at-requires
+ends-at-requires c κs = search needs
+
+-- src/lib.rt:136:9
+returns : tie.Need-returns
+returns c = ?
+
+-- src/lib.rt:130:1
+returns-2 : tie.Need-returns-2
+returns-2 c = ?
+
+pub ends-here-spec : {M : Type 1} → statement M
+ends-here-spec = tie.close (tie.spec entry-here-requires ends-at-requires returns returns-2)

@@ -1,0 +1,51 @@
+use borrow.Author.Needs.{needs}
+use Rattle.tally.proofs.result_here.Statement.{statement}
+use Rattle.tally.proofs.result_here.Tie as tie
+use Rattle.tally.proofs.result_here.Reads as reads
+use Rattle.tally.proofs.result_here.Lts as lts
+use Rattle.rules.proofs.Phase.designated.Reads as designated-reads
+use Rattle.rules.proofs.Phase.in_force.Reads as in-force-reads
+use Rattle.rules.proofs.Phase.standing.Reads as standing-reads
+use Rattle.rules.proofs.State.grade.Reads as grade-reads
+use Rattle.rules.proofs.portion.Reads as portion-reads
+use Rattle.tally.proofs.is_recovered.Reads as is-recovered-reads
+
+-- src/lib.rt:182:9
+grade-requires : tie.Need-grade-requires
+grade-requires c κs = search needs
+
+-- src/lib.rt:183:9
+is-recovered-requires : tie.Need-is-recovered-requires
+is-recovered-requires c κs = search needs
+
+-- src/lib.rt:187:33
+designated-requires : tie.Need-designated-requires
+designated-requires c κs = search needs
+
+-- src/lib.rt:187:18
+portion-requires : tie.Need-portion-requires
+portion-requires c κs = search needs
+
+-- src/lib.rt:188:15
+in-force-requires : tie.Need-in-force-requires
+in-force-requires c κs = search needs
+
+-- src/lib.rt:189:19
+standing-requires : tie.Need-standing-requires
+standing-requires c κs = search needs
+
+-- src/lib.rt:176:1
+returns : tie.Need-returns
+returns c = ?
+
+pub result-here-spec : {M : Type 1} → statement M
+result-here-spec =
+    tie.close
+    (tie.spec
+    grade-requires
+    is-recovered-requires
+    designated-requires
+    portion-requires
+    in-force-requires
+    standing-requires
+    returns)

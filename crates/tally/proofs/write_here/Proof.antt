@@ -1,0 +1,81 @@
+use borrow.Author.Needs.{needs}
+use Rattle.tally.proofs.write_here.Statement.{statement}
+use Rattle.tally.proofs.write_here.Tie as tie
+use Rattle.tally.proofs.write_here.Reads as reads
+use Rattle.tally.proofs.write_here.Lts as lts
+use Rattle.results.proofs.write.Reads as write-reads
+use Rattle.tally.proofs.entry_here.Reads as entry-here-reads
+use Rattle.tally.proofs.result_here.Reads as result-here-reads
+
+-- src/lib.rt:199:11
+entry-here-requires : tie.Need-entry-here-requires
+entry-here-requires c κs = search needs
+
+-- src/lib.rt:200:27
+enum-known-unit : tie.Need-enum-known-unit
+enum-known-unit c = search needs
+
+-- src/lib.rt:201:17
+result-here-requires : tie.Need-result-here-requires
+result-here-requires c κs = search needs
+
+-- src/lib.rt:202:22
+mul-at : tie.Need-mul-at
+mul-at c = ?
+
+-- src/lib.rt:203:28
+sub-write : tie.Need-sub-write
+sub-write c = ?
+
+-- src/lib.rt:203:28
+part-write-start : tie.Need-part-write-start
+part-write-start c = ?
+
+-- src/lib.rt:203:28
+part-write-end : tie.Need-part-write-end
+part-write-end c = search needs
+
+-- src/lib.rt:203:13
+write-requires : tie.Need-write-requires
+write-requires c κs = ?
+
+enum-told : tie.Need-enum-told
+enum-told c = search needs
+
+enum-told-2 : tie.Need-enum-told-2
+enum-told-2 c = search needs
+
+-- src/lib.rt:195:1
+same-length : tie.Need-same-length
+same-length c = search needs
+
+-- src/lib.rt:195:1
+returns : tie.Need-returns
+returns c = ?
+
+-- src/lib.rt:195:1
+returns-2 : tie.Need-returns-2
+returns-2 c = ?
+
+-- src/lib.rt:195:1
+returns-3 : tie.Need-returns-3
+returns-3 c = ?
+
+pub write-here-spec : {M : Type 1} → statement M
+write-here-spec =
+    tie.close
+    (tie.spec
+    entry-here-requires
+    enum-known-unit
+    result-here-requires
+    mul-at
+    sub-write
+    part-write-start
+    part-write-end
+    write-requires
+    enum-told
+    enum-told-2
+    same-length
+    returns
+    returns-2
+    returns-3)

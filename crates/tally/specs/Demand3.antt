@@ -1,0 +1,132 @@
+-- Demand 3: two claims about whole sheets in bytes, and the bytes that grading them leaves in the result buffers.
+use Prim.Native.Nat.{ℕ, suc, _+_, _*_, _<_, _≤_}
+use mathlib.Core.Path.{_≡_}
+use mathlib.Core.Bool.{Bool, true, false}
+use mathlib.Core.List.{List}
+use lib.ListN.{length}
+use lib.IntN.{pos}
+use Rattle.cusum.specs.declared.Limits.{Limits}
+use Rattle.cusum.specs.LargestForm.{largestForm}
+use Rattle.encoding.specs.Bytes.{byte, number}
+use Rattle.rules.specs.Words.{classes, hasPlan, limitsOf}
+use Rattle.rules.specs.Sheet.{Sheet, inForceAt}
+use Rattle.rules.specs.Anchor.{failureAt, countsFrom, Anchor, Latest, anchorValue}
+use Rattle.rules.specs.TwoInARow.{secondInARow}
+use Rattle.sheet.specs.Layout.{countsOffset, kinds, prerequisiteOffset, offset, mark, unitsBefore, sheetOf}
+use Rattle.sheet.specs.Refusals.{verdict}
+use Rattle.sheet.specs.declared.Mark.the-variants.{UnitMark, RedesignationMark}
+use Rattle.sheet.specs.declared.Verdict.{Verdict}
+use Rattle.sheet.specs.declared.Verdict.the-variants.{Accepted, Refused}
+use Rattle.results.specs.Record.{cusumIn, portionIn, codeGradeIn}
+use Rattle.tally.specs.declared.Answer.{Answer}
+use Rattle.tally.specs.Outcome.{Outcome, outcome}
+
+-- ---- an accepted sheet
+
+-- grading a sheet into a buffer gave this answer and left these bytes, as the promise of `grade` says, and the sheet was accepted
+pub record AcceptedAs (bytes buffer : List ℕ) (answer : Answer) (results : List ℕ) : Type 0 where
+  pub promise : _≡_ {A = Outcome} (record { answer = answer; buffer = results }) (outcome bytes buffer)
+  pub accepted : answer .number ≡ 0
+
+-- how many records it has behind its plan
+unfoldable pub recordsOf : Verdict → ℕ
+recordsOf (Accepted records units) = records
+recordsOf (Refused number offset) = 0
+
+unfoldable pub recordsIn : List ℕ → ℕ
+recordsIn bytes = recordsOf (verdict bytes)
+
+-- the sheet as the rules grade it: failures and restarts are told from it, never from the result records
+unfoldable pub sheetIn : List ℕ → Sheet
+sheetIn bytes = sheetOf bytes (recordsIn bytes)
+
+-- record i is a sample unit
+pub record UnitAt (bytes : List ℕ) (i : ℕ) : Type 0 where
+  pub inside : i < recordsIn bytes
+  pub is-unit : mark bytes i ≡ UnitMark
+
+-- as recorded for the unit that is record i: a class's CuSum, the portion grade, the code grade
+abbrev pub recordedCusum : List ℕ → List ℕ → ℕ → ℕ → ℕ
+recordedCusum bytes results i class = cusumIn results (unitsBefore bytes i) class
+
+abbrev pub recordedPortion : List ℕ → List ℕ → ℕ → ℕ
+recordedPortion bytes results i = portionIn results (unitsBefore bytes i)
+
+abbrev pub recordedCodeGrade : List ℕ → List ℕ → ℕ → ℕ
+recordedCodeGrade bytes results i = codeGradeIn results (unitsBefore bytes i)
+
+-- S, T and L of the class in the plan in force for the unit that is record i
+abbrev pub limitsAt : List ℕ → ℕ → ℕ → Limits
+limitsAt bytes i class = limitsOf (sheetIn bytes .table) (inForceAt (sheetIn bytes) i) class
+
+-- ---- the first half
+
+-- the latest anchor of a class for the unit that is record i: L (true) or S, with n records from record `from` to this unit
+pub record AnchorAt (bytes : List ℕ) (i class : ℕ) : Type 0 where
+  pub from : ℕ
+  pub n : ℕ
+  pub failed : Bool
+  pub reaches : from + n ≡ suc i
+  pub lies : Anchor (sheetIn bytes) class i from failed
+  pub latest : Latest (sheetIn bytes) class i from
+
+-- for every accepted sheet, at any unit that has a plan in force, for every class: there is such an anchor, and with any such anchor
+-- the recorded CuSum is the largest of zero, the anchor plus the sum of defects less T since it, and every such sum, without the
+-- anchor, over a run of units that starts after the anchor and ends with this unit
+pub record FirstHalf (bytes results : List ℕ) (i class : ℕ) : Type 0 where
+  pub an-anchor : AnchorAt bytes i class
+  pub largest-of : (anchor : AnchorAt bytes i class) →
+      pos (recordedCusum bytes results i class)
+      ≡ largestForm (limitsAt bytes i class) (anchorValue (limitsAt bytes i class) (anchor .failed)) (countsFrom (sheetIn bytes) class (anchor .from) (anchor .n))
+
+abbrev pub Demand3First : Type 0
+Demand3First =
+    (bytes buffer : List ℕ) (answer : Answer) (results : List ℕ) → AcceptedAs bytes buffer answer results
+    → (i : ℕ) → UnitAt bytes i → hasPlan (inForceAt (sheetIn bytes) i) ≡ true
+    → (class : ℕ) → class < length classes → FirstHalf bytes results i class
+
+-- ---- the second half
+
+-- the byte at an offset lies in a count of a unit
+pub record InCount (bytes : List ℕ) (at : ℕ) : Type 0 where
+  pub i : ℕ
+  pub unit : UnitAt bytes i
+  pub from : offset bytes i + countsOffset ≤ at
+  pub to : at < offset bytes i + prerequisiteOffset
+
+-- two sheets are alike if they have the same length and the same bytes outside the counts
+pub record Alike (bytes bytes' : List ℕ) : Type 0 where
+  pub same-length : length bytes ≡ length bytes'
+  pub same-bytes : (at : ℕ) → (InCount bytes at → ⊥) → byte bytes at ≡ byte bytes' at
+
+-- two accepted sheets alike except that no count in the first exceeds its fellow in the second, without redesignation
+pub record FewerDefects (bytes bytes' buffer buffer' : List ℕ) (answer answer' : Answer) (results results' : List ℕ) : Type 0 where
+  pub first : AcceptedAs bytes buffer answer results
+  pub second : AcceptedAs bytes' buffer' answer' results'
+  pub alike : Alike bytes bytes'
+  pub no-more : (i kind : ℕ) → UnitAt bytes i → kind < kinds
+      → number bytes (offset bytes i + (countsOffset + 2 * kind)) ≤ number bytes' (offset bytes i + (countsOffset + 2 * kind))
+  pub no-redesignation : (i : ℕ) → i < recordsIn bytes → mark bytes i ≡ RedesignationMark → ⊥
+
+-- at the unit that is record i no CuSum in the first is higher, and no class fails that does not fail in the second
+pub record NoHigherAt (bytes bytes' results results' : List ℕ) (i : ℕ) : Type 0 where
+  pub cusums : (class : ℕ) → class < length classes → recordedCusum bytes results i class ≤ recordedCusum bytes' results' i class
+  pub failures : (class : ℕ) → class < length classes → failureAt (sheetIn bytes) class i ≡ true → failureAt (sheetIn bytes') class i ≡ true
+
+-- no portion or code of the first grades lower than its fellow
+pub record NoLowerAt (bytes bytes' results results' : List ℕ) (i : ℕ) : Type 0 where
+  pub portions : recordedPortion bytes results i ≤ recordedPortion bytes' results' i
+  pub codes : recordedCodeGrade bytes results i ≤ recordedCodeGrade bytes' results' i
+
+-- up to and including the second sheet's first failure of two units in a row, or the end if there is none; and of grades if the
+-- second never fails two in a row
+pub record SecondHalf (bytes bytes' results results' : List ℕ) : Type 0 where
+  pub up-to-two-in-a-row : (i : ℕ) → UnitAt bytes i → ((j : ℕ) → j < i → secondInARow (sheetIn bytes') j ≡ false)
+      → NoHigherAt bytes bytes' results results' i
+  pub never-two-in-a-row : ((j : ℕ) → j < recordsIn bytes' → secondInARow (sheetIn bytes') j ≡ false)
+      → (i : ℕ) → UnitAt bytes i → NoLowerAt bytes bytes' results results' i
+
+abbrev pub Demand3Second : Type 0
+Demand3Second =
+    (bytes bytes' buffer buffer' : List ℕ) (answer answer' : Answer) (results results' : List ℕ)
+    → FewerDefects bytes bytes' buffer buffer' answer answer' results results' → SecondHalf bytes bytes' results results'
