@@ -1,1 +1,3 @@
 pub mod Written
+pub mod Walking
+pub mod Overfull

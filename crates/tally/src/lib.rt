@@ -196,10 +196,10 @@ fn write_here(bytes: &[u8], records: usize, table: [[Limits; 4]; 3], position: P
     requires { ⌜ Walk (now bytes) records table position × (position .index < records) × (resultSize * unitsBefore (now bytes) (position .index + 1) ≤ length (now results)) ⌝ }
     ensures { λ _. ⌜ now (results .exit) ≡ sets (now (results .entry)) (resultSize * position .units) (bytesBy (λ code. ungraded) (sheetOf (now (bytes .entry)) records) (position .index) (entryAt (now (bytes .entry)) (position .index))) ⌝ }
 {
+    let at = RESULT_SIZE * position.units;
     match entry_here(bytes, records, table, position) {
         Entry::SampleUnit(unit) => {
             let result = result_here(bytes, records, table, position, unit);
-            let at = RESULT_SIZE * position.units;
             results::write(&mut results[at..], result);
         }
         Entry::Redesignation(_) => {}

@@ -1,3 +1,6 @@
+use Rattle.rules.specs.Words.{any}
+use Rattle.rules.proofs.Tests.{or-false}
+use Rattle.tally.specs.Outcome.{anyTooLarge}
 use borrow.Author.Needs.{needs}
 use Rattle.tally.proofs.any_too_large.Statement.{statement}
 use Rattle.tally.proofs.any_too_large.Tie as tie
@@ -22,7 +25,8 @@ element-copy-out-result-4 c = search needs
 
 -- src/lib.rt:89:1
 returns : tie.Need-returns
-returns c = ?
+unfolding anyTooLarge any
+returns c = rw or-false
 
 pub any-too-large-spec : {M : Type 1} → statement M
 any-too-large-spec =

@@ -1,3 +1,9 @@
+use mathlib.Core.Path.{_≡_, sym, _∙_, ap, subst⁻¹}
+use Prim.Native.Nat.{_+_, _≤_}
+use lib.ListN.{length}
+use Rattle.sheet.specs.Layout.{sizeOf, entryOf}
+use Rattle.sheet.specs.declared.Mark.{Mark}
+use Rattle.tally.proofs.Walking.{mark-here, whole-here, entry-is}
 use Rattle.tally.proofs.entry_here.Statement.{statement}
 use Rattle.tally.proofs.entry_here.Tie as tie
 use Rattle.tally.proofs.entry_here.Reads as reads
@@ -7,15 +13,15 @@ use Rattle.sheet.proofs.mark_at.Reads as mark-at-reads
 
 -- src/lib.rt:68:25
 mark-at-requires : tie.Need-mark-at-requires
-mark-at-requires c κs = ?
+mark-at-requires c κs = mark-here _ _ _ _ (c .before .pre .0) (c .before .pre .1)
 
 -- src/lib.rt:68:5
 entry-at-requires : tie.Need-entry-at-requires
-entry-at-requires c κs = ?
+entry-at-requires c κs = subst⁻¹ (λ (m : Mark). c .before .before .args .position .at + sizeOf m ≤ length (c .before .before .args .bytes .now)) (c .mark-at .ensures) (whole-here _ _ _ _ (c .before .before .pre .0) (c .before .before .pre .1))
 
 -- src/lib.rt:63:1
 returns : tie.Need-returns
-returns c = ?
+returns c = c .entry-at .ensures ∙ ap (entryOf (c .before .before .before .args .bytes .now) (c .before .before .before .args .position .at)) (c .before .mark-at .ensures) ∙ entry-is _ _ _ _ (c .before .before .before .pre .0) (c .before .before .before .pre .1)
 
 pub entry-here-spec : {M : Type 1} → statement M
 entry-here-spec = tie.close (tie.spec mark-at-requires entry-at-requires returns)

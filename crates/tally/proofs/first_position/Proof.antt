@@ -11,7 +11,7 @@ opening-requires c κs = search needs
 
 -- src/lib.rt:50:1
 returns : tie.Need-returns
-returns c = ?
+returns c = rw (c .opening .ensures)
 
 pub first-position-spec : {M : Type 1} → statement M
 first-position-spec = tie.close (tie.spec opening-requires returns)

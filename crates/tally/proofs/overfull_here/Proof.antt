@@ -1,3 +1,9 @@
+use mathlib.Core.Path.{_≡_, sym, _∙_, ap}
+use Rattle.rules.specs.declared.Entry.{Entry}
+use Rattle.rules.specs.declared.Grading.{Grading}
+use Rattle.sheet.specs.Layout.{sheetOf}
+use Rattle.tally.specs.Outcome.{overfullBy, anyTooLarge}
+use Rattle.tally.proofs.Walking.{graded-is}
 use borrow.Author.Needs.{needs}
 use Rattle.tally.proofs.overfull_here.Statement.{statement}
 use Rattle.tally.proofs.overfull_here.Tie as tie
@@ -33,15 +39,18 @@ enum-told-2 c = search needs
 
 -- src/lib.rt:98:1
 returns : tie.Need-returns
-returns c = ?
+unfolding overfullBy
+returns c = rw (← c .before .before .before .before .before .before .entry-here .ensures, c .before .before .before .before .unit .given .1) (c .any-too-large .ensures ∙ ap (λ (g : Grading). anyTooLarge (g .cusums)) (c .before .before .grade .ensures ∙ graded-is _ _ _ _ (c .before .before .before .before .before .before .before .before .before .pre .0) _))
 
 -- src/lib.rt:98:1
 returns-2 : tie.Need-returns-2
-returns-2 c = ?
+unfolding overfullBy
+returns-2 c = rw (← c .before .before .entry-here .ensures, c .enum-told .given .1)
 
 -- src/lib.rt:98:1
 returns-3 : tie.Need-returns-3
-returns-3 c = ?
+unfolding overfullBy
+returns-3 c = rw (← c .before .before .entry-here .ensures, c .enum-told2 .given .1)
 
 pub overfull-here-spec : {M : Type 1} → statement M
 overfull-here-spec =

@@ -1,3 +1,8 @@
+use mathlib.Core.Path.{_≡_, sym, _∙_, ap}
+use Rattle.rules.specs.Sheet.{portion, standing}
+use Rattle.sheet.specs.Layout.{sheetOf}
+use Rattle.tally.specs.Outcome.{resultOf}
+use Rattle.tally.proofs.Walking.{state-is, graded-is}
 use borrow.Author.Needs.{needs}
 use Rattle.tally.proofs.result_here.Statement.{statement}
 use Rattle.tally.proofs.result_here.Tie as tie
@@ -36,7 +41,8 @@ standing-requires c κs = search needs
 
 -- src/lib.rt:176:1
 returns : tie.Need-returns
-returns c = ?
+unfolding resultOf portion standing
+returns c = rw (c .standing .ensures, c .before .in-force .ensures, c .before .before .portion .ensures, c .before .before .before .designated .ensures, c .before .before .before .before .before .is-recovered .ensures, c .before .before .before .before .before .before .grade .ensures, graded-is _ _ _ _ (c .before .before .before .before .before .before .before .before .before .pre .0) (c .before .before .before .before .before .before .before .before .before .args .unit), state-is _ _ _ _ (c .before .before .before .before .before .before .before .before .before .pre .0))
 
 pub result-here-spec : {M : Type 1} → statement M
 result-here-spec =

@@ -7,21 +7,21 @@ use Rattle.results.proofs.write.Reads as write-reads
 use Rattle.tally.proofs.entry_here.Reads as entry-here-reads
 use Rattle.tally.proofs.result_here.Reads as result-here-reads
 
--- src/lib.rt:199:11
+-- src/lib.rt:199:14
+mul-at : tie.Need-mul-at
+mul-at c = ?
+
+-- src/lib.rt:200:11
 entry-here-requires : tie.Need-entry-here-requires
 entry-here-requires c κs = search needs
 
--- src/lib.rt:200:27
+-- src/lib.rt:201:27
 enum-known-unit : tie.Need-enum-known-unit
 enum-known-unit c = search needs
 
--- src/lib.rt:201:17
+-- src/lib.rt:202:17
 result-here-requires : tie.Need-result-here-requires
 result-here-requires c κs = search needs
-
--- src/lib.rt:202:22
-mul-at : tie.Need-mul-at
-mul-at c = ?
 
 -- src/lib.rt:203:28
 sub-write : tie.Need-sub-write
@@ -65,10 +65,10 @@ pub write-here-spec : {M : Type 1} → statement M
 write-here-spec =
     tie.close
     (tie.spec
+    mul-at
     entry-here-requires
     enum-known-unit
     result-here-requires
-    mul-at
     sub-write
     part-write-start
     part-write-end

@@ -1,0 +1,147 @@
+-- A walk over the records of an accepted sheet: what stands at a position, and that the position past a record is the next one.
+-- From the facts of the check and the definition of a position.
+use Prim.Native.Nat.{ℕ, zero, suc, _+_, _*_, _≤_, _<_}
+use mathlib.Core.Path.{_≡_, refl, sym, _∙_, ap, ap₂, subst, subst⁻¹}
+use mathlib.Core.Bool.{Bool, true, false}
+use mathlib.Core.List.{List}
+use native.Mathlib.Numerals.{add-one}
+use native.Mathlib.Omega.{arith}
+use lib.ListN.{length}
+use Rattle.rules.specs.Words.{Table, tableOf}
+use Rattle.rules.specs.StepThree.{opening, graded, endsAt, next}
+use Rattle.rules.specs.Sheet.{before, gradedAt, stepThreeEnds, inFinishedRun}
+use Rattle.rules.specs.declared.State.{State}
+use Rattle.rules.specs.declared.Sample.{Sample}
+use Rattle.rules.specs.declared.Entry.{Entry}
+use Rattle.rules.specs.declared.Entry.the-variants.{Break}
+use Rattle.sheet.specs.Layout.{planSize, planOf, markAt, sizeOf, entryOf, offset, mark, entryAt, unitOf, unitsBefore, sheetOf}
+use Rattle.sheet.specs.Refusals.{verdict}
+use Rattle.sheet.specs.declared.Verdict.the-variants.{Accepted}
+use Rattle.sheet.proofs.Accepted.{Facts, facts}
+use Rattle.sheet.proofs.Offsets.{size-ge, unit-of-le, units-before-le, offset-ge}
+use Rattle.sheet.proofs.Past.{past-entry}
+use Rattle.tally.specs.declared.Position.{Position}
+use Rattle.tally.specs.Position.{positionAt, Walk}
+
+-- before the first record
+pub walk-start : (bytes : List ℕ) (records units : ℕ) (table : Table) (designated : ℕ) (start : Position) → verdict bytes ≡ Accepted records units
+    → table ≡ tableOf (planOf bytes) → designated ≡ planOf bytes .designated
+    → start ≡ record { index = 0; at = planSize; units = 0; state = opening table designated } → Walk bytes records table start
+unfolding positionAt offset unitsBefore before sheetOf
+walk-start bytes records units table designated start accepted t d e =
+    let same : opening table designated ≡ opening (tableOf (planOf bytes)) (planOf bytes .designated) = ap₂ opening t d in
+    record {
+      units = units; accepted = accepted; same-table = t;
+      inside = rw e (omega arith);
+      here = subst⁻¹ (λ (p : Position). p ≡ positionAt bytes records (p .index)) e
+          (ap (λ (s : State). record { index = 0; at = planSize; units = 0; state = s }) same) }
+
+module _ (bytes : List ℕ) (records : ℕ) (table : Table) (position : Position) (walk : Walk bytes records table position) where
+  pub walk-facts : Facts bytes records
+  walk-facts = facts bytes records (walk .units) (walk .accepted) .0
+
+  pub at-is : position .at ≡ offset bytes (position .index)
+  unfolding positionAt
+  at-is = ap (λ (p : Position). p .at) (walk .here)
+
+  pub units-are : position .units ≡ unitsBefore bytes (position .index)
+  unfolding positionAt
+  units-are = ap (λ (p : Position). p .units) (walk .here)
+
+  pub state-is : position .state ≡ before (sheetOf bytes records) (position .index)
+  unfolding positionAt
+  state-is = ap (λ (p : Position). p .state) (walk .here)
+
+  pub graded-is : (unit : Sample) → graded table (position .state) unit ≡ gradedAt (sheetOf bytes records) (position .index) unit
+  unfolding sheetOf
+  graded-is unit = ap₂ (λ (t : Table) (s : State). graded t s unit) (walk .same-table) state-is
+
+  -- step 3 ends here, or not
+  pub ends-is : stepThreeEnds (sheetOf bytes records) (position .index) ≡ endsAt table (position .state) (entryAt bytes (position .index))
+  unfolding stepThreeEnds sheetOf
+  ends-is = sym (ap₂ (λ (t : Table) (s : State). endsAt t s (entryAt bytes (position .index))) (walk .same-table) state-is)
+
+  module _ (inside : position .index < records) where
+    pub whole-here : position .at + sizeOf (markAt bytes (position .at)) ≤ length bytes
+    whole-here = subst⁻¹ (λ (x : ℕ). x + sizeOf (markAt bytes x) ≤ length bytes) at-is (walk-facts .whole (position .index) inside)
+
+    pub mark-here : position .at + 2 ≤ length bytes
+    mark-here = omega (arith, whole-here, size-ge (markAt bytes (position .at)))
+
+    pub entry-is : entryOf bytes (position .at) (markAt bytes (position .at)) ≡ entryAt bytes (position .index)
+    unfolding entryAt
+    entry-is = ap (λ (x : ℕ). entryOf bytes x (markAt bytes x)) at-is
+
+    pub index-small : position .index + 1 ≤ length bytes
+    index-small = omega (arith, mark-here, at-is, offset-ge bytes (position .index))
+
+    pub units-small : position .units + 1 ≤ length bytes
+    units-small = omega (arith, index-small, units-are, units-before-le bytes (position .index))
+
+    pub advanced : record {
+        index = position .index + 1; at = position .at + sizeOf (markAt bytes (position .at)); units = position .units + unitOf (markAt bytes (position .at));
+        state = next table (position .state) (entryOf bytes (position .at) (markAt bytes (position .at))) } ≡ positionAt bytes records (position .index + 1)
+    unfolding positionAt offset unitsBefore before sheetOf entryAt
+    advanced =
+        ap₂ (λ (t : Table) (p : Position). record {
+          index = p .index + 1; at = p .at + sizeOf (markAt bytes (p .at)); units = p .units + unitOf (markAt bytes (p .at));
+          state = next t (p .state) (entryOf bytes (p .at) (markAt bytes (p .at))) }) (walk .same-table) (walk .here)
+        ∙ ap (λ (n : ℕ). record { index = position .index + 1; at = offset bytes n; units = unitsBefore bytes n; state = before (sheetOf bytes records) n }) (sym (add-one (position .index)))
+
+    pub next-index : (after : Position) → after ≡ positionAt bytes records (position .index + 1) → after .index ≡ position .index + 1
+    unfolding positionAt
+    next-index after e = ap (λ (p : Position). p .index) e
+
+    -- the walk goes on
+    pub walk-on : (after : Position) → after ≡ positionAt bytes records (position .index + 1) → Walk bytes records table after
+    walk-on after e =
+        let i = next-index after e in
+        record {
+          units = walk .units; accepted = walk .accepted; same-table = walk .same-table;
+          inside = omega arith;
+          here = e ∙ ap (positionAt bytes records) (sym i) }
+
+  -- behind the last record step 3 does not end
+  pub no-end-behind : records ≤ position .index → stepThreeEnds (sheetOf bytes records) (position .index) ≡ false
+  unfolding endsAt
+  no-end-behind h = ends-is ∙ ap (endsAt table (position .state)) (past-entry bytes records walk-facts (position .index) h)
+
+-- ---- the finished run, looked for two records ahead
+
+module _ (bytes : List ℕ) (records i : ℕ) where
+  pub ends-first : stepThreeEnds (sheetOf bytes records) i ≡ true → true ≡ inFinishedRun (sheetOf bytes records) i
+  unfolding inFinishedRun
+  ends-first e = rw e
+
+  module _ (not-first : stepThreeEnds (sheetOf bytes records) i ≡ false) (second : Position) (at-second : second ≡ positionAt bytes records (i + 1)) where
+    second-index : second .index ≡ i + 1
+    unfolding positionAt
+    second-index = ap (λ (p : Position). p .index) at-second
+
+    pub ends-second : stepThreeEnds (sheetOf bytes records) (second .index) ≡ true → true ≡ inFinishedRun (sheetOf bytes records) i
+    unfolding inFinishedRun
+    ends-second e = rw (not-first, ← second-index, e)
+
+    module _ (not-second : stepThreeEnds (sheetOf bytes records) (second .index) ≡ false) where
+      only-third : inFinishedRun (sheetOf bytes records) i ≡ stepThreeEnds (sheetOf bytes records) (i + 2)
+      unfolding inFinishedRun
+      only-third = rw (not-first, ← second-index, not-second)
+
+      pub ends-third : (third : Position) → third ≡ positionAt bytes records (second .index + 1)
+          → stepThreeEnds (sheetOf bytes records) (third .index) ≡ inFinishedRun (sheetOf bytes records) i
+      unfolding positionAt
+      ends-third third at-third =
+          let e : third .index ≡ i + 2 = omega (arith, ap (λ (p : Position). p .index) at-third, second-index) in
+          ap (stepThreeEnds (sheetOf bytes records)) e ∙ sym only-third
+
+-- behind the last record nothing ends
+no-end : (bytes : List ℕ) (records : ℕ) → Facts bytes records → (i : ℕ) → records ≤ i → stepThreeEnds (sheetOf bytes records) i ≡ false
+unfolding stepThreeEnds endsAt sheetOf
+no-end bytes records f i h = ap (endsAt (tableOf (planOf bytes)) (before (sheetOf bytes records) i)) (past-entry bytes records f i h)
+
+pub ends-none : (bytes : List ℕ) (records : ℕ) (table : Table) (position : Position) → Walk bytes records table position
+    → stepThreeEnds (sheetOf bytes records) (position .index) ≡ false → (second : Position) → second ≡ positionAt bytes records (position .index + 1)
+    → stepThreeEnds (sheetOf bytes records) (second .index) ≡ false → records ≤ second .index → false ≡ inFinishedRun (sheetOf bytes records) (position .index)
+ends-none bytes records table position walk not-first second at-second not-second behind =
+    let e : records ≤ position .index + 2 = omega (arith, second-index bytes records (position .index) not-first second at-second) in
+    sym (only-third bytes records (position .index) not-first second at-second not-second ∙ no-end bytes records (walk-facts bytes records table position walk) (position .index + 2) e)
