@@ -1,3 +1,12 @@
 pub mod Written
 pub mod Walking
 pub mod Overfull
+pub mod Writing
+pub mod Coding
+pub mod Cases
+pub mod AcceptedSheet
+pub mod Recorded
+pub mod FirstHalf
+pub mod AlikeSheets
+pub mod SecondHalf
+pub mod AlikeExample

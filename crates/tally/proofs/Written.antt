@@ -1,7 +1,7 @@
 -- The result records lie one after the other: how long they are, and where the record of a unit stands among them.
 -- By induction on the records of the sheet.
 use Prim.Native.Nat.{ℕ, zero, suc, _+_, _*_, _≤_, _<_}
-use mathlib.Core.Path.{_≡_, refl, sym, _∙_, ap}
+use mathlib.Core.Path.{_≡_, refl, sym, _∙_, ap, ap₂}
 use mathlib.Core.Logic.{_⊎_, inl, inr}
 use mathlib.Core.List.{List, [], _++_, append-assoc, append-nil}
 use native.Mathlib.Nat.{eq-or-lt-of-le, le-of-suc-le-suc}
@@ -11,9 +11,13 @@ use Rattle.rules.specs.Sheet.{Sheet}
 use Rattle.sheet.specs.Layout.{offset, mark, entryOf, entryAt, unitOf, unitsBefore, sheetOf}
 use Rattle.sheet.specs.declared.Mark.{Mark}
 use Rattle.sheet.specs.declared.Mark.the-variants.{UnitMark, RedesignationMark, BreakMark, NoMark}
-use Rattle.results.specs.Record.{resultSize}
-use Rattle.results.proofs.Fields.{length-result}
-use Rattle.tally.specs.Outcome.{bytesBy, written}
+use Rattle.encoding.specs.Bytes.{byte, number}
+use Rattle.rules.specs.declared.Sample.{Sample}
+use Rattle.rules.specs.declared.Entry.{Entry}
+use Rattle.rules.specs.declared.Entry.the-variants.{SampleUnit}
+use Rattle.results.specs.Record.{resultSize, resultBytes}
+use Rattle.results.proofs.Fields.{length-result, byte-behind, number-behind}
+use Rattle.tally.specs.Outcome.{resultOf, bytesBy, written}
 
 length-by : (grades : ℕ → ℕ) (bytes : List ℕ) (sheet : Sheet) (i at : ℕ) (m : Mark)
     → length (bytesBy grades sheet i (entryOf bytes at m)) ≡ resultSize * unitOf m
@@ -44,3 +48,39 @@ written-around grades sheet i (suc n) h = go (eq-or-lt-of-le (le-of-suc-le-suc h
     go (inr l) r =
         let (rest, e) = r l in
         (rest ++ bytesBy grades sheet n (sheet .entry n), ap (λ (w : List ℕ). w ++ bytesBy grades sheet n (sheet .entry n)) e ∙ simp append-assoc)
+
+-- ---- the result record of a unit, read back
+
+module _ (grades : ℕ → ℕ) (bytes : List ℕ) (records n : ℕ) (rest : List ℕ) (i : ℕ) (inside : i < n) (unit : Sample) (is-unit : entryAt bytes i ≡ SampleUnit unit) where
+  -- it stands behind those of the units before it
+  own-record : (more : List ℕ)
+      × (written grades (sheetOf bytes records) n ++ rest
+        ≡ written grades (sheetOf bytes records) i ++ (resultBytes (grades (unit .code)) (resultOf (sheetOf bytes records) i unit) ++ more))
+  unfolding sheetOf bytesBy
+  own-record =
+      let sheet = sheetOf bytes records in
+      let (more, e) = written-around grades sheet i n inside in
+      (more ++ rest,
+       ap (λ (w : List ℕ). w ++ rest) (e ∙ ap (λ (x : Entry). written grades sheet i ++ (bytesBy grades sheet i x ++ more)) is-unit) ∙ simp append-assoc)
+
+  pub byte-of-record : (place value : ℕ)
+      → ((more : List ℕ) → byte (resultBytes (grades (unit .code)) (resultOf (sheetOf bytes records) i unit) ++ more) place ≡ value)
+      → byte (written grades (sheetOf bytes records) n ++ rest) (resultSize * unitsBefore bytes i + place) ≡ value
+  byte-of-record place value known =
+      let (more, e) = own-record in
+      let w = written grades (sheetOf bytes records) i in
+      let r = resultBytes (grades (unit .code)) (resultOf (sheetOf bytes records) i unit) in
+      ap₂ (λ (b : List ℕ) (m : ℕ). byte b (m + place)) e (sym (length-written grades bytes records i))
+      ∙ byte-behind w (r ++ more) place
+      ∙ known more
+
+  pub number-of-record : (place value : ℕ)
+      → ((more : List ℕ) → number (resultBytes (grades (unit .code)) (resultOf (sheetOf bytes records) i unit) ++ more) place ≡ value)
+      → number (written grades (sheetOf bytes records) n ++ rest) (resultSize * unitsBefore bytes i + place) ≡ value
+  number-of-record place value known =
+      let (more, e) = own-record in
+      let w = written grades (sheetOf bytes records) i in
+      let r = resultBytes (grades (unit .code)) (resultOf (sheetOf bytes records) i unit) in
+      ap₂ (λ (b : List ℕ) (m : ℕ). number b (m + place)) e (sym (length-written grades bytes records i))
+      ∙ number-behind w (r ++ more) place
+      ∙ known more

@@ -1,3 +1,7 @@
+use mathlib.Core.Path.{_≡_, refl, sym, _∙_, ap}
+use Rattle.tally.specs.declared.Answer.{Answer}
+use Rattle.sheet.specs.declared.Verdict.{Verdict}
+use Rattle.tally.specs.Outcome.{Outcome, outcome, outcomeBy}
 use borrow.Author.Needs.{needs}
 use Rattle.tally.proofs.grade.Statement.{statement}
 use Rattle.tally.proofs.grade.Tie as tie
@@ -17,7 +21,7 @@ enum-known-records c = search needs
 
 -- src/lib.rt:261:49
 grade-accepted-requires : tie.Need-grade-accepted-requires
-grade-accepted-requires c κs = ?
+grade-accepted-requires c κs = sym (c .before .before .before .before .check .ensures) ∙ c .before .before .records .given .1
 
 -- src/lib.rt:262:28
 enum-known-number : tie.Need-enum-known-number
@@ -37,11 +41,13 @@ same-length c = search needs
 
 -- src/lib.rt:257:1
 returns : tie.Need-returns
-returns c = ?
+unfolding outcome
+returns c = c .before .before .grade-accepted .ensures ∙ sym (ap (outcomeBy (c .before .before .before .before .before .before .before .before .before .before .args .sheet .now) (c .before .before .before .before .before .before .before .before .before .before .args .results .now)) (sym (c .before .before .before .before .before .before .before .check .ensures) ∙ c .before .before .before .before .before .records .given .1))
 
 -- src/lib.rt:257:1
 returns-2 : tie.Need-returns-2
-returns-2 c = ?
+unfolding outcome outcomeBy
+returns-2 c = ap (λ (a : Answer). record { answer = a; buffer = c .before .before .before .before .before .before .before .args .results .now }) (c .refusal .ensures) ∙ sym (ap (outcomeBy (c .before .before .before .before .before .before .before .args .sheet .now) (c .before .before .before .before .before .before .before .args .results .now)) (sym (c .before .before .before .before .check .ensures) ∙ c .before .before .number .given .1))
 
 pub grade-spec : {M : Type 1} → statement M
 grade-spec =

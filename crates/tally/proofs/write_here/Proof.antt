@@ -1,3 +1,11 @@
+use Prim.Native.Nat.{ℕ, _+_, _*_, _≤_}
+use mathlib.Core.Path.{_≡_, refl, sym, _∙_, ap}
+use mathlib.Core.List.{List}
+use native.Mathlib.Omega.{arith}
+use lib.ListN.{length}
+use Rattle.results.proofs.Stores.{part-length}
+use Rattle.tally.specs.Outcome.{bytesBy}
+use Rattle.tally.proofs.Writing.{units-few, room-for-unit, unit-written}
 use borrow.Author.Needs.{needs}
 use Rattle.tally.proofs.write_here.Statement.{statement}
 use Rattle.tally.proofs.write_here.Tie as tie
@@ -9,11 +17,11 @@ use Rattle.tally.proofs.result_here.Reads as result-here-reads
 
 -- src/lib.rt:199:14
 mul-at : tie.Need-mul-at
-mul-at c = ?
+mul-at c = omega (arith, units-few _ _ _ _ (c .before .before .before .pre .0))
 
 -- src/lib.rt:200:11
 entry-here-requires : tie.Need-entry-here-requires
-entry-here-requires c κs = search needs
+entry-here-requires c κs = (c .before .before .before .pre .0, c .before .before .before .pre .1)
 
 -- src/lib.rt:201:27
 enum-known-unit : tie.Need-enum-known-unit
@@ -21,15 +29,15 @@ enum-known-unit c = search needs
 
 -- src/lib.rt:202:17
 result-here-requires : tie.Need-result-here-requires
-result-here-requires c κs = search needs
+result-here-requires c κs = (c .before .before .before .before .before .before .before .pre .0, c .before .before .before .before .before .before .before .pre .1)
 
 -- src/lib.rt:203:28
 sub-write : tie.Need-sub-write
-sub-write c = ?
+sub-write c = omega (arith, room-for-unit _ _ _ _ (c .before .before .before .before .before .before .before .before .pre .0) _ _ (c .before .before .before .before .before .before .before .before .pre .2) (sym (c .before .before .before .before .entry-here .ensures) ∙ c .before .before .unit .given .1))
 
 -- src/lib.rt:203:28
 part-write-start : tie.Need-part-write-start
-part-write-start c = ?
+part-write-start c = omega (arith, room-for-unit _ _ _ _ (c .before .before .before .before .before .before .before .before .pre .0) _ _ (c .before .before .before .before .before .before .before .before .pre .2) (sym (c .before .before .before .before .entry-here .ensures) ∙ c .before .before .unit .given .1))
 
 -- src/lib.rt:203:28
 part-write-end : tie.Need-part-write-end
@@ -37,7 +45,7 @@ part-write-end c = search needs
 
 -- src/lib.rt:203:13
 write-requires : tie.Need-write-requires
-write-requires c κs = ?
+write-requires c κs = let h = room-for-unit _ _ _ _ (c .before .before .before .before .before .before .before .before .before .pre .0) _ _ (c .before .before .before .before .before .before .before .before .before .pre .2) (sym (c .before .before .before .before .before .entry-here .ensures) ∙ c .before .before .before .unit .given .1) in omega (arith, part-length (c .before .before .before .before .before .before .before .before .before .args .results .now) (16 * c .before .before .before .before .before .before .before .before .before .args .position .units))
 
 enum-told : tie.Need-enum-told
 enum-told c = search needs
@@ -51,15 +59,17 @@ same-length c = search needs
 
 -- src/lib.rt:195:1
 returns : tie.Need-returns
-returns c = ?
+returns c = unit-written _ _ _ _ (c .before .before .before .before .before .before .before .before .before .before .before .before .pre .0) _ _ _ _ (sym (c .before .before .before .before .before .before .before .before .entry-here .ensures) ∙ c .before .before .before .before .before .before .unit .given .1) (omega (arith, room-for-unit _ _ _ _ (c .before .before .before .before .before .before .before .before .before .before .before .before .pre .0) _ _ (c .before .before .before .before .before .before .before .before .before .before .before .before .pre .2) (sym (c .before .before .before .before .before .before .before .before .entry-here .ensures) ∙ c .before .before .before .before .before .before .unit .given .1))) (c .before .before .write .ensures) (c .before .before .before .before .result-here .ensures)
 
 -- src/lib.rt:195:1
 returns-2 : tie.Need-returns-2
-returns-2 c = ?
+unfolding bytesBy
+returns-2 c = rw (← c .before .before .entry-here .ensures, c .enum-told .given .1)
 
 -- src/lib.rt:195:1
 returns-3 : tie.Need-returns-3
-returns-3 c = ?
+unfolding bytesBy
+returns-3 c = rw (← c .before .before .entry-here .ensures, c .enum-told2 .given .1)
 
 pub write-here-spec : {M : Type 1} → statement M
 write-here-spec =

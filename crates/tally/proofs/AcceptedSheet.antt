@@ -1,0 +1,125 @@
+-- What acceptance says of a sheet, its answer and its result buffer; and that a refusal keeps the buffer and counts no units.
+-- By cases on the verdict, then on the tests of numbers 13 and 14.
+use Prim.Native.Nat.{ℕ, _*_, _≤_}
+use mathlib.Core.Path.{_≡_, refl, sym, _∙_, ap}
+use mathlib.Core.Bool.{Bool, true, false}
+use mathlib.Core.List.{List, _++_}
+use native.Mathlib.Omega.{arith}
+use lib.Dec.{ltb}
+use lib.ListN.{length, drop, length-append, length-drop}
+use borrow.Author.Tests.{ltb-false}
+use Rattle.rules.specs.StepThree.{pick}
+use Rattle.rules.specs.Sheet.{codeGrade}
+use Rattle.sheet.specs.Layout.{unitsBefore, sheetOf}
+use Rattle.sheet.specs.Refusals.{verdict}
+use Rattle.sheet.specs.declared.Verdict.{Verdict}
+use Rattle.sheet.specs.declared.Verdict.the-variants.{Accepted, Refused}
+use Rattle.sheet.proofs.Accepted.{Facts, facts, refusal-number}
+use Rattle.results.specs.Record.{resultSize}
+use Rattle.tally.specs.declared.Answer.{Answer}
+use Rattle.tally.specs.Outcome.{written, overfullBefore, Outcome, refusal, acceptance, outcomeBy, outcome}
+use Rattle.tally.specs.Demand3.{AcceptedAs, recordsOf, recordsIn, sheetIn}
+use Rattle.tally.proofs.Written.{length-written}
+
+-- ---- the cases of the outcome
+
+-- an outcome by a verdict whose number is 0
+record AcceptedBy (bytes buffer : List ℕ) (v : Verdict) (given : Outcome) : Type 0 where
+  units : ℕ
+  passed : v ≡ Accepted (recordsOf v) units
+  room : resultSize * units ≤ length buffer
+  none-overfull : overfullBefore (sheetOf bytes (recordsOf v)) (recordsOf v) ≡ false
+  is-acceptance : given ≡ acceptance bytes buffer (recordsOf v) units
+
+accepted-by : (bytes buffer : List ℕ) (v : Verdict) → ((number at : ℕ) → v ≡ Refused number at → number ≡ 0 → ⊥)
+    → outcomeBy bytes buffer v .answer .number ≡ 0 → AcceptedBy bytes buffer v (outcomeBy bytes buffer v)
+unfolding outcomeBy recordsOf pick
+accepted-by bytes buffer (Refused number at) numbered e = absurd (numbered number at refl e)
+accepted-by bytes buffer (Accepted records units) numbered e =
+    go (ltb (length buffer) (resultSize * units)) refl (overfullBefore (sheetOf bytes records) records) refl e
+  where
+    given : Bool → Bool → Outcome
+    given short full =
+        pick short (refusal 13 (length bytes) buffer) (pick full (refusal 14 (length bytes) buffer) (acceptance bytes buffer records units))
+
+    go : (short : Bool) → ltb (length buffer) (resultSize * units) ≡ short
+        → (full : Bool) → overfullBefore (sheetOf bytes records) records ≡ full
+        → given short full .answer .number ≡ 0 → AcceptedBy bytes buffer (Accepted records units) (given short full)
+    go true s full o e = absurd (omega arith)
+    go false s true o e = absurd (omega arith)
+    go false s false o e =
+        record {
+          units = units;
+          passed = refl;
+          room = ltb-false (length buffer) (resultSize * units) s;
+          none-overfull = o;
+          is-acceptance = refl;
+        }
+
+-- any outcome with another number keeps the buffer and counts no units
+refused-by : (bytes buffer : List ℕ) (v : Verdict) → (outcomeBy bytes buffer v .answer .number ≡ 0 → ⊥)
+    → (outcomeBy bytes buffer v .buffer ≡ buffer) × (outcomeBy bytes buffer v .answer .units ≡ 0)
+unfolding outcomeBy acceptance pick
+refused-by bytes buffer (Refused number at) other = (refl, refl)
+refused-by bytes buffer (Accepted records units) other =
+    go (ltb (length buffer) (resultSize * units)) (overfullBefore (sheetOf bytes records) records) other
+  where
+    given : Bool → Bool → Outcome
+    given short full =
+        pick short (refusal 13 (length bytes) buffer) (pick full (refusal 14 (length bytes) buffer) (acceptance bytes buffer records units))
+
+    go : (short full : Bool) → (given short full .answer .number ≡ 0 → ⊥)
+        → (given short full .buffer ≡ buffer) × (given short full .answer .units ≡ 0)
+    go true full other = (refl, refl)
+    go false true other = (refl, refl)
+    go false false other = absurd (other refl)
+
+-- ---- an accepted sheet
+
+pub record AcceptedSheet (bytes buffer : List ℕ) (answer : Answer) (results : List ℕ) : Type 0 where
+  pub units : ℕ
+  pub passed : verdict bytes ≡ Accepted (recordsIn bytes) units
+  pub counted : units ≡ unitsBefore bytes (recordsIn bytes)
+  pub facts : Facts bytes (recordsIn bytes)
+  pub room : resultSize * unitsBefore bytes (recordsIn bytes) ≤ length buffer
+  pub none-overfull : overfullBefore (sheetIn bytes) (recordsIn bytes) ≡ false
+  pub answered-units : answer .units ≡ unitsBefore bytes (recordsIn bytes)
+  pub answered-offset : answer .offset ≡ length bytes
+  pub filled : results ≡ written (codeGrade (sheetIn bytes)) (sheetIn bytes) (recordsIn bytes) ++ drop (resultSize * unitsBefore bytes (recordsIn bytes)) buffer
+  pub same-length : length results ≡ length buffer
+
+pub accepted-sheet : (bytes buffer : List ℕ) (answer : Answer) (results : List ℕ)
+    → AcceptedAs bytes buffer answer results → AcceptedSheet bytes buffer answer results
+unfolding outcome acceptance recordsIn sheetIn
+accepted-sheet bytes buffer answer results graded =
+    let number-zero : outcome bytes buffer .answer .number ≡ 0 = sym (ap (λ (given : Outcome). given .answer .number) (graded .promise)) ∙ graded .accepted in
+    let by = accepted-by bytes buffer (verdict bytes) (refusal-number bytes) number-zero in
+    let (passes, counted) = facts bytes (recordsIn bytes) (by .units) (by .passed) in
+    let same : _≡_ {A = Outcome} (record { answer = answer; buffer = results }) (acceptance bytes buffer (recordsIn bytes) (by .units)) = graded .promise ∙ by .is-acceptance in
+    let filled : results ≡ written (codeGrade (sheetIn bytes)) (sheetIn bytes) (recordsIn bytes) ++ drop (resultSize * unitsBefore bytes (recordsIn bytes)) buffer
+    = ap (λ (given : Outcome). given .buffer) same
+    ∙ ap (λ (u : ℕ). written (codeGrade (sheetIn bytes)) (sheetIn bytes) (recordsIn bytes) ++ drop (resultSize * u) buffer) counted in
+    let room : resultSize * unitsBefore bytes (recordsIn bytes) ≤ length buffer = omega (arith, by .room, counted) in
+    record {
+      units = by .units;
+      passed = by .passed;
+      counted = counted;
+      facts = passes;
+      room = room;
+      none-overfull = by .none-overfull;
+      answered-units = ap (λ (given : Outcome). given .answer .units) same ∙ counted;
+      answered-offset = ap (λ (given : Outcome). given .answer .offset) same;
+      filled = filled;
+      same-length = ap length filled
+          ∙ simp (length-append, length-drop, length-written (codeGrade (sheetIn bytes)) bytes (recordsIn bytes) (recordsIn bytes)) (omega arith);
+    }
+
+-- a refused sheet leaves every byte of the buffer, and no units are counted
+pub refused-untouched : (bytes buffer : List ℕ) (answer : Answer) (results : List ℕ)
+    → _≡_ {A = Outcome} (record { answer = answer; buffer = results }) (outcome bytes buffer)
+    → (answer .number ≡ 0 → ⊥) → (results ≡ buffer) × (answer .units ≡ 0)
+unfolding outcome
+refused-untouched bytes buffer answer results promise other =
+    let number-same = ap (λ (given : Outcome). given .answer .number) promise in
+    let (buffer-same, units-zero) = refused-by bytes buffer (verdict bytes) (λ e. other (number-same ∙ e)) in
+    (ap (λ (given : Outcome). given .buffer) promise ∙ buffer-same, ap (λ (given : Outcome). given .answer .units) promise ∙ units-zero)

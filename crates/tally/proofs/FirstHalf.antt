@@ -1,0 +1,45 @@
+-- Demand 3's first half: at every unit with a plan in force a recorded CuSum is the 'largest of' form from its latest anchor.
+-- From the same law over records, what the result buffer records, and the search that finds an anchor.
+use Prim.Native.Nat.{ℕ, suc, _-_, _≤_}
+use mathlib.Core.Path.{_∙_, ap}
+use mathlib.Core.Bool.{Bool}
+use mathlib.Core.List.{List}
+use native.Mathlib.Omega.{arith}
+use lib.IntN.{pos}
+use Rattle.rules.specs.Sheet.{Sheet}
+use Rattle.rules.specs.Anchor.{Anchor, opening, restart, failure}
+use Rattle.rules.proofs.Anchors.{Found, found, largest-form-by-place}
+use Rattle.sheet.specs.Layout.{sampleAt, offset, sheetOf}
+use Rattle.tally.specs.Demand3.{sheetIn, AnchorAt, Demand3First}
+use Rattle.tally.proofs.Recorded.{entry-unit, recorded-cusum}
+
+-- an anchor lies at the opening, or behind a record that is not behind the unit
+anchor-le : (sheet : Sheet) (class i from : ℕ) (failed : Bool) → Anchor sheet class i from failed → from ≤ suc i
+anchor-le sheet class i from failed opening = omega arith
+anchor-le sheet class i from failed (restart j before e) = omega arith
+anchor-le sheet class i from failed (failure j before e kept) = omega arith
+
+pub an-anchor-at : (bytes : List ℕ) (i class : ℕ) → AnchorAt bytes i class
+an-anchor-at bytes i class =
+    let anchor : Found (sheetIn bytes) class i = found (sheetIn bytes) class i in
+    let within = anchor-le (sheetIn bytes) class i (anchor .place) (anchor .failed) (anchor .lies) in
+    record {
+      from = anchor .place;
+      n = suc i - anchor .place;
+      failed = anchor .failed;
+      reaches = omega arith;
+      lies = anchor .lies;
+      latest = anchor .latest;
+    }
+
+-- THE FIRST HALF OF DEMAND 3
+pub demand3-first : Demand3First
+unfolding sheetIn sheetOf
+demand3-first bytes buffer answer results accepted i at planned class in-range =
+    record {
+      an-anchor = an-anchor-at bytes i class;
+      largest-of = λ anchor.
+          ap pos (recorded-cusum bytes buffer answer results accepted i at class in-range)
+          ∙ largest-form-by-place (sheetIn bytes) class in-range i (sampleAt bytes (offset bytes i)) (entry-unit bytes i (at .is-unit)) planned
+          (anchor .from) (anchor .n) (anchor .failed) (anchor .reaches) (anchor .lies) (anchor .latest);
+    }
