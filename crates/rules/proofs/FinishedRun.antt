@@ -163,6 +163,7 @@ module _ (sheet : Sheet) (i : ℕ) where
     where
       no : (j : ℕ) → stepThreeEnds sheet j ≡ true → ((j ≡ i) ⊎ ((j ≡ suc i) ⊎ (j ≡ suc (suc i)))) → ⊥
       no j e place = true≢false (sym (within j (finished-run sheet j e) place) ∙ out)
+
       go : (a : Bool) → stepThreeEnds sheet i ≡ a → (b : Bool) → stepThreeEnds sheet (i + 1) ≡ b → (c : Bool) → stepThreeEnds sheet (i + 2) ≡ c → (a || (b || c)) ≡ false
       go true e b f c g = absurd (no i e (inl refl))
       go false e true f c g = absurd (no (i + 1) f (inr (inl (omega arith))))

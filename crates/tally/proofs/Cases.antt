@@ -50,9 +50,10 @@ module _ (bytes buffer : List ℕ) (records units : ℕ) (accepted : verdict byt
     module _ (raw : List ℕ) (is-raw : raw ≡ writtenSoFar bytes records buffer records) (small : (at : ℕ) → byte bytes at < 256) where
       pub ready-for-codes : (resultSize * units ≤ length raw) × Ungraded raw units
       ready-for-codes =
-          rw (is-raw, units-counted)
-          (omega (arith, room-for-records, length-so-far bytes records buffer records room-for-records),
-           ungraded-yet bytes records sheet-facts small (drop (resultSize * unitsBefore bytes records) buffer))
+          rw (is-raw, units-counted) (
+            omega (arith, room-for-records, length-so-far bytes records buffer records room-for-records),
+            ungraded-yet bytes records sheet-facts small (drop (resultSize * unitsBefore bytes records) buffer),
+          )
 
       pub done : overfullBefore (sheetOf bytes records) records ≡ false → (graded : List ℕ) → graded ≡ codesGraded raw units
           → _≡_ {A = Outcome} (record { answer = record { number = 0; units = units; offset = length bytes }; buffer = graded }) (outcomeBy bytes buffer (Accepted records units))

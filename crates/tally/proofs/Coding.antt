@@ -105,7 +105,7 @@ module _ (bytes : List ℕ) (records : ℕ) (old new stored : ℕ → ℕ) where
 
   one-stored : (n : ℕ) (rest : List ℕ) → stored (unitsBefore bytes n) ≡ new (sampleAt bytes (offset bytes n) .code)
       → set (written new sheet n ++ (resultBytes (old (sampleAt bytes (offset bytes n) .code)) (resultOf sheet n (sampleAt bytes (offset bytes n))) ++ rest))
-        (resultSize * unitsBefore bytes n + codeGradeOffset) (stored (unitsBefore bytes n))
+      (resultSize * unitsBefore bytes n + codeGradeOffset) (stored (unitsBefore bytes n))
       ≡ written new sheet n ++ (resultBytes (new (sampleAt bytes (offset bytes n) .code)) (resultOf sheet n (sampleAt bytes (offset bytes n))) ++ rest)
   one-stored n rest e =
       let unit = sampleAt bytes (offset bytes n) in
@@ -130,7 +130,7 @@ module _ (bytes : List ℕ) (records : ℕ) (old new stored : ℕ → ℕ) where
           let one : unitsBefore bytes n + unitOf (mark bytes n) ≡ suc (unitsBefore bytes n) = one-unit-more bytes n m in
           ap₂ (λ (l : List ℕ) (k : ℕ). withCodeGrades stored l k) (append-assoc (written old sheet n) (bytesBy old sheet n (entryAt bytes n)) rest) one
           ∙ ap (λ (l : List ℕ). set l (resultSize * unitsBefore bytes n + codeGradeOffset) (stored (unitsBefore bytes n)))
-            (earlier (bytesBy old sheet n (entryAt bytes n) ++ rest) ∙ ap (λ (l : List ℕ). written new sheet n ++ (l ++ rest)) (unit-writes old bytes sheet n m))
+          (earlier (bytesBy old sheet n (entryAt bytes n) ++ rest) ∙ ap (λ (l : List ℕ). written new sheet n ++ (l ++ rest)) (unit-writes old bytes sheet n m))
           ∙ one-stored n rest (h n (omega arith) m)
           ∙ sym (append-assoc (written new sheet n) (bytesBy new sheet n (entryAt bytes n)) rest ∙ ap (λ (l : List ℕ). written new sheet n ++ (l ++ rest)) (unit-writes new bytes sheet n m))
       go (inr m) earlier =
@@ -139,7 +139,7 @@ module _ (bytes : List ℕ) (records : ℕ) (old new stored : ℕ → ℕ) where
           ∙ earlier (bytesBy old sheet n (entryAt bytes n) ++ rest)
           ∙ ap (λ (l : List ℕ). written new sheet n ++ (l ++ rest)) (no-unit-writes old bytes sheet n (offset bytes n) (mark bytes n) m)
           ∙ sym (append-assoc (written new sheet n) (bytesBy new sheet n (entryAt bytes n)) rest
-            ∙ ap (λ (l : List ℕ). written new sheet n ++ (l ++ rest)) (no-unit-writes new bytes sheet n (offset bytes n) (mark bytes n) m))
+          ∙ ap (λ (l : List ℕ). written new sheet n ++ (l ++ rest)) (no-unit-writes new bytes sheet n (offset bytes n) (mark bytes n) m))
 
 -- ---- what the pass reads
 
@@ -182,10 +182,11 @@ module _ (bytes : List ℕ) (records : ℕ) (facts : Facts bytes records) (small
   -- no code is graded yet, and each portion has a grade
   pub ungraded-yet : Ungraded buffer (unitsBefore bytes records)
   ungraded-yet = record {
-      no-code-grade = λ j h. let (i, l, u, m) = record-of-unit bytes records j h in
-          subst (λ (k : ℕ). codeGradeIn buffer k ≡ ungraded) u (read-marker i l m);
-      portion-grade = λ j h. let (i, l, u, m) = record-of-unit bytes records j h in
-          subst (λ (k : ℕ). portionIn buffer k ≤ substandard) u (rw (read-portion i l m) (portion-small i l m)) }
+    no-code-grade = λ j h. let (i, l, u, m) = record-of-unit bytes records j h in
+        subst (λ (k : ℕ). codeGradeIn buffer k ≡ ungraded) u (read-marker i l m);
+    portion-grade = λ j h. let (i, l, u, m) = record-of-unit bytes records j h in
+        subst (λ (k : ℕ). portionIn buffer k ≤ substandard) u (rw (read-portion i l m) (portion-small i l m));
+  }
 
   portion-same : (code i : ℕ) → i < records → mark bytes i ≡ UnitMark
       → portionIf buffer code (unitsBefore bytes i) ≡ portionWith (sheetOf bytes records) code i (sheetOf bytes records .entry i)

@@ -31,10 +31,13 @@ unfolding positionAt offset unitsBefore before sheetOf
 walk-start bytes records units table designated start accepted t d e =
     let same : opening table designated ≡ opening (tableOf (planOf bytes)) (planOf bytes .designated) = ap₂ opening t d in
     record {
-      units = units; accepted = accepted; same-table = t;
+      units = units;
+      accepted = accepted;
+      same-table = t;
       inside = rw e (omega arith);
       here = subst⁻¹ (λ (p : Position). p ≡ positionAt bytes records (p .index)) e
-          (ap (λ (s : State). record { index = 0; at = planSize; units = 0; state = s }) same) }
+          (ap (λ (s : State). record { index = 0; at = planSize; units = 0; state = s }) same);
+    }
 
 module _ (bytes : List ℕ) (records : ℕ) (table : Table) (position : Position) (walk : Walk bytes records table position) where
   pub walk-facts : Facts bytes records
@@ -79,13 +82,19 @@ module _ (bytes : List ℕ) (records : ℕ) (table : Table) (position : Position
     units-small = omega (arith, index-small, units-are, units-before-le bytes (position .index))
 
     pub advanced : record {
-        index = position .index + 1; at = position .at + sizeOf (markAt bytes (position .at)); units = position .units + unitOf (markAt bytes (position .at));
-        state = next table (position .state) (entryOf bytes (position .at) (markAt bytes (position .at))) } ≡ positionAt bytes records (position .index + 1)
+      index = position .index + 1;
+      at = position .at + sizeOf (markAt bytes (position .at));
+      units = position .units + unitOf (markAt bytes (position .at));
+      state = next table (position .state) (entryOf bytes (position .at) (markAt bytes (position .at)));
+    } ≡ positionAt bytes records (position .index + 1)
     unfolding positionAt offset unitsBefore before sheetOf entryAt
     advanced =
         ap₂ (λ (t : Table) (p : Position). record {
-          index = p .index + 1; at = p .at + sizeOf (markAt bytes (p .at)); units = p .units + unitOf (markAt bytes (p .at));
-          state = next t (p .state) (entryOf bytes (p .at) (markAt bytes (p .at))) }) (walk .same-table) (walk .here)
+          index = p .index + 1;
+          at = p .at + sizeOf (markAt bytes (p .at));
+          units = p .units + unitOf (markAt bytes (p .at));
+          state = next t (p .state) (entryOf bytes (p .at) (markAt bytes (p .at)));
+        }) (walk .same-table) (walk .here)
         ∙ ap (λ (n : ℕ). record { index = position .index + 1; at = offset bytes n; units = unitsBefore bytes n; state = before (sheetOf bytes records) n }) (sym (add-one (position .index)))
 
     pub next-index : (after : Position) → after ≡ positionAt bytes records (position .index + 1) → after .index ≡ position .index + 1
@@ -97,9 +106,12 @@ module _ (bytes : List ℕ) (records : ℕ) (table : Table) (position : Position
     walk-on after e =
         let i = next-index after e in
         record {
-          units = walk .units; accepted = walk .accepted; same-table = walk .same-table;
+          units = walk .units;
+          accepted = walk .accepted;
+          same-table = walk .same-table;
           inside = omega arith;
-          here = e ∙ ap (positionAt bytes records) (sym i) }
+          here = e ∙ ap (positionAt bytes records) (sym i);
+        }
 
   -- behind the last record step 3 does not end
   pub no-end-behind : records ≤ position .index → stepThreeEnds (sheetOf bytes records) (position .index) ≡ false

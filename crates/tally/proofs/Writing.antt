@@ -104,7 +104,7 @@ record-written bytes records old i room =
     let r = bytesBy (λ code. ungraded) sheet i (entryAt bytes i) in
     let lw : length w ≡ resultSize * unitsBefore bytes i = length-written (λ code. ungraded) bytes records i in
     let both : length w + length r ≡ resultSize * unitsBefore bytes (i + 1) =
-        sym (length-append w r) ∙ length-written (λ code. ungraded) bytes records (suc i) ∙ ap (λ (n : ℕ). resultSize * unitsBefore bytes n) (sym (add-one i)) in
+    sym (length-append w r) ∙ length-written (λ code. ungraded) bytes records (suc i) ∙ ap (λ (n : ℕ). resultSize * unitsBefore bytes n) (sym (add-one i)) in
     ap (λ (n : ℕ). sets (w ++ drop n old) n r) (sym lw)
     ∙ appended w r old (omega arith)
     ∙ ap (λ (n : ℕ). (w ++ r) ++ drop n old) both
@@ -129,6 +129,6 @@ module _ (bytes : List ℕ) (records : ℕ) (table : Table) (position : Position
   written-on results' e after at-after =
       e
       ∙ ap₂ (λ (l : List ℕ) (n : ℕ). sets l (resultSize * n) (bytesBy (λ code. ungraded) (sheetOf bytes records) (position .index) (entryAt bytes (position .index))))
-          so-far (units-are bytes records table position walk)
+      so-far (units-are bytes records table position walk)
       ∙ record-written bytes records old (position .index) room-here
       ∙ sym (ap (writtenSoFar bytes records old) (next-index bytes records table position walk inside after at-after))

@@ -55,13 +55,14 @@ module _ (grades : ℕ → ℕ) (bytes : List ℕ) (records n : ℕ) (rest : Lis
   -- it stands behind those of the units before it
   own-record : (more : List ℕ)
       × (written grades (sheetOf bytes records) n ++ rest
-        ≡ written grades (sheetOf bytes records) i ++ (resultBytes (grades (unit .code)) (resultOf (sheetOf bytes records) i unit) ++ more))
+      ≡ written grades (sheetOf bytes records) i ++ (resultBytes (grades (unit .code)) (resultOf (sheetOf bytes records) i unit) ++ more))
   unfolding sheetOf bytesBy
   own-record =
       let sheet = sheetOf bytes records in
-      let (more, e) = written-around grades sheet i n inside in
-      (more ++ rest,
-       ap (λ (w : List ℕ). w ++ rest) (e ∙ ap (λ (x : Entry). written grades sheet i ++ (bytesBy grades sheet i x ++ more)) is-unit) ∙ simp append-assoc)
+      let (more, e) = written-around grades sheet i n inside in (
+        more ++ rest,
+        ap (λ (w : List ℕ). w ++ rest) (e ∙ ap (λ (x : Entry). written grades sheet i ++ (bytesBy grades sheet i x ++ more)) is-unit) ∙ simp append-assoc,
+      )
 
   pub byte-of-record : (place value : ℕ)
       → ((more : List ℕ) → byte (resultBytes (grades (unit .code)) (resultOf (sheetOf bytes records) i unit) ++ more) place ≡ value)

@@ -91,7 +91,8 @@ fn any_too_large(cusums: [Cusum; 4]) -> bool
 {
     (Cusum::LARGEST_TENTHS < cusums[0].tenths)
         | ((Cusum::LARGEST_TENTHS < cusums[1].tenths)
-        | ((Cusum::LARGEST_TENTHS < cusums[2].tenths) | (Cusum::LARGEST_TENTHS < cusums[3].tenths)))
+            | ((Cusum::LARGEST_TENTHS < cusums[2].tenths)
+                | (Cusum::LARGEST_TENTHS < cusums[3].tenths)))
 }
 
 // The same at the record at a position.
@@ -139,7 +140,12 @@ fn ends_here(bytes: &[u8], records: usize, table: [[Limits; 4]; 3], position: Po
 }
 
 // Whether the record at a position is one of the three units at whose last step 3 ends: looks two records ahead.
-fn in_finished_run(bytes: &[u8], records: usize, table: [[Limits; 4]; 3], position: Position) -> bool
+fn in_finished_run(
+    bytes: &[u8],
+    records: usize,
+    table: [[Limits; 4]; 3],
+    position: Position,
+) -> bool
     requires { ⌜ Walk (now bytes) records table position × (position .index < records) ⌝ }
     ensures { λ r. ⌜ r ≡ inFinishedRun (sheetOf (now (bytes .entry)) records) (position .index) ⌝ }
 {
@@ -158,7 +164,13 @@ fn in_finished_run(bytes: &[u8], records: usize, table: [[Limits; 4]; 3], positi
 }
 
 // Whether the portion of the unit at a position is recovered.
-fn is_recovered(bytes: &[u8], records: usize, table: [[Limits; 4]; 3], position: Position, unit: Sample) -> bool
+fn is_recovered(
+    bytes: &[u8],
+    records: usize,
+    table: [[Limits; 4]; 3],
+    position: Position,
+    unit: Sample,
+) -> bool
     requires { ⌜ Walk (now bytes) records table position × (position .index < records) ⌝ }
     ensures { λ r. ⌜ r ≡ recovered (sheetOf (now (bytes .entry)) records) (position .index) unit ⌝ }
 {
@@ -173,7 +185,13 @@ fn is_recovered(bytes: &[u8], records: usize, table: [[Limits; 4]; 3], position:
 }
 
 // What is recorded of the unit at a position, but for its code grade.
-fn result_here(bytes: &[u8], records: usize, table: [[Limits; 4]; 3], position: Position, unit: Sample) -> ResultRecord
+fn result_here(
+    bytes: &[u8],
+    records: usize,
+    table: [[Limits; 4]; 3],
+    position: Position,
+    unit: Sample,
+) -> ResultRecord
     requires { ⌜ Walk (now bytes) records table position × (position .index < records) ⌝ }
     ensures { λ r. ⌜ r ≡ resultOf (sheetOf (now (bytes .entry)) records) (position .index) unit ⌝ }
 {
@@ -184,7 +202,12 @@ fn result_here(bytes: &[u8], records: usize, table: [[Limits; 4]; 3], position: 
     let cusums = grading.cusums;
     ResultRecord {
         code: unit.code,
-        portion: rules::portion(phase.designated(), grading.grade, unit.prerequisite, recovered),
+        portion: rules::portion(
+            phase.designated(),
+            grading.grade,
+            unit.prerequisite,
+            recovered,
+        ),
         plan: phase.in_force(),
         standing: phase.standing(grading.fails, recovered),
         cusums: cusums,
@@ -192,7 +215,13 @@ fn result_here(bytes: &[u8], records: usize, table: [[Limits; 4]; 3], position: 
 }
 
 // Writes what the record at a position writes, after the result records before it.
-fn write_here(bytes: &[u8], records: usize, table: [[Limits; 4]; 3], position: Position, results: &mut [u8])
+fn write_here(
+    bytes: &[u8],
+    records: usize,
+    table: [[Limits; 4]; 3],
+    position: Position,
+    results: &mut [u8],
+)
     requires { ⌜ Walk (now bytes) records table position × (position .index < records) × (resultSize * unitsBefore (now bytes) (position .index + 1) ≤ length (now results)) ⌝ }
     ensures { λ _. ⌜ now (results .exit) ≡ sets (now (results .entry)) (resultSize * position .units) (bytesBy (λ code. ungraded) (sheetOf (now (bytes .entry)) records) (position .index) (entryAt (now (bytes .entry)) (position .index))) ⌝ }
 {
@@ -208,7 +237,13 @@ fn write_here(bytes: &[u8], records: usize, table: [[Limits; 4]; 3], position: P
 }
 
 // Writes the result records, no code graded yet.
-fn write_records(bytes: &[u8], records: usize, table: [[Limits; 4]; 3], start: Position, results: &mut [u8])
+fn write_records(
+    bytes: &[u8],
+    records: usize,
+    table: [[Limits; 4]; 3],
+    start: Position,
+    results: &mut [u8],
+)
     requires { ⌜ Walk (now bytes) records table start × (start .index ≡ 0) × (resultSize * unitsBefore (now bytes) records ≤ length (now results)) ⌝ }
     ensures { λ _. ⌜ now (results .exit) ≡ written (λ code. ungraded) (sheetOf (now (bytes .entry)) records) records ++ drop (resultSize * unitsBefore (now (bytes .entry)) records) (now (results .entry)) ⌝ }
 {

@@ -1,0 +1,12 @@
+// The grader for C and Rust.
+ghost use mathlib.Core.Path.{_≡_};
+ghost use Rattle.tally.specs.Outcome.{Outcome, outcome};
+use tally::Answer;
+
+// Grades a whole sheet into a result buffer; see tally::grade. A slice passes as a pointer and then a length.
+#[no_mangle]
+pub extern "C" fn hatmuyon_grade(sheet: &[u8], results: &mut [u8]) -> Answer
+    ensures { λ r. ⌜ _≡_ {A = Outcome} (record { answer = r; buffer = now (results .exit) }) (outcome (now (sheet .entry)) (now (results .entry))) ⌝ }
+{
+    tally::grade(sheet, results)
+}

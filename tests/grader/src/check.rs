@@ -1,0 +1,79 @@
+//! Both halves of demand 3, over whole graded sheets.
+
+use crate::rules::{Graded, What, FAILED};
+use crate::sheet::SUBSTANDARD;
+
+/// Computes every CuSum a second time, as "the largest of zero, the anchor plus the sum of defects
+/// less T since it, and every such sum, without the anchor, over a run of units that starts after the
+/// anchor and ends with this unit", and panics if one differs from the first. Quadratic in the units.
+pub fn cusums_twice(graded: &Graded) {
+    let rows = &graded.rows;
+    // "at any unit that has a plan in force"
+    for unit in (0..rows.len()).filter(|&unit| rows[unit].plan != SUBSTANDARD) {
+        // "An anchor S lies at the last restart before the unit, or at the opening of the sheet if
+        // there is none." Here: the number of units before it.
+        let mut restarts = graded.events.iter().rev().filter(|event| event.is_restart());
+        let restart =
+            restarts.find(|event| event.units_before <= unit).map_or(0, |event| event.units_before);
+        for class in 0..4 {
+            // "S, T and L are those of the class in the plan in force for this unit."
+            let numbers = graded.table[usize::from(rows[unit].plan)][class];
+            let less_t = |at: usize| rows[at].unit.defects()[class] - numbers.t;
+            // "the anchor is L at the latest failure in that class, this unit's included, since the
+            // last restart before this unit, else S"; "An anchor L lies at the failing unit, whose
+            // own count is then not in the sum."
+            let failure = (restart..=unit).rev().find(|&at| rows[at].class_fails[class]);
+            let (anchor, start) = failure.map_or((numbers.s, restart), |at| (numbers.l, at + 1));
+            // "A run is one or more sample units with no other unit left out between them."
+            let (mut largest, mut sum) = (0, 0);
+            for at in (start..=unit).rev() {
+                sum += less_t(at);
+                largest = largest.max(sum);
+            }
+            largest = largest.max(anchor + sum);
+            let place = format!("unit {} class {class}", unit + 1);
+            assert_eq!(rows[unit].cusums[class], largest, "two CuSums at {place}");
+            // Rule 2 once more, so that no failure is only claimed.
+            let old = if unit == restart { numbers.s } else { rows[unit - 1].cusums[class] };
+            let fails = old + less_t(unit) > numbers.l;
+            assert_eq!(rows[unit].class_fails[class], fails, "failure at {place}");
+        }
+    }
+}
+
+/// The first unit that ends two failures in a row: "both fail the designated plan, the second is the
+/// next unit after the first, and neither a break nor a redesignation lies between."
+pub fn first_two_in_a_row(graded: &Graded) -> Option<usize> {
+    let failed = |unit: usize| graded.rows[unit].standing == FAILED;
+    let parted = |unit: usize| {
+        let mut between = graded.events.iter().filter(|event| event.units_before == unit);
+        between.any(|event| matches!(event.what, What::Break | What::Redesignation { .. }))
+    };
+    (1..graded.rows.len()).find(|&unit| failed(unit - 1) && failed(unit) && !parted(unit))
+}
+
+/// The second half of demand 3, for two accepted sheets alike except that no count in the first
+/// exceeds its fellow in the second, without redesignation. Says what is violated; else whether the
+/// second sheet never fails two in a row, so that the grades were compared too.
+pub fn monotone(first: &Graded, second: &Graded) -> Result<bool, String> {
+    let two_in_a_row = first_two_in_a_row(second);
+    // "up to and including the second sheet's first failure of two units in a row, or the end"
+    let reach = two_in_a_row.map_or(second.rows.len(), |unit| unit + 1);
+    for (unit, (x, y)) in first.rows.iter().zip(&second.rows).enumerate() {
+        for class in (0..4).filter(|_| unit < reach) {
+            if x.cusums[class] > y.cusums[class] {
+                return Err(format!("unit {} class {class}: a higher CuSum", unit + 1));
+            }
+            if x.class_fails[class] && !y.class_fails[class] {
+                return Err(format!("unit {} class {class}: fails in the first only", unit + 1));
+            }
+        }
+        // "If the second never fails two in a row, no portion or code of the first grades lower than
+        // its fellow."
+        let lower = x.portion_grade > y.portion_grade || x.code_grade > y.code_grade;
+        if two_in_a_row.is_none() && lower {
+            return Err(format!("unit {}: a lower grade", unit + 1));
+        }
+    }
+    Ok(two_in_a_row.is_none())
+}

@@ -1,0 +1,418 @@
+//! Seeded random sheets: valid ones that go in and out of step 3, damaged ones for every refusal
+//! number from 1 to 13, messy ones, and monotone pairs; and counts of what happened in them.
+
+use crate::rules::{Event, Graded, Row, Stage, What, IN_STEP_3, RECOVERED};
+use crate::sheet::{Numbers, Record, Sheet, Table, Unit};
+
+/// A small generator of random numbers (splitmix64), with its seed.
+pub struct Dice(pub u64);
+
+impl Dice {
+    pub fn below(&mut self, end: usize) -> usize {
+        self.0 = self.0.wrapping_add(0x9E37_79B9_7F4A_7C15);
+        let z = (self.0 ^ (self.0 >> 30)).wrapping_mul(0xBF58_476D_1CE4_E5B9);
+        let z = (z ^ (z >> 27)).wrapping_mul(0x94D0_49BB_1331_11EB);
+        ((z ^ (z >> 31)) % end as u64) as usize
+    }
+
+    /// From `low` to `high`, both included.
+    pub fn between(&mut self, low: i64, high: i64) -> i64 {
+        low + self.below((high - low) as usize + 1) as i64
+    }
+
+    pub fn chance(&mut self, percent: usize) -> bool {
+        self.below(100) < percent
+    }
+
+    pub fn pick<T: Copy>(&mut self, from: &[T]) -> T {
+        from[self.below(from.len())]
+    }
+}
+
+/// A table of S, T, L from plain tenths.
+pub fn table(tenths: [[[i64; 3]; 4]; 3]) -> Table {
+    tenths.map(|grade| grade.map(|[s, t, l]| Numbers { s, t, l }))
+}
+
+/// The peach plan of paper 01.
+pub const PEACH: [[[i64; 3]; 4]; 3] = [
+    [[0, 5, 5], [5, 15, 20], [10, 30, 30], [10, 60, 40]],
+    [[0, 10, 10], [10, 30, 30], [10, 50, 30], [20, 120, 50]],
+    [[10, 20, 20], [10, 50, 30], [10, 60, 40], [20, 170, 70]],
+];
+
+impl Record {
+    pub fn bytes(&self) -> Vec<u8> {
+        match *self {
+            Record::Unit(Unit { code, counts, prerequisite, recoverable }) => {
+                let [a, b, c, d] = counts.map(|count| count as u16);
+                let numbers = [0x5355, code, a, b, c, d].map(u16::to_be_bytes);
+                [&numbers.concat()[..], &[prerequisite, u8::from(recoverable)]].concat()
+            }
+            Record::Redesignation(new) => vec![0x52, 0x44, new],
+            Record::Break => vec![0x42, 0x4B],
+        }
+    }
+}
+
+impl Sheet {
+    pub fn bytes(&self) -> Vec<u8> {
+        let numbers = self.table.iter().flatten().flat_map(|n| [n.s, n.t, n.l]);
+        let mut bytes = vec![0x50, 0x4C, self.designated];
+        bytes.extend(numbers.flat_map(|number| (number as u16).to_be_bytes()));
+        bytes.extend(self.records.iter().flat_map(Record::bytes));
+        bytes
+    }
+
+    /// The offset of the mark of a record, or the sheet's length.
+    pub fn offset(&self, record: usize) -> usize {
+        75 + self.records[..record].iter().map(|record| record.bytes().len()).sum::<usize>()
+    }
+
+    pub fn units(&self) -> usize {
+        self.records.iter().filter(|record| matches!(record, Record::Unit(_))).count()
+    }
+
+    /// The grade designated just before a record.
+    pub fn designated_before(&self, record: usize) -> u8 {
+        self.records[..record].iter().fold(self.designated, |now, record| match record {
+            Record::Redesignation(new) => *new,
+            _ => now,
+        })
+    }
+
+    /// Gives the sheet at least so many units.
+    pub fn fill(&mut self, units: usize) {
+        for code in self.units() as u16..units as u16 {
+            let counts = [0, 0, 1, 2];
+            self.records.push(Record::Unit(Unit {
+                code,
+                counts,
+                prerequisite: 0,
+                recoverable: true,
+            }));
+        }
+    }
+}
+
+/// A plan that breaks none of the rules; mostly in the range of the manual's plans.
+fn plan(dice: &mut Dice) -> Table {
+    let mut tenths = PEACH;
+    if dice.chance(10) {
+        return table(tenths);
+    }
+    let steps = if dice.chance(8) { [3_333; 4] } else { [15, 20, 25, 60] };
+    for (class, step) in steps.into_iter().enumerate() {
+        let (mut t, mut limit) = (0, 0);
+        for grade in &mut tenths {
+            t += if dice.chance(5) { step } else { dice.between(0, step) };
+            limit = (limit + dice.between(step / 4, 2 * step)).clamp(t, t + 9_999);
+            let l = limit - t;
+            grade[class] = [if dice.chance(10) { l } else { dice.between(0, l) }, t, l];
+        }
+    }
+    table(tenths)
+}
+
+/// What a unit is to be like: within the designated T of every class; near T or T+L in one class;
+/// failing the designated plan to this defect grade, if there is such a count; or anything.
+#[derive(Clone, Copy)]
+enum Mood {
+    Clean,
+    Edge,
+    FailsTo(u8),
+    Anything,
+}
+
+fn unit(dice: &mut Dice, draft: &mut Sheet, mood: Mood) {
+    let designated = draft.table[usize::from(draft.designated_before(draft.records.len()))];
+    let mut counts = [0; 4];
+    let mut left = if dice.chance(50) { designated[3].t / 10 } else { 0 };
+    for class in 0..4 {
+        counts[class] = dice.between(0, left.min(designated[class].t / 10));
+        left -= counts[class];
+    }
+    // The fourth place is total as a class and minor as a count.
+    let class = dice.below(4);
+    let Numbers { t, l, .. } = designated[class];
+    let limit = draft.table.map(|grade| (grade[class].t + grade[class].l) / 10);
+    match mood {
+        Mood::Clean => {}
+        Mood::Edge => counts[class] = dice.pick(&[t, t + l, l]) / 10 + dice.between(0, 2),
+        Mood::FailsTo(grade) => {
+            let least = if grade < 3 { (t + l) / 10 } else { limit[2] } + 1;
+            let most = limit.get(usize::from(grade)).map_or(least + 2, |&limit| limit.max(least));
+            counts = [0; 4];
+            counts[class] = dice.between(least, most);
+        }
+        Mood::Anything => {
+            let most = dice.pick(&[1, 3, 8, 20, 2_000]);
+            counts = counts.map(|_| dice.between(0, most));
+        }
+    }
+    let next = draft.units() as u16;
+    draft.records.push(Record::Unit(Unit {
+        code: dice.pick(&[next, next, next / 2, next / 4, 1, 2, 3, 0, 256, u16::MAX]),
+        counts: counts.map(|count| count.min(2_000)),
+        prerequisite: dice.pick(&[0, 0, 0, 0, 0, 0, 0, 1, 2, 3]),
+        recoverable: dice.chance(60),
+    }));
+}
+
+fn failure(dice: &mut Dice, draft: &mut Sheet) {
+    // Better grades come more often, as the worse of two decides.
+    let designated = draft.designated_before(draft.records.len());
+    let grade = dice.pick(&[1, 1, 1, 2, 2, 3]).max(designated + 1);
+    unit(dice, draft, Mood::FailsTo(grade));
+}
+
+/// A break or a redesignation now and then.
+fn perhaps_parted(dice: &mut Dice, draft: &mut Sheet, percent: usize, redesignations: bool) {
+    if dice.chance(percent) {
+        draft.records.push(Record::Break);
+    }
+    if redesignations && dice.chance(percent) {
+        let new = (draft.designated_before(draft.records.len()) + dice.pick(&[1, 2])) % 3;
+        draft.records.push(Record::Redesignation(new));
+    }
+}
+
+/// A valid sheet of at most 1,000 units, sometimes none. A calm one never fails two in a row, as
+/// every unit that may fail is followed by a clean one.
+pub fn draft(dice: &mut Dice, redesignations: bool, calm: bool) -> Sheet {
+    let (table, designated) = (plan(dice), dice.pick(&[0, 0, 0, 1, 1, 2]));
+    let mut draft = Sheet { designated, table, records: Vec::new() };
+    let passages = if dice.chance(1) { 300 } else { dice.pick(&[0, 1, 2, 3, 5, 8, 12]) };
+    for _ in 0..passages {
+        let kind = dice.below(10);
+        if kind < 5 && !calm {
+            // Two failures, and a way out of step 3.
+            failure(dice, &mut draft);
+            perhaps_parted(dice, &mut draft, 4, redesignations);
+            failure(dice, &mut draft);
+            perhaps_parted(dice, &mut draft, 5, redesignations);
+            for _ in 0..dice.between(2, 9) {
+                let edgy = dice.chance(8);
+                unit(dice, &mut draft, if edgy { Mood::Edge } else { Mood::Clean });
+                perhaps_parted(dice, &mut draft, 6, redesignations);
+            }
+        } else if kind < 7 {
+            failure(dice, &mut draft);
+            perhaps_parted(dice, &mut draft, 50, redesignations);
+        } else {
+            let mood = dice.pick(&[Mood::Clean, Mood::Edge, Mood::Anything]);
+            unit(dice, &mut draft, mood);
+        }
+        if calm {
+            unit(dice, &mut draft, Mood::Clean);
+        }
+    }
+    while draft.units() > 1_000 {
+        draft.records.pop();
+    }
+    draft
+}
+
+/// Damages the bytes of a draft (with a unit; with 1,000 for number 12), so that they are refused
+/// with this number, 1 to 12, if nothing else is wrong; returns the offset.
+fn damage(dice: &mut Dice, draft: &Sheet, sheet: &mut Vec<u8>, number: u32) -> usize {
+    fn put(sheet: &mut [u8], at: usize, value: u16) {
+        sheet[at..at + 2].copy_from_slice(&value.to_be_bytes());
+    }
+    let two = |sheet: &[u8], at: usize| u16::from_be_bytes([sheet[at], sheet[at + 1]]);
+    // Numbers 7, 8 and 9 need a record of some length, 6, 10 and 11 a place between records.
+    let fit = |record: Option<&Record>| match number {
+        7 => matches!(record, Some(Record::Unit(_) | Record::Redesignation(_))),
+        8 | 9 => matches!(record, Some(Record::Unit(_))),
+        _ => true,
+    };
+    let mut at = dice.below(draft.records.len() + 1);
+    while !fit(draft.records.get(at)) {
+        at = dice.below(draft.records.len());
+    }
+    let offset = if number < 6 { 0 } else { draft.offset(at) };
+    match number {
+        1 if dice.chance(50) => sheet.truncate(dice.pick(&[0, 1, 2, 3, 40, 73, 74])),
+        1 => sheet[dice.below(2)] ^= dice.pick(&[1, 2, 0x1C, 255]),
+        2 => sheet[2] = dice.pick(&[3, 4, 128, 255]),
+        3 => put(sheet, 3 + 2 * dice.below(36), dice.pick(&[10_000, 32_768, 65_535])),
+        4 => {
+            let place = 3 + 6 * dice.below(12);
+            let l = two(sheet, place + 4).min(9_998);
+            put(sheet, place, dice.pick(&[l + 1, 9_999]));
+            put(sheet, place + 4, l);
+        }
+        5 => {
+            // At a lower grade, T smaller with T+L not, or T+L smaller with T not.
+            let place = 3 + 6 * dice.below(8);
+            let [t, l] = [2, 4].map(|at| two(sheet, place + at).clamp(1, 9_998));
+            let [lower_t, lower_l] = dice.pick(&[[t - 1, l + 1], [t, l - 1]]);
+            for (at, value) in [(0, 0), (2, t), (4, l), (24, 0), (26, lower_t), (28, lower_l)] {
+                put(sheet, place + at, value);
+            }
+        }
+        6 if dice.chance(50) => {
+            sheet.truncate(offset);
+            sheet.push(dice.pick(&[0x53, 0x52, 0x42, 0x50, 0]));
+        }
+        6 => {
+            let mark = dice.pick(&[[0x50, 0x4C], [0x53, 0x44], [0x42, 0x55], [0x47, 0x52]]);
+            sheet.splice(offset..offset, mark);
+        }
+        7 => sheet.truncate(offset + 2 + dice.below(draft.records[at].bytes().len() - 2)),
+        8 => put(sheet, offset + 4 + 2 * dice.below(4), dice.pick(&[2_001, 32_768, 65_535])),
+        9 => sheet[offset + dice.pick(&[12, 13])] = dice.pick(&[4, 128, 255]),
+        10 => drop(sheet.splice(offset..offset, [0x52, 0x44, dice.pick(&[3, 4, 128, 255])])),
+        11 => drop(sheet.splice(offset..offset, [0x52, 0x44, draft.designated_before(at)])),
+        _ => {
+            // 12 goes before 8 and 9.
+            let (critical, prerequisite) = dice.pick(&[(0, 0), (2_001, 0), (0, 9)]);
+            let counts = [critical, 0, 0, 0];
+            let unit = Unit { code: 9, counts, prerequisite, recoverable: false };
+            sheet.extend(Record::Unit(unit).bytes());
+            return sheet.len() - 14;
+        }
+    }
+    offset
+}
+
+/// Bytes of a sheet, the length of its result buffer, and the expected number and offset if they are
+/// known from the making (0 and the sheet's length if valid).
+#[derive(Clone, Debug)]
+pub struct Case {
+    pub sheet: Vec<u8>,
+    pub room: usize,
+    pub expected: Option<(u32, usize)>,
+}
+
+/// A valid sheet for number 0 (a few with exactly 1,000 units), else one that is refused with this
+/// number, 1 to 13, and no other.
+pub fn expecting(dice: &mut Dice, number: u32) -> Case {
+    let mut draft = draft(dice, true, false);
+    let full = number == 12 || dice.chance(1);
+    draft.fill(if full { 1_000 } else { number.min(1) as usize });
+    let (mut sheet, needed) = (draft.bytes(), 16 * draft.units());
+    let (room, offset) = match number {
+        0 => (needed + dice.pick(&[0, 0, 1, 15, 16, 100]), sheet.len()),
+        13 => (dice.pick(&[0, needed / 2, needed - 16, needed - 1]), sheet.len()),
+        // 13 is checked last, so that the buffer may be short for the others.
+        _ => (dice.pick(&[0, 16, 16_000]), damage(dice, &draft, &mut sheet, number)),
+    };
+    Case { sheet, room, expected: Some((number, offset)) }
+}
+
+/// Several damages at once, or bytes changed anywhere; what comes of it is not known beforehand.
+pub fn messy(dice: &mut Dice) -> Case {
+    let mut draft = draft(dice, true, false);
+    draft.fill(1);
+    let mut sheet = draft.bytes();
+    for _ in 0..dice.below(3) {
+        let number = dice.pick(&[2, 3, 4, 5, 8, 8, 9, 9, 10, 10, 11, 11, 12]);
+        damage(dice, &draft, &mut sheet, number);
+    }
+    for _ in 0..dice.below(4) {
+        let at = dice.below(sheet.len());
+        match dice.below(4) {
+            0 => sheet[at] ^= 1 << dice.below(8),
+            1 => sheet.insert(at, dice.below(256) as u8),
+            2 => sheet.truncate(at + 1),
+            _ => sheet[at] = dice.below(256) as u8,
+        }
+    }
+    Case { sheet, room: dice.pick(&[0, 15, 160, 16_000]), expected: None }
+}
+
+/// The case of this seed: two in three valid, else damaged or messy.
+pub fn case(seed: u64) -> Case {
+    let dice = &mut Dice(seed);
+    match dice.below(100) {
+        0..=64 => expecting(dice, 0),
+        percent @ 65..=90 => expecting(dice, 1 + (percent as u32 - 65) / 2),
+        _ => messy(dice),
+    }
+}
+
+/// A monotone pair: two valid sheets "alike except that no count in the first exceeds its fellow in
+/// the second, without redesignation". In half of them the second never fails two in a row.
+pub fn pair(seed: u64) -> (Vec<u8>, Vec<u8>) {
+    let dice = &mut Dice(seed);
+    let (calm, percent) = (dice.chance(50), dice.pick(&[10, 30, 80]));
+    let second = draft(dice, false, calm);
+    let mut first = second.clone();
+    for record in &mut first.records {
+        if let Record::Unit(unit) = record {
+            unit.counts = unit.counts.map(|count| {
+                let less = dice.pick(&[0, (count - 1).max(0), count / 2]);
+                if dice.chance(percent) {
+                    less
+                } else {
+                    count
+                }
+            });
+        }
+    }
+    (first.bytes(), second.bytes())
+}
+
+/// How often each thing happened; every name is there from the first note on, also with zero.
+#[derive(Default)]
+pub struct Counts(pub std::collections::BTreeMap<String, usize>);
+
+impl Counts {
+    /// Takes in one answer and its trace, as [`crate::grade_traced`] hands them out.
+    pub fn note(&mut self, number: u32, graded: Option<&Graded>) {
+        let rows: &[Row] = graded.map_or(&[], |graded| &graded.rows);
+        let events: &[Event] = graded.map_or(&[], |graded| &graded.events);
+        let mut add = |name: &str, times: usize| *self.0.entry(name.into()).or_default() += times;
+        for known in 0..=13 {
+            add(&format!("number {known:02}"), usize::from(number == known));
+        }
+        add("accepted without a unit", usize::from(graded.is_some() && rows.is_empty()));
+        add("accepted with 1,000 units", usize::from(rows.len() == 1_000));
+        let mut count_rows = |name: &str, test: &dyn Fn(&Row) -> bool| {
+            add(name, rows.iter().filter(|row| test(row)).count());
+        };
+        for (code, letter) in [(0, 'A'), (1, 'B'), (2, 'C'), (3, 'S')] {
+            count_rows(&format!("plan grade {letter}"), &|row| row.plan == code);
+            count_rows(&format!("standing {code}"), &|row| row.standing == code);
+        }
+        count_rows("failure in step 3", &|row| row.standing == IN_STEP_3 && row.fails());
+        count_rows("recovered, worse code", &|row| {
+            row.standing == RECOVERED && row.code_grade > row.portion_grade
+        });
+        let mut count_events = |name: &str, test: &dyn Fn(&Event) -> bool| {
+            add(name, events.iter().filter(|event| test(event)).count());
+        };
+        for (lower, letter) in [(1, 'B'), (2, 'C'), (3, 'S')] {
+            let begins = What::StepThreeBegins { lower };
+            count_events(&format!("step 3 begun at {letter}"), &|event| event.what == begins);
+        }
+        for wanted in 0..=3 {
+            count_events(&format!("step 3 ended, {wanted} recovered"), &|event| {
+                let last = rows[..event.units_before].iter().rev().take(3);
+                let recovered = last.filter(|row| row.standing == RECOVERED).count();
+                event.what == What::StepThreeEnds && recovered == wanted
+            });
+        }
+        let [kept, other] = [true, false].map(|keeps| What::Redesignation { keeps });
+        let in_step_3 = |stage| matches!(stage, Stage::StepThree { .. });
+        let in_run = |stage| matches!(stage, Stage::StepThree { run: 1.., .. });
+        let no_plan = |stage| matches!(stage, Stage::StepThree { lower: 3, .. });
+        let failed = |stage| matches!(stage, Stage::Designated { failure: Some(_) });
+        type Test = fn(Stage) -> bool;
+        let kinds: [(&str, What, Test); 9] = [
+            ("break in step 3", What::Break, in_step_3),
+            ("break in a run", What::Break, in_run),
+            ("break without a plan", What::Break, no_plan),
+            ("break forgets a failure", What::Break, failed),
+            ("redesignation keeps step 3", kept, in_step_3),
+            ("redesignation keeps step 3 in a run", kept, in_run),
+            ("redesignation keeps step 3 without a plan", kept, no_plan),
+            ("redesignation ends step 3", other, in_step_3),
+            ("redesignation forgets a failure", other, failed),
+        ];
+        for (name, what, test) in kinds {
+            count_events(name, &|event| event.what == what && test(event.stage));
+        }
+    }
+}

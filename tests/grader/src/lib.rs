@@ -1,0 +1,92 @@
+//! An independent grader of tally sheets, written from paper 01 (`01-scope.md`) alone. It is plain
+//! on purpose: the whole sheet is read, then graded, then written. The paper's sentences stand in
+//! quotation marks at the code that follows them.
+
+pub mod check;
+pub mod generate;
+pub mod rules;
+pub mod sheet;
+#[cfg(test)]
+mod tests;
+
+/// Number 0 for acceptance, else 1 to 14 as in "Where a sheet is turned away".
+#[derive(Clone, Copy, Debug, PartialEq, Eq)]
+pub struct Answer {
+    pub number: u32,
+    pub units: usize,
+    pub offset: usize,
+}
+
+/// Grades a sheet into the result buffer.
+pub fn grade(sheet: &[u8], results: &mut [u8]) -> Answer {
+    grade_traced(sheet, results, false).0
+}
+
+/// As [`grade`], and hands out the trace of an accepted sheet. With `check`, every CuSum is also
+/// computed by the 'largest of' formula of demand 3, and a difference panics.
+pub fn grade_traced(
+    sheet: &[u8],
+    results: &mut [u8],
+    check: bool,
+) -> (Answer, Option<rules::Graded>) {
+    // "A refusal returns its number, no units, and the offset [...] The buffer keeps every byte."
+    let refuse = |number, offset| (Answer { number, units: 0, offset }, None);
+    let tally = match sheet::read(sheet) {
+        Ok(tally) => tally,
+        Err((number, offset)) => return refuse(number, offset),
+    };
+    let graded = rules::grade_sheet(&tally);
+    if check {
+        check::cusums_twice(&graded);
+    }
+    let units = graded.rows.len();
+    // "Result buffer | 13 | shorter than 16 times the units"
+    if results.len() < 16 * units {
+        return refuse(13, sheet.len());
+    }
+    // "Result buffer | 14 | a CuSum too large for two bytes": cannot occur, as no CuSum exceeds L.
+    if graded.rows.iter().flat_map(|row| row.cusums).any(|cusum| cusum > 0xFFFF) {
+        return refuse(14, sheet.len());
+    }
+    // "bytes behind the last result record keep theirs."
+    for (row, place) in graded.rows.iter().zip(results.chunks_exact_mut(16)) {
+        place.copy_from_slice(&row.result());
+    }
+    // "Acceptance returns 0, the number of units and the sheet's length".
+    (Answer { number: 0, units, offset: sheet.len() }, Some(graded))
+}
+
+/// The lines of "The printing program".
+pub fn print(sheet: &[u8]) -> String {
+    print_checked(sheet, false)
+}
+
+/// As [`print`], with the self check switched by `check`.
+pub fn print_checked(sheet: &[u8], check: bool) -> String {
+    // "Input above 65,536 bytes is number 15, offset 65536, before all else."
+    if sheet.len() > 65_536 {
+        return "refused 15 65536\n".to_string();
+    }
+    let mut results = vec![0; 16 * sheet::MOST_UNITS];
+    let (answer, _) = grade_traced(sheet, &mut results, check);
+    if answer.number != 0 {
+        return format!("refused {} {}\n", answer.number, answer.offset);
+    }
+    // "unit number from 1, code, both in decimal, portion grade, code grade (A, B, C, S), standing
+    // (m, f, u, r for 0 to 3), plan grade (S for none), four CuSums with one decimal." The line is
+    // made from the record's bytes, so that these are tested too.
+    let letter = |letters: &[u8; 4], byte: u8| char::from(letters[usize::from(byte)]);
+    let mut lines = String::new();
+    for (unit, record) in results.chunks_exact(16).take(answer.units).enumerate() {
+        let two = |at: usize| u16::from_be_bytes([record[at], record[at + 1]]);
+        lines += &format!("{} {}", unit + 1, two(2));
+        for (at, letters) in [(4, b"ABCS"), (5, b"ABCS"), (7, b"mfur"), (6, b"ABCS")] {
+            lines += &format!(" {}", letter(letters, record[at]));
+        }
+        for at in [8, 10, 12, 14] {
+            lines += &format!(" {}.{}", two(at) / 10, two(at) % 10);
+        }
+        lines.push('\n');
+    }
+    lines
+}

@@ -1,0 +1,263 @@
+//! "Grading a unit", step 3, recovery, redesignation, break and code grades.
+
+use crate::sheet::{Grade, Numbers, Record, Sheet, Table, Unit, SUBSTANDARD};
+
+/// "Standing: 0 met the designated plan, 1 failed it, 2 in step 3 and not recovered, 3 recovered."
+pub const MET: u8 = 0;
+pub const FAILED: u8 = 1;
+pub const IN_STEP_3: u8 = 2;
+pub const RECOVERED: u8 = 3;
+
+/// One unit as graded: its result record and the trace behind it.
+#[derive(Clone, Copy, Debug)]
+pub struct Row {
+    pub unit: Unit,
+    /// "grade of the plan in force for this unit (1, or 3 if none)"
+    pub plan: Grade,
+    pub class_fails: [bool; 4],
+    pub cusums: [i64; 4],
+    pub defect_grade: Grade,
+    pub qualifies: bool,
+    pub standing: u8,
+    pub portion_grade: Grade,
+    pub code_grade: Grade,
+}
+
+impl Row {
+    /// "The unit fails if a class fails."
+    pub fn fails(&self) -> bool {
+        self.class_fails.contains(&true)
+    }
+
+    /// "Result, 47 52, 16 bytes a unit: code (2), portion grade (1), code grade (1), grade of the
+    /// plan in force [...] (1 [...]), standing (1), four CuSums (2 each, tenths; zero if no plan)."
+    pub fn result(&self) -> [u8; 16] {
+        let mut record = [0; 16];
+        record[..2].copy_from_slice(&[0x47, 0x52]);
+        record[2..4].copy_from_slice(&self.unit.code.to_be_bytes());
+        (record[4], record[5]) = (self.portion_grade, self.code_grade);
+        (record[6], record[7]) = (self.plan, self.standing);
+        for (place, cusum) in record[8..].chunks_exact_mut(2).zip(self.cusums) {
+            place.copy_from_slice(&(cusum as u16).to_be_bytes());
+        }
+        record
+    }
+}
+
+/// Where the line stands between two records.
+#[derive(Clone, Copy, Debug, PartialEq, Eq)]
+pub enum Stage {
+    /// At the designated plan; with the defect grade of the unit just before, if that failed.
+    Designated { failure: Option<Grade> },
+    /// In step 3 at the plan of `lower` (none if Substandard), after `run` qualifying units.
+    StepThree { lower: Grade, run: usize },
+}
+
+/// What happens between two units. Step 3 ends as such at its third qualifying unit.
+#[derive(Clone, Copy, Debug, PartialEq, Eq)]
+pub enum What {
+    Break,
+    Redesignation { keeps: bool },
+    StepThreeBegins { lower: Grade },
+    StepThreeEnds,
+}
+
+#[derive(Clone, Copy, Debug)]
+pub struct Event {
+    /// The number of units before it.
+    pub units_before: usize,
+    pub what: What,
+    /// The stage just before it (before the unit that brings it about, if one does).
+    pub stage: Stage,
+}
+
+impl Event {
+    /// "The restarts are a break, the start of step 3, its end, and every redesignation but one that
+    /// keeps the CuSums."
+    pub fn is_restart(&self) -> bool {
+        self.what != What::Redesignation { keeps: true }
+    }
+}
+
+/// The whole sheet as graded.
+#[derive(Clone, Debug)]
+pub struct Graded {
+    pub table: Table,
+    pub rows: Vec<Row>,
+    pub events: Vec<Event>,
+}
+
+const FRESH: Stage = Stage::Designated { failure: None };
+
+pub fn grade_sheet(sheet: &Sheet) -> Graded {
+    let table = &sheet.table;
+    let mut designated = sheet.designated;
+    let mut stage = FRESH;
+    let mut cusums = starts(table, designated);
+    let mut rows: Vec<Row> = Vec::new();
+    let mut events = Vec::new();
+    for record in &sheet.records {
+        let before = stage;
+        let what = match *record {
+            Record::Unit(unit) => {
+                let row = grade_unit(table, unit, designated, stage, cusums);
+                rows.push(row);
+                cusums = row.cusums;
+                let what;
+                (stage, what) = after_unit(stage, &row);
+                // "Each of those three portions marked recoverable then gets the worse of designated
+                // grade and prerequisite grade, and standing 3; the others keep theirs."
+                if what == Some(What::StepThreeEnds) {
+                    for row in rows.iter_mut().rev().take(3).filter(|row| row.unit.recoverable) {
+                        row.portion_grade = designated.max(row.unit.prerequisite);
+                        row.standing = RECOVERED;
+                    }
+                }
+                what
+            }
+            // "A redesignation outside step 3 starts the new plan at S and forgets a failure just
+            // before. In step 3, a new grade better than the lower one keeps step 3 and its CuSums
+            // and sets the run of qualifying units to none; any other new grade ends step 3 and
+            // starts at S."
+            Record::Redesignation(new) => {
+                designated = new;
+                let keeps = matches!(stage, Stage::StepThree { lower, .. } if new < lower);
+                stage = if keeps { forget(stage) } else { FRESH };
+                Some(What::Redesignation { keeps })
+            }
+            // "A break sets the CuSums of the plan in force to S, forgets a failure just before and
+            // sets that run to none; it does not end step 3."
+            Record::Break => {
+                stage = forget(stage);
+                Some(What::Break)
+            }
+        };
+        // "A restart that a unit brings about comes after that unit's record."
+        if let Some(what) = what {
+            let event = Event { units_before: rows.len(), what, stage: before };
+            if event.is_restart() {
+                cusums = starts(table, plan_in_force(stage, designated));
+            }
+            events.push(event);
+        }
+    }
+    // "Last, the code grade: the worst portion grade among all units of the sheet with that code,
+    // adjoining or not."
+    let mut worst = std::collections::HashMap::new();
+    for row in &rows {
+        let grade = worst.entry(row.unit.code).or_insert(row.portion_grade);
+        *grade = row.portion_grade.max(*grade);
+    }
+    for row in &mut rows {
+        row.code_grade = worst[&row.unit.code];
+    }
+    Graded { table: sheet.table, rows, events }
+}
+
+fn plan_in_force(stage: Stage, designated: Grade) -> Grade {
+    match stage {
+        Stage::Designated { .. } => designated,
+        Stage::StepThree { lower, .. } => lower,
+    }
+}
+
+/// "Every CuSum begins at the S of its own class and plan"; zeros where there is no plan.
+fn starts(table: &Table, plan: Grade) -> [i64; 4] {
+    table.get(usize::from(plan)).map_or([0; 4], |classes| classes.map(|class| class.s))
+}
+
+/// The same stage without a failure just before and without a run of qualifying units.
+fn forget(stage: Stage) -> Stage {
+    match stage {
+        Stage::Designated { .. } => FRESH,
+        Stage::StepThree { lower, .. } => Stage::StepThree { lower, run: 0 },
+    }
+}
+
+/// The stage after a unit, and the restart that the unit brings about, if any.
+fn after_unit(stage: Stage, row: &Row) -> (Stage, Option<What>) {
+    match stage {
+        Stage::Designated { .. } if !row.fails() => (FRESH, None),
+        Stage::Designated { failure: None } => {
+            (Stage::Designated { failure: Some(row.defect_grade) }, None)
+        }
+        // "Step 3 begins when two units in a row fail the designated plan, in the same class or not.
+        // From the next unit on, the plan in force is that of the worse of the two defect grades,
+        // every class at its S."
+        Stage::Designated { failure: Some(first) } => {
+            let lower = first.max(row.defect_grade);
+            (Stage::StepThree { lower, run: 0 }, Some(What::StepThreeBegins { lower }))
+        }
+        // "Two failures at the lower plan start nothing further."
+        Stage::StepThree { .. } if !row.qualifies => (forget(stage), None),
+        Stage::StepThree { lower, run } if run < 2 => {
+            (Stage::StepThree { lower, run: run + 1 }, None)
+        }
+        // "At the third qualifying unit in a row step 3 ends. [...] The next unit starts the
+        // designated plan at S."
+        Stage::StepThree { .. } => (FRESH, Some(What::StepThreeEnds)),
+    }
+}
+
+/// Rules 1 to 4 of "Grading a unit". `old` holds the CuSums before this unit; the code grade is set
+/// last, over the whole sheet.
+fn grade_unit(table: &Table, unit: Unit, designated: Grade, stage: Stage, old: [i64; 4]) -> Row {
+    let plan = plan_in_force(stage, designated);
+    let defects = unit.defects();
+    let mut class_fails = [false; 4];
+    let mut cusums = [0; 4];
+    // "If that is Substandard there is no plan: each unit has defect grade Substandard."
+    if plan != SUBSTANDARD {
+        for class in 0..4 {
+            let numbers = table[usize::from(plan)][class];
+            (cusums[class], class_fails[class]) = step(old[class], defects[class], numbers);
+        }
+    }
+    // "Its defect grade is the grade of the plan in force if it meets."
+    let fails = class_fails.contains(&true);
+    let defect_grade = if fails { lower_grade(table, plan, defects) } else { plan };
+    // "A unit in step 3 qualifies if all its CuSums are zero (taken as so where there is no plan) and
+    // no count exceeds the designated T of its class."
+    let in_step_3 = matches!(stage, Stage::StepThree { .. });
+    let tolerances = table[usize::from(designated)].map(|class| class.t);
+    let within = (0..4).all(|class| defects[class] <= tolerances[class]);
+    Row {
+        unit,
+        plan,
+        class_fails,
+        cusums,
+        defect_grade,
+        qualifies: in_step_3 && cusums == [0; 4] && within,
+        standing: match (in_step_3, fails) {
+            (true, _) => IN_STEP_3,
+            (false, true) => FAILED,
+            (false, false) => MET,
+        },
+        // "The portion grade is the worse of defect grade and prerequisite grade."
+        portion_grade: defect_grade.max(unit.prerequisite),
+        code_grade: SUBSTANDARD,
+    }
+}
+
+/// "Raw value = old CuSum + ten times the count - T. If it is above L, the class fails and the CuSum
+/// becomes L. If it is below zero, the CuSum becomes 0. Otherwise it is the CuSum."
+fn step(old: i64, defects: i64, numbers: Numbers) -> (i64, bool) {
+    let raw = old + defects - numbers.t;
+    if raw > numbers.l {
+        (numbers.l, true)
+    } else if raw < 0 {
+        (0, false)
+    } else {
+        (raw, false)
+    }
+}
+
+/// "the best lower grade whose T+L is not exceeded by ten times the count in any class; it is
+/// Substandard exactly if no lower grade admits the counts": lower than the plan in force.
+fn lower_grade(table: &Table, plan: Grade, defects: [i64; 4]) -> Grade {
+    let admits = |grade: &Grade| {
+        let row = table[usize::from(*grade)];
+        (0..4).all(|class| defects[class] <= row[class].t + row[class].l)
+    };
+    (plan + 1..SUBSTANDARD).find(admits).unwrap_or(SUBSTANDARD)
+}

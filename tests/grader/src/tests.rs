@@ -1,0 +1,292 @@
+//! The sheets of paper 01 by hand, every refusal, the wrong readings, and random sheets.
+
+use crate::generate::{case, pair, table, Counts, PEACH};
+use crate::sheet::{Record, Sheet, Unit};
+use crate::{check, grade, grade_traced, print, print_checked, Answer};
+
+fn unit(code: u16, counts: [i64; 4]) -> Record {
+    Record::Unit(Unit { code, counts, prerequisite: 0, recoverable: true })
+}
+
+fn peach(records: Vec<Record>) -> Sheet {
+    Sheet { designated: 0, table: table(PEACH), records }
+}
+
+/// Grades, with the self check, recoverable units of major defects; S/T/L of major at A, B and C, the
+/// other classes being so wide that they neither fail nor hinder. The script lists counts (with a
+/// code behind "@", else 1, 2, ...), "|" for a break and A, B, C for redesignations. Returns for
+/// each unit "portion code standing plan", without spaces, and the CuSum.
+fn majors(designated: u8, grades: [[i64; 3]; 3], script: &str) -> String {
+    let tenths = grades.map(|major| [[0, 9_999, 0], [0, 9_999, 0], major, [0, 9_999, 0]]);
+    let mut draft = Sheet { designated, table: table(tenths), records: Vec::new() };
+    for word in script.split_whitespace() {
+        let next = draft.units() as u16 + 1;
+        draft.records.push(match word.split_once('@') {
+            _ if word == "|" => Record::Break,
+            _ if "ABC".contains(word) => Record::Redesignation(word.as_bytes()[0] - b'A'),
+            None => unit(next, [0, 0, word.parse().unwrap(), 0]),
+            Some((count, code)) => unit(code.parse().unwrap(), [0, 0, count.parse().unwrap(), 0]),
+        });
+    }
+    let short = |line: &str| {
+        let fields: Vec<&str> = line.split(' ').collect();
+        format!("{} {}", fields[2..6].concat(), fields[8])
+    };
+    let printed = print_checked(&draft.bytes(), true);
+    printed.lines().map(short).collect::<Vec<_>>().join(", ")
+}
+
+/// Units of the peach plan: code, counts, prerequisite, recoverable.
+fn peaches<const N: usize>(units: [(u16, [i64; 4], u8, u8); N]) -> Vec<u8> {
+    let records = units.map(|(code, counts, prerequisite, recoverable)| {
+        Record::Unit(Unit { code, counts, prerequisite, recoverable: recoverable == 1 })
+    });
+    peach(records.to_vec()).bytes()
+}
+
+/// Number, units and offset, with a buffer of `room` bytes, of which no other byte changes.
+fn answer(sheet: &[u8], room: usize) -> (u32, usize, usize) {
+    let mut results = vec![0xA5; room];
+    let Answer { number, units, offset } = grade(sheet, &mut results);
+    assert!(results[16 * units..].iter().all(|&byte| byte == 0xA5));
+    (number, units, offset)
+}
+
+#[test]
+fn peach_sheet() {
+    #[rustfmt::skip]
+    let sheet = peaches([
+        (1, [0, 1, 2, 4], 0, 0), (2, [0, 2, 4, 6], 0, 0), (3, [0, 1, 3, 3], 0, 0),
+        (4, [0, 0, 1, 5], 0, 1), (5, [0, 1, 2, 2], 0, 1), (5, [0, 1, 1, 2], 0, 0),
+        (7, [1, 0, 0, 0], 1, 0),
+    ]);
+    let expected = "1 1 A A m A 0.0 0.0 0.0 2.0\n2 2 B B f A 0.0 0.5 1.0 4.0\n\
+        3 3 B B f A 0.0 0.0 1.0 4.0\n4 4 A A r B 0.0 0.0 0.0 0.0\n5 5 A B r B 0.0 0.0 0.0 0.0\n\
+        6 5 B B u B 0.0 0.0 0.0 0.0\n7 7 B B m A 0.5 0.0 0.0 0.0\n";
+    assert_eq!(print_checked(&sheet, true), expected);
+    let mut results = [0xA5; 16 * 7 + 1];
+    assert_eq!(grade(&sheet, &mut results), Answer { number: 0, units: 7, offset: 75 + 7 * 14 });
+    assert_eq!(results[64..80], [0x47, 0x52, 0, 5, 0, 1, 1, 3, 0, 0, 0, 0, 0, 0, 0, 0]);
+    assert_eq!(results[112], 0xA5);
+}
+
+#[test]
+fn total_and_prerequisites() {
+    // Units 1 and 2 have a total of 18, above the 17 of B; their prerequisite S does not count for
+    // step 3. Unit 3 has a total of 7, above the 6 of A, and does not qualify. A recovered portion is
+    // no better than its prerequisite.
+    #[rustfmt::skip]
+    let sheet = peaches([
+        (1, [1, 1, 1, 15], 3, 0), (2, [1, 1, 1, 15], 3, 0), (3, [0, 0, 0, 7], 0, 1),
+        (4, [0, 0, 0, 6], 0, 1), (5, [0, 0, 0, 6], 1, 1), (6, [0, 0, 0, 6], 0, 0),
+    ]);
+    let expected = "1 1 S S f A 0.5 0.0 0.0 4.0\n2 2 S S f A 0.5 0.0 0.0 4.0\n\
+        3 3 C C u C 0.0 0.0 0.0 0.0\n4 4 A A r C 0.0 0.0 0.0 0.0\n5 5 B B r C 0.0 0.0 0.0 0.0\n\
+        6 6 C C u C 0.0 0.0 0.0 0.0\n";
+    assert_eq!(print_checked(&sheet, true), expected);
+}
+
+/// Legible examples of document 000: designated grade, S/T/L at A, B, C, script, CuSums (0 where
+/// there is no plan). Where only one row is printed it stands for all.
+#[test]
+fn examples_of_the_manual() {
+    #[rustfmt::skip]
+    let examples = [
+        // Computing, 1, 3, 4; step 1, 1 and 2.
+        (0, [[10, 40, 30]; 3], "3 4 0 8 2", "0.0 0.0 0.0 3.0 1.0"),
+        (0, [[3, 1, 9]; 3], "0 0 0 0 2", "0.2 0.1 0.0 0.0 0.9"),
+        (0, [[5, 15, 20]; 3], "0 2 1 3 3", "0.0 0.5 0.0 1.5 2.0"),
+        (0, [[2, 2, 8], [5, 5, 15], [5, 5, 15]], "0 1 0 0 0", "0.0 0.8 0.6 0.4 0.2"),
+        (1, [[10, 80, 30], [20, 120, 50], [20, 120, 50]], "10 14 0 16 10", "0.0 2.0 0.0 4.0 2.0"),
+        // Step 3, 2 and 4; step 4, 1 and 2.
+        (0, [[0, 5, 5], [4, 8, 16], [15, 15, 30]], "2 2 0 0 0 0", "0.5 0.5 0.0 0.0 0.0 0.0"),
+        (0, [[10, 80, 40], [20, 120, 50], [20, 170, 70]],
+         "9 8 14 28 10 8 8 6 9", "2.0 2.0 4.0 4.0 0.0 0.0 0.0 0.0 2.0"),
+        (0, [[20, 100, 50], [20, 140, 70], [30, 220, 90]],
+         "10 18 25 B 20 12 10 14 13 12", "2.0 5.0 5.0 1.0 0.0 0.0 0.0 1.0 0.0"),
+        (1, [[30, 220, 90], [40, 430, 120], [60, 840, 180]],
+         "20 10 22 A 20 20 0 25 20 22", "0.0 0.0 0.0 1.0 0.0 0.0 3.0 1.0 1.0"),
+        // Appendix 1, 1 and 3; appendix 2, 2 and 3; appendix 4, 1.
+        (0, [[20, 120, 50], [20, 170, 70], [30, 220, 90]],
+         "12 16 14 14 12 10 10 11 12", "2.0 5.0 5.0 0.0 0.0 0.0 0.0 1.0 1.0"),
+        (0, [[10, 60, 40], [20, 120, 50], [30, 180, 90]],
+         "8 10 18 B | 14 13 10 9", "3.0 4.0 4.0 0.0 0.0 0.0 0.0"),
+        (0, [[10, 80, 40], [20, 140, 70], [30, 220, 90]],
+         "10 10 5 8 25 5 8 7 35", "3.0 4.0 1.0 1.0 4.0 1.0 1.0 0.0 4.0"),
+        (0, [[10, 60, 40], [20, 120, 50], [30, 180, 90]],
+         "6 12 12 6 5 0 6 4 5", "1.0 4.0 4.0 0.0 0.0 0.0 1.0 0.0 0.0"),
+        (0, [[10, 30, 30], [10, 50, 30], [10, 60, 40]],
+         "3 3 3 6 6 3 2 3 2", "1.0 1.0 1.0 3.0 3.0 0.0 0.0 0.0 0.0"),
+    ];
+    for (designated, grades, script, expected) in examples {
+        let graded = majors(designated, grades, script);
+        let cusums: Vec<&str> = graded.split(", ").map(|unit| &unit[5..]).collect();
+        assert_eq!(cusums.join(" "), expected, "{script}");
+    }
+}
+
+#[test]
+fn p1_to_p9() {
+    // P1, P2: "1/3/3, counts 8,3,2,1,12: CuSums 3 (fails),3,2,0,3 (fails)"; "T+L at B 10 and at C 13:
+    // the 8 grades B, the 12 C". The wrong reading is to carry the raw value on after a failure.
+    let p1 = majors(0, [[10, 30, 30], [10, 60, 40], [10, 90, 40]], "8 3 2 1 12");
+    assert_eq!(p1, "BBfA 3.0, AAmA 3.0, AAmA 2.0, AAmA 0.0, CCfA 3.0");
+    // P3: "CuSum at L, count equal to T: stays L, meets"; S is equal to L.
+    assert_eq!(majors(0, [[30, 30, 30]; 3], "3 3"), "AAmA 3.0, AAmA 3.0");
+    // P4: "raw value L+0.1 fails"; L does not. P5: "raw -0.1 gives 0".
+    assert_eq!(majors(0, [[0, 9, 0]; 3], "1"), "SSfA 0.0");
+    assert_eq!(majors(0, [[0, 9, 1]; 3], "1"), "AAmA 0.1");
+    assert_eq!(majors(0, [[0, 1, 9]; 3], "0 1"), "AAmA 0.0, AAmA 0.9");
+    // P6: "0/0.5/0.5, counts 1,0,1: 0.5,0,0.5".
+    assert_eq!(majors(0, [[0, 5, 5]; 3], "1 0 1"), "AAmA 0.5, AAmA 0.0, AAmA 0.5");
+    // P7, P8: "1.5/1.5/3, counts 1,4,3: 1, 3 (fails), 3 (fails)"; "then 2,2,1,1,1 at lower plan 1/3/3
+    // are all zero; the last three qualify, since 2 is above 1.5". The wrong reading is to count the
+    // lower plan's T for recovery. The ninth unit is that of the manual's page 39.
+    let p8 = majors(1, [[10, 5, 20], [15, 15, 30], [10, 30, 30]], "1 4 3 2 2 1 1 1 1");
+    let (before, recovered) = ("BBmB 1.0, CCfB 3.0, CCfB 3.0, CCuC 0.0, CCuC 0.0", "BBrC 0.0");
+    assert_eq!(p8, format!("{before}, {recovered}, {recovered}, {recovered}, BBmB 1.0"));
+    // P9: "count 2,001 is refused with 8, 2,000 is not".
+    assert_eq!(answer(&peach(vec![unit(1, [0, 0, 2_001, 0])]).bytes(), 16), (8, 0, 75));
+    assert_eq!(answer(&peach(vec![unit(1, [2_000; 4])]).bytes(), 16), (0, 1, 89));
+}
+
+#[test]
+fn small_cases() {
+    let none = peach(Vec::new()).bytes();
+    assert_eq!(answer(&none[..74], 0), (1, 0, 0));
+    assert_eq!(answer(&none, 0), (0, 0, 75));
+    assert_eq!(print(&none), "");
+    let mut many = peach(Vec::new());
+    many.fill(1_000);
+    assert_eq!(answer(&many.bytes(), 16_000), (0, 1_000, 14_075));
+    many.records.push(unit(1, [2_001, 0, 0, 0]));
+    assert_eq!(answer(&many.bytes(), 16_000), (12, 0, 14_075));
+    assert_eq!(answer(&many.bytes()[..14_088], 16_000), (7, 0, 14_075));
+    let one = peach(vec![unit(1, [0; 4])]).bytes();
+    assert_eq!(answer(&one, 15), (13, 0, 89));
+    assert_eq!(answer(&one, 16), (0, 1, 89));
+    // A break between two failures: both fail, and step 3 does not begin.
+    let grades = [[10, 30, 30], [10, 60, 40], [10, 90, 40]];
+    assert_eq!(majors(0, grades, "8 | 8 0"), "BBfA 3.0, BBfA 3.0, AAmA 0.0");
+    assert_eq!(print(&[0; 65_537]), "refused 15 65536\n");
+    assert_eq!(print(&[0; 65_536]), "refused 1 0\n");
+    assert_eq!(print(&one[..88]), "refused 7 75\n");
+}
+
+#[test]
+fn in_step_3() {
+    let after = |script: &str| {
+        let graded = majors(0, [[0, 10, 10], [10, 30, 30], [20, 50, 50]], &format!("9 9 {script}"));
+        graded.strip_prefix("CCfA 1.0, CCfA 1.0, ").expect("two failures").to_string()
+    };
+    // B is better than C: step 3 and the CuSums are kept, the run is not, recovery is for B. Right
+    // after the second failure that is step 3 already. C is not better than C and ends step 3.
+    let recovered = "BBrC 0.0, BBrC 0.0, BBrC 0.0";
+    assert_eq!(after("1 1 B 3 3 3 4"), format!("CCuC 0.0, CCuC 0.0, {recovered}, BBmB 2.0"));
+    assert_eq!(after("B 5"), "CCuC 2.0");
+    assert_eq!(after("6 B 6"), "CCuC 3.0, CCuC 4.0");
+    assert_eq!(after("6 C 6"), "CCuC 3.0, CCmC 3.0");
+    // Right after the third qualifying unit a redesignation is outside step 3.
+    let recovered = "AArC 0.0, AArC 0.0, AArC 0.0";
+    assert_eq!(after("0 0 0 B 3"), format!("{recovered}, BBmB 1.0"));
+    // A break takes the CuSums to S and the run to none; a failure goes by grades lower than C.
+    assert_eq!(after("1 0 | 1 1 1 20"), format!("CCuC 0.0, CCuC 0.0, {recovered}, SSfA 1.0"));
+    assert_eq!(after("4 | 4 20 20"), "CCuC 1.0, CCuC 1.0, SSuC 5.0, SSuC 5.0");
+    // The worse of the two defect grades counts, whichever is first; a CuSum above zero hinders.
+    let grades = [[0, 10, 10], [30, 20, 30], [40, 20, 50]];
+    assert_eq!(majors(0, grades, "7 3 0"), "CCfA 1.0, BBfA 1.0, CCuC 2.0");
+    let expected = "BBfA 1.0, BBfA 1.0, BBuB 1.0, AArB 0.0, AArB 0.0, AArB 0.0, AAmA 0.0";
+    assert_eq!(majors(0, grades, "3 3 0 0 0 0 0"), expected);
+    // Without a plan every new grade is better than Substandard.
+    let graded = majors(0, [[0, 10, 10], [10, 30, 30], [20, 50, 50]], "9 99 C 6 5 5 5 3");
+    let recovered = "CCrS 0.0, CCrS 0.0, CCrS 0.0";
+    assert_eq!(graded, format!("CCfA 1.0, SSfA 1.0, SSuS 0.0, {recovered}, CCmC 0.0"));
+}
+
+#[test]
+fn every_refusal_with_its_offset() {
+    let base =
+        peach(vec![unit(1, [0; 4]), Record::Break, Record::Redesignation(1), unit(2, [0; 4])]);
+    let sheet = base.bytes();
+    assert_eq!(answer(&sheet, 32), (0, 2, 108));
+    // Bytes put at an offset, and the refusal's number and offset.
+    #[rustfmt::skip]
+    let cases: [(usize, &[u8], u32, usize); 24] = [
+        (0, &[0x51], 1, 0), (1, &[0x4D], 1, 0), (2, &[3], 2, 0),
+        (3, &[0x27, 0x10], 3, 0), (73, &[0x27, 0x10], 3, 0),
+        (3, &[0, 6], 4, 0), (3 + 66, &[0, 71], 4, 0),
+        (3 + 24 + 2, &[0, 4, 0, 20], 5, 0), (3 + 24 + 2, &[0, 5, 0, 4], 5, 0),
+        (3 + 48 + 18 + 2, &[0, 119, 0, 70], 5, 0),
+        (75, &[0x50, 0x4C], 6, 75), (89, &[0x42, 0x4C], 6, 89), (91, &[0x53, 0x44], 6, 91),
+        (79, &[7, 0xD1], 8, 75), (94 + 10, &[7, 0xD1], 8, 94),
+        (87, &[4], 9, 75), (94 + 13, &[2], 9, 94), (93, &[3], 10, 91), (93, &[0], 11, 91),
+        // The first row met, and the first record met.
+        (2, &[3, 0x27, 0x10], 2, 0), (3, &[0, 6, 0x27, 0x10], 3, 0), (3, &[0, 6, 0, 11], 4, 0),
+        (79, &[7, 0xD1, 0, 0, 0, 0, 0, 0, 9], 8, 75), (87, &[4, 1, 0, 0], 9, 75),
+    ];
+    for (at, bytes, number, offset) in cases {
+        let mut damaged = sheet.clone();
+        damaged[at..at + bytes.len()].copy_from_slice(bytes);
+        assert_eq!(answer(&damaged, 0), (number, 0, offset), "{bytes:?} at {at}");
+    }
+    let cuts = [(0, 1, 0), (76, 6, 75), (77, 7, 75), (88, 7, 75), (90, 6, 89), (93, 7, 91)];
+    for (length, number, offset) in cuts {
+        assert_eq!(answer(&sheet[..length], 32), (number, 0, offset), "length {length}");
+    }
+    assert_eq!(answer(&sheet, 31), (13, 0, 108));
+    // 11 goes by the grade designated just before, also with no unit between.
+    let twice = peach([1, 0, 0].map(Record::Redesignation).to_vec());
+    assert_eq!(answer(&twice.bytes(), 0), (11, 0, 81));
+}
+
+#[test]
+fn wrong_readings_are_not_taken() {
+    // Carrying the raw value on, see P1. Counting the lower plan's T for recovery, see P8.
+    // Recalculating a CuSum at the lower grade: from S 1 the 10 would fail B (1+10-6 is above 4).
+    let grades = [[10, 30, 30], [10, 60, 40], [10, 90, 40]];
+    assert_eq!(majors(0, grades, "10"), "BBfA 3.0");
+    // Requiring the same class to fail twice: severe, then major, begins step 3.
+    let records = vec![unit(1, [0, 5, 0, 0]), unit(2, [0, 0, 7, 0]), unit(3, [0; 4])];
+    assert!(print(&peach(records).bytes()).ends_with("3 3 B B u B 0.0 0.0 0.0 0.0\n"));
+    // Grading codes before recovery: code 3 of recovered portions alone is as good as they are, and
+    // code 1, shared with a failed portion far off, is not.
+    let recovered = "AArB 0.0, AArB 0.0, ABrB 0.0";
+    let expected = format!("BBfA 3.0, BBfA 3.0, {recovered}, AAmA 0.0");
+    assert_eq!(majors(0, grades, "8@1 8@2 0@3 0@3 0@1 0@4"), expected);
+}
+
+#[test]
+fn random_sheets() {
+    let mut counts = Counts::default();
+    for seed in 0..20_000 {
+        let case = case(seed);
+        let mut results = vec![0xA5; case.room];
+        let (answer, graded) = grade_traced(&case.sheet, &mut results, true);
+        if let Some(expected) = case.expected {
+            assert_eq!((answer.number, answer.offset), expected, "seed {seed}");
+        }
+        assert!(results[16 * answer.units..].iter().all(|&byte| byte == 0xA5), "seed {seed}");
+        counts.note(answer.number, graded.as_ref());
+    }
+    println!("{:#?}", counts.0);
+    assert_eq!(counts.0.iter().find(|(_, times)| **times == 0), None);
+}
+
+#[test]
+fn monotone_pairs() {
+    let (mut unequal, mut calm) = (0, 0);
+    for seed in 0..5_000 {
+        let (first, second) = pair(seed);
+        unequal += usize::from(first != second);
+        let [first, second] = [first, second].map(|sheet| {
+            let (_, graded) = grade_traced(&sheet, &mut [0; 16_000], true);
+            graded.unwrap_or_else(|| panic!("seed {seed}: refused"))
+        });
+        match check::monotone(&first, &second) {
+            Ok(never_two_in_a_row) => calm += usize::from(never_two_in_a_row),
+            Err(violated) => panic!("seed {seed}: {violated}"),
+        }
+    }
+    println!("5000 pairs, {unequal} unequal, {calm} with never two in a row in the second");
+    assert!(unequal > 2_000 && calm > 1_000 && calm < 4_500);
+}
