@@ -11,6 +11,10 @@ use Rattle.cusum.specs.declared.Stepped.{Stepped}
 abbrev pub tenthsOf : ℕ → ℕ
 tenthsOf count = 10 * count
 
+-- the most tenths that the two bytes of a result record hold
+abbrev pub largestTenths : ℕ
+largestTenths = 65535
+
 -- rule 1: every CuSum begins at the S of its own class and plan
 abbrev pub startOf : Limits → Cusum
 startOf limits = record { tenths = limits .start }

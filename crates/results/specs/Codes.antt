@@ -16,7 +16,7 @@ ungraded = 255
 unfoldable pub portionIf : List ℕ → ℕ → ℕ → ℕ
 portionIf results code j = cond (eqb (codeIn results j) code) (portionIn results j) 0
 
--- the worst portion grade among the first n records with this code
+-- the worst portion grade among those of the first n records that have this code
 unfoldable pub worstIn : List ℕ → ℕ → ℕ → ℕ
 worstIn results code zero = 0
 worstIn results code (suc n) = worse (worstIn results code n) (portionIf results code n)

@@ -169,3 +169,55 @@ module _ (sheet : Sheet) (i : ℕ) where
       go false e true f c g = absurd (no (i + 1) f (inr (inl (omega arith))))
       go false e false f true g = absurd (no (i + 2) g (inr (inr (omega arith))))
       go false e false f false g = refl
+
+-- ---- 'recovered' is what the paper says
+
+-- record i is one of the records of a finished run
+pub record InRun (sheet : Sheet) (i : ℕ) : Type 0 where
+  pub last : ℕ
+  pub run : FinishedRun sheet last
+  pub ends : stepThreeEnds sheet last ≡ true
+  pub from : run .start ≤ i
+  pub to : i ≤ last
+
+module _ (sheet : Sheet) (i : ℕ) where
+  run-at : (j : ℕ) → stepThreeEnds sheet j ≡ true → i ≤ j → j ≤ i + 2 → InRun sheet i
+  run-at j e h k =
+      let run = finished-run sheet j e in
+      record { last = j; run = run; ends = e; from = omega (arith, run .ends-here); to = h }
+
+  -- the definition's three places are the three records of a finished run
+  pub in-run : inFinishedRun sheet i ≡ true → InRun sheet i
+  unfolding inFinishedRun
+  in-run e = go (stepThreeEnds sheet i) refl (stepThreeEnds sheet (i + 1)) refl (stepThreeEnds sheet (i + 2)) refl e
+    where
+      go : (a : Bool) → stepThreeEnds sheet i ≡ a → (b : Bool) → stepThreeEnds sheet (i + 1) ≡ b → (c : Bool) → stepThreeEnds sheet (i + 2) ≡ c → (a || (b || c)) ≡ true → InRun sheet i
+      go true e b f c g h = run-at i e (omega arith) (omega arith)
+      go false e true f c g h = run-at (i + 1) f (omega arith) (omega arith)
+      go false e false f true g h = run-at (i + 2) g (omega arith) (omega arith)
+      go false e false f false g h = absurd (false≢true h)
+
+  -- and every record of a finished run is at one of the three
+  pub run-in : InRun sheet i → inFinishedRun sheet i ≡ true
+  unfolding inFinishedRun
+  run-in r = go (leb (r .last) i) refl (leb (r .last) (i + 1)) refl
+    where
+      true-or : (a b : Bool) → a ≡ true → (a || b) ≡ true
+      true-or true b e = refl
+      true-or false b e = absurd (false≢true e)
+
+      or-true : (a b : Bool) → b ≡ true → (a || b) ≡ true
+      or-true true b e = refl
+      or-true false b e = e
+
+      go : (s : Bool) → leb (r .last) i ≡ s → (t : Bool) → leb (r .last) (i + 1) ≡ t
+          → (stepThreeEnds sheet i || (stepThreeEnds sheet (i + 1) || stepThreeEnds sheet (i + 2))) ≡ true
+      go true p t q =
+          let e : r .last ≡ i = omega (arith, leb-true (r .last) i p, r .to) in
+          true-or (stepThreeEnds sheet i) _ (sym (ap (stepThreeEnds sheet) e) ∙ r .ends)
+      go false p true q =
+          let e : r .last ≡ i + 1 = omega (arith, leb-false (r .last) i p, leb-true (r .last) (i + 1) q) in
+          or-true (stepThreeEnds sheet i) _ (true-or (stepThreeEnds sheet (i + 1)) _ (sym (ap (stepThreeEnds sheet) e) ∙ r .ends))
+      go false p false q =
+          let e : r .last ≡ i + 2 = omega (arith, leb-false (r .last) (i + 1) q, r .run .ends-here, r .from) in
+          or-true (stepThreeEnds sheet i) _ (or-true (stepThreeEnds sheet (i + 1)) _ (sym (ap (stepThreeEnds sheet) e) ∙ r .ends))

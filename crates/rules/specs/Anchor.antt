@@ -39,7 +39,8 @@ module _ (sheet : Sheet) where
   countsFrom class from (suc n) = countsFrom class from n ++ countAt class (sheet .entry (from + n))
 
 -- an anchor of the class for the unit that is record i, right before record `from`: S at the opening of the sheet or at a restart
--- before the unit, L (true) at a failing unit, this one included. A restart that a failing unit brings about comes after it
+-- before the unit, L (true) at a failing unit, this one included. A restart that a failing unit brings about comes after
+-- it, so that such a unit is an anchor for itself alone
 pub data Anchor (sheet : Sheet) (class i : ℕ) : ℕ → Bool → Type 0 where
   opening : Anchor sheet class i 0 false
   restart : (j : ℕ) → j < i → restartAt sheet j ≡ true → Anchor sheet class i (suc j) false

@@ -13,7 +13,8 @@ use Rattle.rules.specs.declared.Phase.{Phase}
 use Rattle.rules.specs.declared.Phase.the-variants.{Designated, StepThree}
 use Rattle.rules.specs.declared.State.{State}
 
--- the plan's table, the grade designated at the opening, the records after the plan from number 0 on, and how many there are
+-- the plan's table, the grade designated at the opening, the records after the plan from number 0 on, and how many there are.
+-- Behind the last record stand breaks (law `past-entry`): recovery looks two records ahead, and there ends nothing
 pub record Sheet : Type 0 where
   pub table : Table
   pub designated : ℕ
@@ -37,7 +38,7 @@ module _ (sheet : Sheet) where
   before zero = opening (sheet .table) (sheet .designated)
   before (suc i) = next (sheet .table) (before i) (sheet .entry i)
 
-  -- the grade designated just before record i, and that of the plan in force for it
+  -- the grade designated just before record i (law `designated-before`: the refusals use the same), and that of the plan in force
   abbrev pub designatedBefore : ℕ → ℕ
   designatedBefore i = designatedIn (before i .phase)
 
@@ -52,8 +53,8 @@ module _ (sheet : Sheet) where
   unfoldable pub stepThreeEnds : ℕ → Bool
   stepThreeEnds i = endsAt (sheet .table) (before i) (sheet .entry i)
 
-  -- record i is one of the three units in a row at whose last step 3 ends. They are records i to i + 2 side by side, since every
-  -- other record sets the run to none (law `finished-run`)
+  -- record i is one of the three qualifying units in a row at whose last step 3 ends: that last one is record i, i + 1 or i + 2, as
+  -- the three stand side by side, every other record setting the run to none (laws `finished-run`, `in-run` and `run-in`)
   unfoldable pub inFinishedRun : ℕ → Bool
   inFinishedRun i = stepThreeEnds i || (stepThreeEnds (i + 1) || stepThreeEnds (i + 2))
 

@@ -49,7 +49,7 @@ unfoldable pub afterStepThree : ℕ → ℕ → ℕ → Bool → Phase
 afterStepThree designated lower run true = pick (leb 2 run) (Designated designated NoFailure) (StepThree designated lower (run + 1))
 afterStepThree designated lower run false = StepThree designated lower 0
 
--- a unit
+-- a unit, graded under the plan in force
 unfoldable pub phaseAfterUnit : Phase → Grading → Phase
 phaseAfterUnit (Designated designated previous) grading = afterDesignated designated previous (grading .fails) (grading .grade)
 phaseAfterUnit (StepThree designated lower run) grading = afterStepThree designated lower run (grading .qualifies)
@@ -65,19 +65,22 @@ unfoldable pub phaseAfterBreak : Phase → Phase
 phaseAfterBreak (Designated designated previous) = Designated designated NoFailure
 phaseAfterBreak (StepThree designated lower run) = StepThree designated lower 0
 
--- the restarts are a break, the start of step 3, its end, and every redesignation but one that keeps the CuSums
+-- step 3 ends at a unit
 unfoldable pub unitEndsStepThree : Phase → Grading → Bool
 unitEndsStepThree (Designated designated previous) grading = false
 unitEndsStepThree (StepThree designated lower run) grading = endsStepThree run (grading .qualifies)
 
+-- step 3 begins behind a unit
 unfoldable pub unitStartsStepThree : Phase → Grading → Bool
 unitStartsStepThree (Designated designated NoFailure) grading = false
 unitStartsStepThree (Designated designated (Failure earlier)) grading = grading .fails
 unitStartsStepThree (StepThree designated lower run) grading = false
 
+-- the restarts that a unit brings about: the start of step 3, and its end
 unfoldable pub unitRestarts : Phase → Grading → Bool
 unitRestarts phase grading = unitEndsStepThree phase grading || unitStartsStepThree phase grading
 
+-- every redesignation restarts but one that keeps the CuSums
 unfoldable pub redesignationRestarts : Phase → ℕ → Bool
 redesignationRestarts (Designated designated previous) new = true
 redesignationRestarts (StepThree designated lower run) new = not (ltb new lower)
@@ -105,7 +108,8 @@ module _ (table : Table) where
   endsAt state (Redesignation new) = false
   endsAt state Break = false
 
-  -- this record brings about a restart, which comes after it
+  -- the restarts are a break, the start of step 3, its end, and every redesignation but one that keeps the CuSums; a restart that a
+  -- unit brings about comes after that unit's record
   unfoldable pub restarts : State → Entry → Bool
   restarts state (SampleUnit unit) = unitRestarts (state .phase) (graded state unit)
   restarts state (Redesignation new) = redesignationRestarts (state .phase) new

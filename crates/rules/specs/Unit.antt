@@ -14,7 +14,7 @@ use Rattle.rules.specs.declared.SteppedClasses.{SteppedClasses}
 unfoldable pub starting : List Limits → List Cusum
 starting row = map (λ class. startOf (inClass row class)) classes
 
--- rule 2 in every class of a plan: the new CuSums, and whether a class fails
+-- rule 2 in every class of one plan at once, as the code steps them: the new CuSums, and whether a class fails
 unfoldable pub steppedIn : List Limits → List Cusum → List ℕ → SteppedClasses
 steppedIn row cusums counts =
     record {
@@ -60,11 +60,12 @@ module _ (table : Table) where
       (cond (ltb grade 2 && admits (rowOf table 2) counts) 2
       substandard)
 
-  -- the grade of the plan in force if the unit meets it
+  -- the grade of the plan in force if the unit meets it, else the best lower grade; where there is no plan, Substandard
   unfoldable pub defectGrade : ℕ → List Cusum → List ℕ → ℕ
   defectGrade grade cusums counts = cond (unitFails grade cusums counts) (bestLower grade counts) grade
 
-  -- a unit qualifies if all its CuSums are zero and no count exceeds the designated T of its class
+  -- a unit in step 3 qualifies if all its CuSums are zero (so they are where there is no plan) and no count exceeds the designated T
+  -- of its class
   unfoldable pub qualifies : ℕ → ℕ → List Cusum → List ℕ → Bool
   qualifies designated grade cusums counts =
       allZero (newCusums grade cusums counts) && withinTolerance (rowOf table designated) counts

@@ -56,10 +56,11 @@ inClass row class = getD row class noLimits
 abbrev pub limitsOf : Table → ℕ → ℕ → Limits
 limitsOf table grade class = inClass (rowOf table grade) class
 
--- the table of a plan that holds its cells one after the other, grade by grade and in each class by class
+-- a plan holds the cells of its table one after the other, grade by grade and in each class by class
 abbrev pub cellOf : Plan → ℕ → Limits
 cellOf plan cell = getD (plan .limits) cell noLimits
 
+-- the table of a plan
 abbrev pub tableOf : Plan → Table
 tableOf plan =
     (cellOf plan 0 ∷ cellOf plan 1 ∷ cellOf plan 2 ∷ cellOf plan 3 ∷ [])
@@ -76,9 +77,9 @@ countsOf unit =
 abbrev pub countIn : List ℕ → ℕ → ℕ
 countIn counts class = getD counts class 0
 
--- the CuSum of a class, in tenths
 abbrev pub zeroCusum : Cusum
 zeroCusum = record { tenths = 0 }
 
+-- the CuSum of a class, in tenths
 abbrev pub tenthsIn : List Cusum → ℕ → ℕ
 tenthsIn cusums class = getD cusums class zeroCusum .tenths

@@ -9,7 +9,7 @@ use lib.Dec.{ltb, lit<}
 use lib.ListN.{length}
 use borrow.Author.Tests.{ltb-false}
 use Rattle.sheet.specs.Layout.{markSize, planSize, unitSize, redesignationSize, markAt, sizeOf}
-use Rattle.sheet.specs.Refusals.{row, noPlan, planRefusal, unitRefusal, redesignationRefusal, refusalBy, refusalAt}
+use Rattle.sheet.specs.Refusals.{row, noPlanRecord, planRefusal, unitRefusal, redesignationRefusal, refusalBy, refusalAt}
 use Rattle.sheet.specs.declared.Mark.{Mark}
 use Rattle.sheet.specs.declared.Mark.the-variants.{UnitMark, RedesignationMark, BreakMark, NoMark}
 
@@ -30,9 +30,9 @@ row-passed false number rest positive e = (refl, e)
 
 -- a plan that is not refused is whole
 pub plan-whole : (bytes : List ℕ) → planRefusal bytes ≡ 0 → planSize ≤ length bytes
-unfolding planRefusal noPlan
+unfolding planRefusal noPlanRecord
 plan-whole bytes e =
-    ltb-false (length bytes) planSize (or-first _ _ (row-passed (noPlan bytes) 1 _ (lit< tt) e .0))
+    ltb-false (length bytes) planSize (or-first _ _ (row-passed (noPlanRecord bytes) 1 _ (lit< tt) e .0))
 
 whole-by : (bytes : List ℕ) (at units designated : ℕ) (m : Mark) → at + markSize ≤ length bytes
     → refusalBy bytes at units designated m ≡ 0 → at + sizeOf m ≤ length bytes

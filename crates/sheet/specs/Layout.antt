@@ -38,12 +38,15 @@ unitSize = 14
 abbrev pub codeOffset : ℕ
 codeOffset = 2
 
+-- the counts by kind: critical, severe, major, minor
+abbrev pub kinds : ℕ
+kinds = 4
+
 abbrev pub countsOffset : ℕ
 countsOffset = 4
 
--- how many counts a unit lists: critical, severe, major, minor
-abbrev pub kinds : ℕ
-kinds = 4
+abbrev pub countOffset : ℕ → ℕ
+countOffset kind = countsOffset + 2 * kind
 
 abbrev pub prerequisiteOffset : ℕ
 prerequisiteOffset = 12
@@ -96,10 +99,10 @@ unfoldable pub sampleAt : List ℕ → ℕ → Sample
 sampleAt bytes at =
     record {
       code = number bytes (at + codeOffset);
-      critical = number bytes (at + 4);
-      severe = number bytes (at + 6);
-      major = number bytes (at + 8);
-      minor = number bytes (at + 10);
+      critical = number bytes (at + countOffset 0);
+      severe = number bytes (at + countOffset 1);
+      major = number bytes (at + countOffset 2);
+      minor = number bytes (at + countOffset 3);
       prerequisite = byte bytes (at + prerequisiteOffset);
       recoverable = eqb (byte bytes (at + recoverableOffset)) 1;
     }
@@ -123,18 +126,19 @@ mark bytes i = markAt bytes (offset bytes i)
 unfoldable pub entryAt : List ℕ → ℕ → Entry
 entryAt bytes i = entryOf bytes (offset bytes i) (mark bytes i)
 
--- how many sample units stand before record i
+-- a record counts as one sample unit, or none
 unfoldable pub unitOf : Mark → ℕ
 unitOf UnitMark = 1
 unitOf RedesignationMark = 0
 unitOf BreakMark = 0
 unitOf NoMark = 0
 
+-- how many sample units stand before record i
 unfoldable pub unitsBefore : List ℕ → ℕ → ℕ
 unitsBefore bytes zero = 0
 unitsBefore bytes (suc i) = unitsBefore bytes i + unitOf (mark bytes i)
 
--- the sheet with its first n records, as the rules grade it
+-- the sheet as the rules grade it, with so many records
 unfoldable pub sheetOf : List ℕ → ℕ → Sheet
 sheetOf bytes n =
     record { table = tableOf (planOf bytes); designated = planOf bytes .designated; entry = entryAt bytes; size = n }

@@ -42,8 +42,8 @@ unfoldable pub anyLimits : (Limits → Bool) → Table → Bool
 anyLimits condition table = any (λ grade. anyClass condition (rowOf table grade)) (0 ∷ 1 ∷ 2 ∷ [])
 
 -- 1: shorter than 75 bytes, or first mark not 50 4C
-unfoldable pub noPlan : List ℕ → Bool
-noPlan bytes = ltb (length bytes) planSize || not (eqb (number bytes 0) 0x504C)
+unfoldable pub noPlanRecord : List ℕ → Bool
+noPlanRecord bytes = ltb (length bytes) planSize || not (eqb (number bytes 0) 0x504C)
 
 -- 3: an S, T or L above 9,999
 unfoldable pub tooLarge : Limits → Bool
@@ -71,7 +71,7 @@ tableRefusal table =
 
 unfoldable pub planRefusal : List ℕ → ℕ
 planRefusal bytes =
-    row (noPlan bytes) 1
+    row (noPlanRecord bytes) 1
     (row (ltb 2 (byte bytes 2)) 2
     (tableRefusal (tableOf (planOf bytes))))
 
@@ -108,17 +108,18 @@ refusalBy bytes at units designated RedesignationMark = redesignationRefusal byt
 refusalBy bytes at units designated BreakMark = 0
 refusalBy bytes at units designated NoMark = 6
 
--- 6: one byte left
+-- 6: one byte left (with none left there is no record)
 unfoldable pub refusalAt : List ℕ → ℕ → ℕ → ℕ → ℕ
 refusalAt bytes at units designated =
     row (ltb (length bytes) (at + markSize)) 6 (refusalBy bytes at units designated (markAt bytes at))
 
--- the grade designated just before record i
+-- the grade designated behind a record
 unfoldable pub designatedBy : ℕ → Entry → ℕ
 designatedBy designated (SampleUnit unit) = designated
 designatedBy designated (Redesignation new) = new
 designatedBy designated Break = designated
 
+-- the grade designated just before record i, told without grading (law `designated-before`: the grading has the same)
 unfoldable pub designatedBefore : List ℕ → ℕ → ℕ
 designatedBefore bytes zero = planOf bytes .designated
 designatedBefore bytes (suc i) = designatedBy (designatedBefore bytes i) (entryAt bytes i)

@@ -7,6 +7,7 @@ use mathlib.Core.List.{List, _++_}
 use native.Mathlib.Omega.{arith}
 use lib.Dec.{ltb}
 use lib.ListN.{length, drop, length-append, length-drop}
+use lib.Seq.{drop-at}
 use borrow.Author.Tests.{ltb-false}
 use Rattle.rules.specs.StepThree.{pick}
 use Rattle.rules.specs.Sheet.{codeGrade}
@@ -123,3 +124,16 @@ refused-untouched bytes buffer answer results promise other =
     let number-same = ap (λ (given : Outcome). given .answer .number) promise in
     let (buffer-same, units-zero) = refused-by bytes buffer (verdict bytes) (λ e. other (number-same ∙ e)) in
     (ap (λ (given : Outcome). given .buffer) promise ∙ buffer-same, ap (λ (given : Outcome). given .answer .units) promise ∙ units-zero)
+
+-- an accepted sheet changes only its result records: they fill exactly 16 times the units, and the bytes behind them are as before
+pub rest-untouched : (bytes buffer : List ℕ) (answer : Answer) (results : List ℕ)
+    → AcceptedAs bytes buffer answer results → drop (resultSize * answer .units) results ≡ drop (resultSize * answer .units) buffer
+unfolding sheetIn
+rest-untouched bytes buffer answer results graded =
+    let sheet = accepted-sheet bytes buffer answer results graded in
+    let n = resultSize * unitsBefore bytes (recordsIn bytes) in
+    let same : resultSize * answer .units ≡ n = ap (λ (u : ℕ). resultSize * u) (sheet .answered-units) in
+    let records = written (codeGrade (sheetIn bytes)) (sheetIn bytes) (recordsIn bytes) in
+    rw same
+    (ap (drop n) (sheet .filled)
+    ∙ drop-at records (drop n buffer) n (length-written (codeGrade (sheetIn bytes)) bytes (recordsIn bytes) (recordsIn bytes)))

@@ -16,7 +16,7 @@ use Rattle.rules.specs.Unit.{starting, classFails, classCusum, newCusums, unitF
 use Rattle.rules.specs.StepThree.{designatedIn, inForce, pick, opening, graded}
 use Rattle.rules.specs.Sheet.{standingOf, portionOf, before, recovered, portion, standing, portionWith, worstBefore, codeGrade}
 use Rattle.sheet.specs.Layout.{countsOffset, planOf, markOf, markAt, sizeOf, sampleAt, entryOf, offset, mark, entryAt, unitOf, unitsBefore, sheetOf}
-use Rattle.sheet.specs.Refusals.{row, anyClass, anyLimits, noPlan, tooLarge, startsAbove, smaller, anySmaller, tableRefusal, planRefusal, countTooLarge, unitRefusal, refusalBy, refusalAt, recordRefusal, checkFrom, verdict}
+use Rattle.sheet.specs.Refusals.{row, anyClass, anyLimits, noPlanRecord, tooLarge, startsAbove, smaller, anySmaller, tableRefusal, planRefusal, countTooLarge, unitRefusal, refusalBy, refusalAt, recordRefusal, checkFrom, verdict}
 use Rattle.sheet.specs.declared.Mark.the-variants.{UnitMark, RedesignationMark}
 use Rattle.results.specs.Record.{cusumBytes, resultBytes}
 use Rattle.tally.specs.declared.Answer.{Answer}
@@ -57,7 +57,7 @@ oneCriticalResult = 71 ∷ 82 ∷ 0 ∷ 1 ∷ 0 ∷ 0 ∷ 0 ∷ 0 ∷ 0 ∷ 5 �
 outcomes : (_≡_ {A = Outcome} (record { answer = oneUnit; buffer = noDefectsResult }) (outcome noDefects emptyBuffer))
     × (_≡_ {A = Outcome} (record { answer = oneUnit; buffer = oneCriticalResult }) (outcome oneCritical emptyBuffer))
     × (recordsIn noDefects ≡ 1)
-unfolding noDefects oneCritical rawValue aboveLimit cusumOf fails newCusum hasPlan any starting classFails classCusum newCusums unitFails defectGrade designatedIn inForce pick opening graded standingOf portionOf before recovered portion standing portionWith worstBefore codeGrade planOf markOf markAt sizeOf sampleAt entryOf offset entryAt unitOf unitsBefore sheetOf row anyClass anyLimits noPlan tooLarge startsAbove smaller anySmaller tableRefusal planRefusal countTooLarge unitRefusal refusalBy refusalAt recordRefusal checkFrom verdict cusumBytes resultBytes resultOf bytesBy written anyTooLarge overfullBy overfullBefore acceptance outcomeBy outcome recordsOf recordsIn
+unfolding noDefects oneCritical rawValue aboveLimit cusumOf fails newCusum hasPlan any starting classFails classCusum newCusums unitFails defectGrade designatedIn inForce pick opening graded standingOf portionOf before recovered portion standing portionWith worstBefore codeGrade planOf markOf markAt sizeOf sampleAt entryOf offset entryAt unitOf unitsBefore sheetOf row anyClass anyLimits noPlanRecord tooLarge startsAbove smaller anySmaller tableRefusal planRefusal countTooLarge unitRefusal refusalBy refusalAt recordRefusal checkFrom verdict cusumBytes resultBytes resultOf bytesBy written anyTooLarge overfullBy overfullBefore acceptance outcomeBy outcome recordsOf recordsIn
 outcomes = (refl, refl, refl)
 
 pub no-defects-accepted : AcceptedAs noDefects emptyBuffer oneUnit noDefectsResult

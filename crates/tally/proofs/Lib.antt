@@ -10,3 +10,4 @@ pub mod FirstHalf
 pub mod AlikeSheets
 pub mod SecondHalf
 pub mod AlikeExample
+pub mod WorkedCases

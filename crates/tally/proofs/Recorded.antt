@@ -11,6 +11,7 @@ use lib.Dec.{ltb, leb}
 use lib.ListN.{length, drop}
 use borrow.Author.Tests.{ltb-false, leb-true, leb-false}
 use Rattle.cusum.specs.declared.Cusum.{Cusum}
+use Rattle.cusum.specs.Step.{largestTenths}
 use Rattle.encoding.specs.Bytes.{byte, number}
 use Rattle.rules.specs.Words.{substandard, classes, any, tenthsIn, countsOf}
 use Rattle.rules.specs.Unit.{classCusum, newCusums}
@@ -31,8 +32,8 @@ use Rattle.sheet.proofs.Ranges.{designated-le, unit-in-range, new-grade-le}
 use Rattle.results.specs.Record.{resultSize, resultBytes, portionOffset, codeGradeOffset, cusumsOffset}
 use Rattle.results.proofs.Fields.{portion-read, code-grade-read, cusum-read}
 use Rattle.tally.specs.declared.Answer.{Answer}
-use Rattle.tally.specs.Outcome.{resultOf, largestTenths, anyTooLarge, overfullBy, overfullBefore}
-use Rattle.tally.specs.Demand3.{AcceptedAs, recordsIn, sheetIn, UnitAt, recordedCusum, recordedPortion, recordedCodeGrade, limitsAt}
+use Rattle.tally.specs.Outcome.{resultOf, anyTooLarge, overfullBy, overfullBefore}
+use Rattle.tally.specs.Demand3.{AcceptedAs, recordsIn, sheetIn, UnitAt, recordedCusum, recordedPortion, recordedCodeGrade, limitsInForce}
 use Rattle.tally.proofs.Written.{byte-of-record, number-of-record}
 use Rattle.tally.proofs.AcceptedSheet.{AcceptedSheet, accepted-sheet}
 
@@ -177,7 +178,7 @@ module _ (bytes buffer : List ℕ) (answer : Answer) (results : List ℕ) (accep
 
     -- ---- bounds
 
-    pub recorded-cusum-le : (class : ℕ) → class < length classes → recordedCusum bytes results i class ≤ limitsAt bytes i class .limit
+    pub recorded-cusum-le : (class : ℕ) → class < length classes → recordedCusum bytes results i class ≤ limitsInForce bytes i class .limit
     recorded-cusum-le class h =
         rw (recorded-cusum class h)
         (class-cusum-le (sheetIn bytes .table) (inForceAt (sheetIn bytes) i) (before (sheetIn bytes) i .cusums) (countsOf unit) class)

@@ -12,7 +12,7 @@ use Rattle.rules.specs.Words.{classes, hasPlan, limitsOf}
 use Rattle.rules.specs.Sheet.{Sheet, inForceAt}
 use Rattle.rules.specs.Anchor.{failureAt, countsFrom, Anchor, Latest, anchorValue}
 use Rattle.rules.specs.TwoInARow.{secondInARow}
-use Rattle.sheet.specs.Layout.{countsOffset, kinds, prerequisiteOffset, offset, mark, unitsBefore, sheetOf}
+use Rattle.sheet.specs.Layout.{countsOffset, countOffset, kinds, prerequisiteOffset, offset, mark, unitsBefore, sheetOf}
 use Rattle.sheet.specs.Refusals.{verdict}
 use Rattle.sheet.specs.declared.Mark.the-variants.{UnitMark, RedesignationMark}
 use Rattle.sheet.specs.declared.Verdict.{Verdict}
@@ -56,8 +56,8 @@ abbrev pub recordedCodeGrade : List ℕ → List ℕ → ℕ → ℕ
 recordedCodeGrade bytes results i = codeGradeIn results (unitsBefore bytes i)
 
 -- S, T and L of the class in the plan in force for the unit that is record i
-abbrev pub limitsAt : List ℕ → ℕ → ℕ → Limits
-limitsAt bytes i class = limitsOf (sheetIn bytes .table) (inForceAt (sheetIn bytes) i) class
+abbrev pub limitsInForce : List ℕ → ℕ → ℕ → Limits
+limitsInForce bytes i class = limitsOf (sheetIn bytes .table) (inForceAt (sheetIn bytes) i) class
 
 -- ---- the first half
 
@@ -70,15 +70,15 @@ pub record AnchorAt (bytes : List ℕ) (i class : ℕ) : Type 0 where
   pub lies : Anchor (sheetIn bytes) class i from failed
   pub latest : Latest (sheetIn bytes) class i from
 
--- for every accepted sheet, at any unit that has a plan in force, for every class: there is such an anchor, and with any such anchor
--- the recorded CuSum is the largest of zero, the anchor plus the sum of defects less T since it, and every such sum, without the
--- anchor, over a run of units that starts after the anchor and ends with this unit
+-- there is such an anchor, and with any such anchor the recorded CuSum is the largest of zero, the anchor plus the sum of defects less
+-- T since it, and every such sum, without the anchor, over a run of units that starts after the anchor and ends with this unit
 pub record FirstHalf (bytes results : List ℕ) (i class : ℕ) : Type 0 where
   pub an-anchor : AnchorAt bytes i class
   pub largest-of : (anchor : AnchorAt bytes i class) →
       pos (recordedCusum bytes results i class)
-      ≡ largestForm (limitsAt bytes i class) (anchorValue (limitsAt bytes i class) (anchor .failed)) (countsFrom (sheetIn bytes) class (anchor .from) (anchor .n))
+      ≡ largestForm (limitsInForce bytes i class) (anchorValue (limitsInForce bytes i class) (anchor .failed)) (countsFrom (sheetIn bytes) class (anchor .from) (anchor .n))
 
+-- for every accepted sheet, whatever it lists: at any unit that has a plan in force, for every class
 abbrev pub Demand3First : Type 0
 Demand3First =
     (bytes buffer : List ℕ) (answer : Answer) (results : List ℕ) → AcceptedAs bytes buffer answer results
@@ -94,7 +94,8 @@ pub record InCount (bytes : List ℕ) (at : ℕ) : Type 0 where
   pub from : offset bytes i + countsOffset ≤ at
   pub to : at < offset bytes i + prerequisiteOffset
 
--- two sheets are alike if they have the same length and the same bytes outside the counts
+-- two sheets are alike if they have the same length and the same bytes outside the counts (the counts lie at the same places in both,
+-- since marks lie outside them)
 pub record Alike (bytes bytes' : List ℕ) : Type 0 where
   pub same-length : length bytes ≡ length bytes'
   pub same-bytes : (at : ℕ) → (InCount bytes at → ⊥) → byte bytes at ≡ byte bytes' at
@@ -105,7 +106,7 @@ pub record FewerDefects (bytes bytes' buffer buffer' : List ℕ) (answer answer'
   pub second : AcceptedAs bytes' buffer' answer' results'
   pub alike : Alike bytes bytes'
   pub no-more : (i kind : ℕ) → UnitAt bytes i → kind < kinds
-      → number bytes (offset bytes i + (countsOffset + 2 * kind)) ≤ number bytes' (offset bytes i + (countsOffset + 2 * kind))
+      → number bytes (offset bytes i + countOffset kind) ≤ number bytes' (offset bytes i + countOffset kind)
   pub no-redesignation : (i : ℕ) → i < recordsIn bytes → mark bytes i ≡ RedesignationMark → ⊥
 
 -- at the unit that is record i no CuSum in the first is higher, and no class fails that does not fail in the second
@@ -126,6 +127,7 @@ pub record SecondHalf (bytes bytes' results results' : List ℕ) : Type 0 where
   pub never-two-in-a-row : ((j : ℕ) → j < recordsIn bytes' → secondInARow (sheetIn bytes') j ≡ false)
       → (i : ℕ) → UnitAt bytes i → NoLowerAt bytes bytes' results results' i
 
+-- for every two accepted sheets alike except that the first has no more defects
 abbrev pub Demand3Second : Type 0
 Demand3Second =
     (bytes bytes' buffer buffer' : List ℕ) (answer answer' : Answer) (results results' : List ℕ)

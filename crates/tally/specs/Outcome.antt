@@ -5,6 +5,7 @@ use mathlib.Core.List.{List, [], _++_}
 use lib.Dec.{ltb}
 use lib.ListN.{length, drop}
 use Rattle.cusum.specs.declared.Cusum.{Cusum}
+use Rattle.cusum.specs.Step.{largestTenths}
 use Rattle.rules.specs.Words.{classes, any, tenthsIn}
 use Rattle.rules.specs.StepThree.{pick}
 use Rattle.rules.specs.Sheet.{Sheet, before, inForceAt, gradedAt, portion, standing, codeGrade}
@@ -45,10 +46,6 @@ written grades sheet (suc n) = written grades sheet n ++ bytesBy grades sheet n 
 
 -- ---- number 14
 
--- the most tenths that two bytes hold
-abbrev pub largestTenths : ℕ
-largestTenths = 65535
-
 -- a CuSum too large for two bytes
 unfoldable pub anyTooLarge : List Cusum → Bool
 anyTooLarge cusums = any (λ class. ltb largestTenths (tenthsIn cusums class)) classes
@@ -82,7 +79,7 @@ acceptance bytes buffer records units =
       buffer = written (codeGrade (sheetOf bytes records)) (sheetOf bytes records) records ++ drop (resultSize * units) buffer;
     }
 
--- 1 to 12 by the check of the sheet; then 13, a buffer shorter than 16 times the units; then 14; both at the sheet's length
+-- number, units and offset for each case of the check's verdict: 1 to 12 by the check of the sheet; then 13, a buffer shorter than 16 times the units; then 14; both at the sheet's length
 unfoldable pub outcomeBy : List ℕ → List ℕ → Verdict → Outcome
 outcomeBy bytes buffer (Refused number offset) = refusal number offset buffer
 outcomeBy bytes buffer (Accepted records units) =
