@@ -6,7 +6,7 @@ ghost use lib.Seq.{sets};
 ghost use Rattle.rules.specs.Words.{worse};
 ghost use Rattle.results.specs.Record.{resultSize, codeGradeOffset, resultBytes};
 ghost use Rattle.results.specs.Codes.{ungraded, portionIf, worstIn, withCodeGrades, codesGraded, Ungraded, FirstMet, gradeWith};
-use cusum::Cusum;
+use rules::Cusums;
 use rules::worse_of;
 
 // Bytes of a result record, and offsets of its fields.
@@ -27,7 +27,7 @@ pub struct ResultRecord {
     pub portion: u8,
     pub plan: u8,
     pub standing: u8,
-    pub cusums: [Cusum; 4],
+    pub cusums: Cusums,
 }
 
 fn bytes_of(result: ResultRecord) -> [u8; RESULT_SIZE]

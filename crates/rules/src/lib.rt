@@ -18,10 +18,25 @@ pub const GRADES: usize = 3;
 
 pub const SUBSTANDARD: u8 = 3;
 
+// The cells of a plan's table: a class of a grade.
+pub const CELLS: usize = 12;
+
+// The plan of a grade: S, T and L of each class.
+pub type Row = [Limits; CLASSES];
+
+// The plan is a table of three grades by four classes.
+pub type Table = [Row; GRADES];
+
+// A CuSum of each class.
+pub type Cusums = [Cusum; CLASSES];
+
+// A count of each class.
+pub type Counts = [u32; CLASSES];
+
 // The designated grade, and S, T and L of grades A, B, C, in each by class.
 pub struct Plan {
     pub designated: u8,
-    pub limits: [Limits; 12],
+    pub limits: [Limits; CELLS],
 }
 
 // A sample unit.
@@ -57,25 +72,25 @@ pub enum Phase {
 // Where the grading stands before a record.
 pub struct State {
     pub phase: Phase,
-    pub cusums: [Cusum; 4],
+    pub cusums: Cusums,
 }
 
 // A unit graded under the plan in force: its new CuSums, whether it fails, its defect grade, whether it qualifies.
 pub struct Grading {
-    pub cusums: [Cusum; 4],
+    pub cusums: Cusums,
     pub fails: bool,
     pub grade: u8,
     pub qualifies: bool,
 }
 
 // The four CuSums after a unit, and whether a class fails.
-pub struct SteppedClasses {
-    pub cusums: [Cusum; 4],
+struct SteppedClasses {
+    pub cusums: Cusums,
     pub fails: bool,
 }
 
 impl Plan {
-    pub fn table(self) -> [[Limits; 4]; 3]
+    pub fn table(self) -> Table
         ensures { λ r. ⌜ r ≡ tableOf self ⌝ }
     {
         let cells = self.limits;
@@ -87,7 +102,7 @@ impl Plan {
     }
 }
 
-pub fn row_of(table: [[Limits; 4]; 3], grade: u8) -> [Limits; 4]
+pub fn row_of(table: Table, grade: u8) -> Row
     ensures { λ r. ⌜ r ≡ rowOf table grade ⌝ }
 {
     if grade < SUBSTANDARD {
@@ -101,7 +116,7 @@ pub fn row_of(table: [[Limits; 4]; 3], grade: u8) -> [Limits; 4]
     [none, none, none, none]
 }
 
-fn counts_of(unit: Sample) -> [u32; 4]
+fn counts_of(unit: Sample) -> Counts
     ensures { λ r. ⌜ r ≡ countsOf unit ⌝ }
 {
     let critical = unit.critical as u32;
@@ -117,7 +132,7 @@ pub fn worse_of(first: u8, second: u8) -> u8
     if first < second { second } else { first }
 }
 
-fn starts(row: [Limits; 4]) -> [Cusum; 4]
+fn starts(row: Row) -> Cusums
     ensures { λ r. ⌜ r ≡ starting row ⌝ }
 {
     [
@@ -128,7 +143,7 @@ fn starts(row: [Limits; 4]) -> [Cusum; 4]
     ]
 }
 
-fn step_classes(row: [Limits; 4], cusums: [Cusum; 4], counts: [u32; 4]) -> SteppedClasses
+fn step_classes(row: Row, cusums: Cusums, counts: Counts) -> SteppedClasses
     ensures { λ r. ⌜ r ≡ steppedIn row cusums counts ⌝ }
 {
     let critical = cusums[0].step(row[0], counts[0]);
@@ -146,12 +161,7 @@ fn step_classes(row: [Limits; 4], cusums: [Cusum; 4], counts: [u32; 4]) -> Stepp
 }
 
 // Under the plan of a grade; where there is none no class fails, and every CuSum is zero.
-fn step_in_force(
-    table: [[Limits; 4]; 3],
-    grade: u8,
-    cusums: [Cusum; 4],
-    counts: [u32; 4],
-) -> SteppedClasses
+fn step_in_force(table: Table, grade: u8, cusums: Cusums, counts: Counts) -> SteppedClasses
     ensures { λ r. ⌜ r ≡ record { cusums = newCusums table grade cusums counts; fails = unitFails table grade cusums counts } ⌝ }
 {
     if grade < SUBSTANDARD {
@@ -171,7 +181,7 @@ fn admits_class(limits: Limits, count: u32) -> bool
     cusum::tenths(count) <= highest
 }
 
-fn admits_all(row: [Limits; 4], counts: [u32; 4]) -> bool
+fn admits_all(row: Row, counts: Counts) -> bool
     ensures { λ r. ⌜ r ≡ admits row counts ⌝ }
 {
     admits_class(row[0], counts[0])
@@ -187,7 +197,7 @@ fn within_class(limits: Limits, count: u32) -> bool
     cusum::tenths(count) <= tolerance
 }
 
-fn within_all(row: [Limits; 4], counts: [u32; 4]) -> bool
+fn within_all(row: Row, counts: Counts) -> bool
     ensures { λ r. ⌜ r ≡ withinTolerance row counts ⌝ }
 {
     within_class(row[0], counts[0])
@@ -195,14 +205,14 @@ fn within_all(row: [Limits; 4], counts: [u32; 4]) -> bool
             & (within_class(row[2], counts[2]) & within_class(row[3], counts[3])))
 }
 
-fn all_zero(cusums: [Cusum; 4]) -> bool
+fn all_zero(cusums: Cusums) -> bool
     ensures { λ r. ⌜ r ≡ allZero cusums ⌝ }
 {
     (cusums[0].tenths == 0)
         & ((cusums[1].tenths == 0) & ((cusums[2].tenths == 0) & (cusums[3].tenths == 0)))
 }
 
-fn best_lower(table: [[Limits; 4]; 3], grade: u8, counts: [u32; 4]) -> u8
+fn best_lower(table: Table, grade: u8, counts: Counts) -> u8
     ensures { λ r. ⌜ r ≡ bestLower table grade counts ⌝ }
 {
     if (grade < 1) & admits_all(row_of(table, 1), counts) {
@@ -215,12 +225,12 @@ fn best_lower(table: [[Limits; 4]; 3], grade: u8, counts: [u32; 4]) -> u8
 }
 
 // A unit graded: the table, the designated grade, the grade of the plan in force, the CuSums before the unit, its counts.
-pub fn grade_counts(
-    table: [[Limits; 4]; 3],
+fn grade_counts(
+    table: Table,
     designated: u8,
     grade: u8,
-    cusums: [Cusum; 4],
-    counts: [u32; 4],
+    cusums: Cusums,
+    counts: Counts,
 ) -> Grading
     ensures { λ r. ⌜ r ≡ gradingOf table designated grade cusums counts ⌝ }
 {
@@ -500,7 +510,7 @@ pub fn portion(designated: u8, defect: u8, prerequisite: u8, recovered: bool) ->
 }
 
 // A state in a phase, with these CuSums or, at a restart, every class of the plan in force at its S.
-fn state_with(table: [[Limits; 4]; 3], phase: Phase, restarts: bool, cusums: [Cusum; 4]) -> State
+fn state_with(table: Table, phase: Phase, restarts: bool, cusums: Cusums) -> State
     ensures { λ r. ⌜ r ≡ stateWith table phase restarts cusums ⌝ }
 {
     if restarts {
@@ -517,7 +527,7 @@ fn state_with(table: [[Limits; 4]; 3], phase: Phase, restarts: bool, cusums: [Cu
 }
 
 impl State {
-    pub fn opening(table: [[Limits; 4]; 3], designated: u8) -> State
+    pub fn opening(table: Table, designated: u8) -> State
         ensures { λ r. ⌜ r ≡ opening table designated ⌝ }
     {
         let started = starts(row_of(table, designated));
@@ -530,7 +540,7 @@ impl State {
         }
     }
 
-    pub fn grade(self, table: [[Limits; 4]; 3], unit: Sample) -> Grading
+    pub fn grade(self, table: Table, unit: Sample) -> Grading
         ensures { λ r. ⌜ r ≡ graded table self unit ⌝ }
     {
         let phase = self.phase;
@@ -544,7 +554,7 @@ impl State {
         )
     }
 
-    fn after_unit(self, table: [[Limits; 4]; 3], grading: Grading) -> State
+    fn after_unit(self, table: Table, grading: Grading) -> State
         ensures { λ r. ⌜ r ≡ stateWith table (phaseAfterUnit (self .phase) grading) (unitRestarts (self .phase) grading) (grading .cusums) ⌝ }
     {
         let phase = self.phase;
@@ -558,7 +568,7 @@ impl State {
     }
 
     // The state after a record.
-    pub fn after(self, table: [[Limits; 4]; 3], entry: Entry) -> State
+    pub fn after(self, table: Table, entry: Entry) -> State
         ensures { λ r. ⌜ r ≡ next table self entry ⌝ }
     {
         let phase = self.phase;
@@ -576,7 +586,7 @@ impl State {
     }
 
     // Whether step 3 ends at a record.
-    pub fn ends_at(self, table: [[Limits; 4]; 3], entry: Entry) -> bool
+    pub fn ends_at(self, table: Table, entry: Entry) -> bool
         ensures { λ r. ⌜ r ≡ endsAt table self entry ⌝ }
     {
         let phase = self.phase;

@@ -24,6 +24,14 @@ markSize = 2
 abbrev pub limitsSize : ℕ
 limitsSize = 6
 
+-- the four classes of a grade
+abbrev pub rowSize : ℕ
+rowSize = 24
+
+-- the grade behind a mark: the designated one of a plan, the new one of a redesignation
+abbrev pub gradeOffset : ℕ
+gradeOffset = 2
+
 -- plan: mark (2), designated grade (1), then for grades A, B, C, within each the four classes, within each S, T, L
 abbrev pub planSize : ℕ
 planSize = 75
@@ -65,7 +73,7 @@ limitsAt bytes at = record { start = number bytes at; tolerance = number bytes (
 
 -- the four classes of a grade
 abbrev pub rowAt : List ℕ → ℕ → List Limits
-rowAt bytes at = limitsAt bytes at ∷ limitsAt bytes (at + 6) ∷ limitsAt bytes (at + 12) ∷ limitsAt bytes (at + 18) ∷ []
+rowAt bytes at = limitsAt bytes at ∷ limitsAt bytes (at + limitsSize) ∷ limitsAt bytes (at + 2 * limitsSize) ∷ limitsAt bytes (at + 3 * limitsSize) ∷ []
 
 -- the cells of the table, grade by grade and in each class by class
 abbrev pub cells : List ℕ
@@ -73,7 +81,7 @@ cells = 0 ∷ 1 ∷ 2 ∷ 3 ∷ 4 ∷ 5 ∷ 6 ∷ 7 ∷ 8 ∷ 9 ∷ 10 ∷ 11 �
 
 unfoldable pub planOf : List ℕ → Plan
 planOf bytes =
-    record { designated = byte bytes 2; limits = map (λ cell. limitsAt bytes (tableOffset + limitsSize * cell)) cells }
+    record { designated = byte bytes gradeOffset; limits = map (λ cell. limitsAt bytes (tableOffset + limitsSize * cell)) cells }
 
 -- ---- the records
 
@@ -111,7 +119,7 @@ sampleAt bytes at =
 -- stands in, which grades no unit
 unfoldable pub entryOf : List ℕ → ℕ → Mark → Entry
 entryOf bytes at UnitMark = SampleUnit (sampleAt bytes at)
-entryOf bytes at RedesignationMark = Redesignation (byte bytes (at + 2))
+entryOf bytes at RedesignationMark = Redesignation (byte bytes (at + gradeOffset))
 entryOf bytes at BreakMark = Break
 entryOf bytes at NoMark = Break
 

@@ -11,7 +11,7 @@ use Rattle.rules.specs.StepThree.{pick}
 use Rattle.rules.specs.declared.Entry.{Entry}
 use Rattle.rules.specs.declared.Entry.the-variants.{SampleUnit, Redesignation, Break}
 use Rattle.rules.specs.declared.Sample.{Sample}
-use Rattle.sheet.specs.Layout.{markSize, planSize, unitSize, redesignationSize, prerequisiteOffset, recoverableOffset, planOf, sampleAt, markAt, offset, entryAt, unitsBefore}
+use Rattle.sheet.specs.Layout.{markSize, gradeOffset, planSize, unitSize, redesignationSize, prerequisiteOffset, recoverableOffset, planOf, sampleAt, markAt, offset, entryAt, unitsBefore}
 use Rattle.sheet.specs.declared.Mark.{Mark}
 use Rattle.sheet.specs.declared.Mark.the-variants.{UnitMark, RedesignationMark, BreakMark, NoMark}
 use Rattle.sheet.specs.declared.Verdict.{Verdict}
@@ -72,7 +72,7 @@ tableRefusal table =
 unfoldable pub planRefusal : List ℕ → ℕ
 planRefusal bytes =
     row (noPlanRecord bytes) 1
-    (row (ltb 2 (byte bytes 2)) 2
+    (row (ltb 2 (byte bytes gradeOffset)) 2
     (tableRefusal (tableOf (planOf bytes))))
 
 -- ---- a record, at the offset of its mark
@@ -97,8 +97,8 @@ unitRefusal bytes at units =
 unfoldable pub redesignationRefusal : List ℕ → ℕ → ℕ → ℕ
 redesignationRefusal bytes at designated =
     row (ltb (length bytes) (at + redesignationSize)) 7
-    (row (ltb 2 (byte bytes (at + 2))) 10
-    (row (eqb (byte bytes (at + 2)) designated) 11
+    (row (ltb 2 (byte bytes (at + gradeOffset))) 10
+    (row (eqb (byte bytes (at + gradeOffset)) designated) 11
     0))
 
 -- 6: a mark not of a unit, redesignation or break

@@ -3,16 +3,19 @@ ghost use mathlib.Core.Path.{_≡_};
 ghost use mathlib.Core.Bool.{_||_};
 ghost use Prim.Native.Nat.{_+_, _≤_};
 ghost use lib.ListN.{length};
-ghost use Rattle.sheet.specs.Layout.{limitsAt, rowAt, planOf, markAt, sizeOf, sampleAt, entryOf, unitOf};
+ghost use Rattle.sheet.specs.Layout.{markSize, limitsSize, rowSize, planSize, unitSize, limitsAt, rowAt, planOf, markAt, sizeOf, sampleAt, entryOf, unitOf};
 ghost use Rattle.sheet.specs.Refusals.{tooLarge, startsAbove, smaller, anyClass, anyLimits, anySmaller, tableRefusal, planRefusal, countTooLarge, unitRefusal, redesignationRefusal, refusalAt, designatedBy, checkFrom, verdict};
 use cusum::Limits;
 use encoding::number_at;
+use rules::CLASSES;
 use rules::Entry;
 use rules::Plan;
+use rules::Row;
 use rules::Sample;
+use rules::Table;
 use rules::row_of;
 
-// Sizes of the records.
+// Sizes of the records, and offsets of their fields.
 pub const MARK_SIZE: usize = 2;
 
 pub const PLAN_SIZE: usize = 75;
@@ -20,6 +23,42 @@ pub const PLAN_SIZE: usize = 75;
 pub const UNIT_SIZE: usize = 14;
 
 pub const REDESIGNATION_SIZE: usize = 3;
+
+// The designated grade of a plan, the new one of a redesignation.
+const GRADE_OFFSET: usize = 2;
+
+// The table of a plan: for grades A, B and C, within each the classes, within each S, T and L.
+const LIMITS_SIZE: usize = 6;
+
+const ROW_SIZE: usize = CLASSES * LIMITS_SIZE;
+
+const A_OFFSET: usize = 3;
+
+const B_OFFSET: usize = A_OFFSET + ROW_SIZE;
+
+const C_OFFSET: usize = B_OFFSET + ROW_SIZE;
+
+// The classes of a row behind critical.
+const SEVERE_LIMITS: usize = LIMITS_SIZE;
+
+const MAJOR_LIMITS: usize = 2 * LIMITS_SIZE;
+
+const TOTAL_LIMITS: usize = 3 * LIMITS_SIZE;
+
+// A unit.
+const CODE_OFFSET: usize = 2;
+
+const CRITICAL_OFFSET: usize = 4;
+
+const SEVERE_OFFSET: usize = 6;
+
+const MAJOR_OFFSET: usize = 8;
+
+const MINOR_OFFSET: usize = 10;
+
+const PREREQUISITE_OFFSET: usize = 12;
+
+const RECOVERABLE_OFFSET: usize = 13;
 
 // Limits of the numbers on a sheet.
 const LARGEST_LIMIT: u16 = 9999;
@@ -50,7 +89,7 @@ pub enum Verdict {
 }
 
 fn limits_at(bytes: &[u8], at: usize) -> Limits
-    requires { ⌜ at + 6 ≤ length (now bytes) ⌝ }
+    requires { ⌜ at + limitsSize ≤ length (now bytes) ⌝ }
     ensures { λ r. ⌜ r ≡ limitsAt (now (bytes .entry)) at ⌝ }
 {
     Limits {
@@ -60,25 +99,25 @@ fn limits_at(bytes: &[u8], at: usize) -> Limits
     }
 }
 
-fn row_at(bytes: &[u8], at: usize) -> [Limits; 4]
-    requires { ⌜ at + 24 ≤ length (now bytes) ⌝ }
+fn row_at(bytes: &[u8], at: usize) -> Row
+    requires { ⌜ at + rowSize ≤ length (now bytes) ⌝ }
     ensures { λ r. ⌜ r ≡ rowAt (now (bytes .entry)) at ⌝ }
 {
     [
         limits_at(bytes, at),
-        limits_at(bytes, at + 6),
-        limits_at(bytes, at + 12),
-        limits_at(bytes, at + 18),
+        limits_at(bytes, at + SEVERE_LIMITS),
+        limits_at(bytes, at + MAJOR_LIMITS),
+        limits_at(bytes, at + TOTAL_LIMITS),
     ]
 }
 
 pub fn plan_of(bytes: &[u8]) -> Plan
-    requires { ⌜ 75 ≤ length (now bytes) ⌝ }
+    requires { ⌜ planSize ≤ length (now bytes) ⌝ }
     ensures { λ r. ⌜ r ≡ planOf (now (bytes .entry)) ⌝ }
 {
-    let a = row_at(bytes, 3);
-    let b = row_at(bytes, 27);
-    let c = row_at(bytes, 51);
+    let a = row_at(bytes, A_OFFSET);
+    let b = row_at(bytes, B_OFFSET);
+    let c = row_at(bytes, C_OFFSET);
     let limits = [
         a[0],
         a[1],
@@ -94,7 +133,7 @@ pub fn plan_of(bytes: &[u8]) -> Plan
         c[3],
     ];
     Plan {
-        designated: bytes[2],
+        designated: bytes[GRADE_OFFSET],
         limits: limits,
     }
 }
@@ -106,13 +145,13 @@ fn too_large(limits: Limits) -> bool
         | ((LARGEST_LIMIT < limits.tolerance) | (LARGEST_LIMIT < limits.limit))
 }
 
-fn row_too_large(row: [Limits; 4]) -> bool
+fn row_too_large(row: Row) -> bool
     ensures { λ r. ⌜ r ≡ anyClass tooLarge row ⌝ }
 {
     too_large(row[0]) | (too_large(row[1]) | (too_large(row[2]) | too_large(row[3])))
 }
 
-fn table_too_large(table: [[Limits; 4]; 3]) -> bool
+fn table_too_large(table: Table) -> bool
     ensures { λ r. ⌜ r ≡ anyLimits tooLarge table ⌝ }
 {
     row_too_large(row_of(table, 0))
@@ -125,13 +164,13 @@ fn starts_above(limits: Limits) -> bool
     limits.limit < limits.start
 }
 
-fn row_starts_above(row: [Limits; 4]) -> bool
+fn row_starts_above(row: Row) -> bool
     ensures { λ r. ⌜ r ≡ anyClass startsAbove row ⌝ }
 {
     starts_above(row[0]) | (starts_above(row[1]) | (starts_above(row[2]) | starts_above(row[3])))
 }
 
-fn table_starts_above(table: [[Limits; 4]; 3]) -> bool
+fn table_starts_above(table: Table) -> bool
     ensures { λ r. ⌜ r ≡ anyLimits startsAbove table ⌝ }
 {
     row_starts_above(row_of(table, 0))
@@ -154,7 +193,7 @@ fn falls_in_class(a: Limits, b: Limits, c: Limits) -> bool
     is_smaller(a, b) | is_smaller(b, c)
 }
 
-fn table_falls(table: [[Limits; 4]; 3]) -> bool
+fn table_falls(table: Table) -> bool
     ensures { λ r. ⌜ r ≡ anySmaller table ⌝ }
 {
     let a = row_of(table, 0);
@@ -165,7 +204,7 @@ fn table_falls(table: [[Limits; 4]; 3]) -> bool
             | (falls_in_class(a[2], b[2], c[2]) | falls_in_class(a[3], b[3], c[3])))
 }
 
-fn table_refusal(table: [[Limits; 4]; 3]) -> u8
+fn table_refusal(table: Table) -> u8
     ensures { λ r. ⌜ r ≡ tableRefusal table ⌝ }
 {
     if table_too_large(table) {
@@ -190,7 +229,7 @@ fn plan_refusal(bytes: &[u8]) -> u8
     if number_at(bytes, 0) != 0x504c {
         return 1;
     }
-    if 2 < bytes[2] {
+    if 2 < bytes[GRADE_OFFSET] {
         return 2;
     }
     let plan = plan_of(bytes);
@@ -198,7 +237,7 @@ fn plan_refusal(bytes: &[u8]) -> u8
 }
 
 pub fn mark_at(bytes: &[u8], at: usize) -> Mark
-    requires { ⌜ at + 2 ≤ length (now bytes) ⌝ }
+    requires { ⌜ at + markSize ≤ length (now bytes) ⌝ }
     ensures { λ r. ⌜ r ≡ markAt (now (bytes .entry)) at ⌝ }
 {
     let mark = number_at(bytes, at);
@@ -238,17 +277,17 @@ pub fn unit_of(mark: Mark) -> usize
 }
 
 fn sample_at(bytes: &[u8], at: usize) -> Sample
-    requires { ⌜ at + 14 ≤ length (now bytes) ⌝ }
+    requires { ⌜ at + unitSize ≤ length (now bytes) ⌝ }
     ensures { λ r. ⌜ r ≡ sampleAt (now (bytes .entry)) at ⌝ }
 {
     Sample {
-        code: number_at(bytes, at + 2),
-        critical: number_at(bytes, at + 4),
-        severe: number_at(bytes, at + 6),
-        major: number_at(bytes, at + 8),
-        minor: number_at(bytes, at + 10),
-        prerequisite: bytes[at + 12],
-        recoverable: bytes[at + 13] == 1,
+        code: number_at(bytes, at + CODE_OFFSET),
+        critical: number_at(bytes, at + CRITICAL_OFFSET),
+        severe: number_at(bytes, at + SEVERE_OFFSET),
+        major: number_at(bytes, at + MAJOR_OFFSET),
+        minor: number_at(bytes, at + MINOR_OFFSET),
+        prerequisite: bytes[at + PREREQUISITE_OFFSET],
+        recoverable: bytes[at + RECOVERABLE_OFFSET] == 1,
     }
 }
 
@@ -259,7 +298,7 @@ pub fn entry_at(bytes: &[u8], at: usize, mark: Mark) -> Entry
 {
     match mark {
         Mark::UnitMark => Entry::SampleUnit(sample_at(bytes, at)),
-        Mark::RedesignationMark => Entry::Redesignation(bytes[at + 2]),
+        Mark::RedesignationMark => Entry::Redesignation(bytes[at + GRADE_OFFSET]),
         Mark::BreakMark => Entry::Break,
         Mark::NoMark => Entry::Break,
     }
@@ -286,7 +325,7 @@ fn unit_refusal(bytes: &[u8], at: usize, units: usize) -> u8
     if count_too_large(sample_at(bytes, at)) {
         return 8;
     }
-    if (3 < bytes[at + 12]) | (1 < bytes[at + 13]) {
+    if (3 < bytes[at + PREREQUISITE_OFFSET]) | (1 < bytes[at + RECOVERABLE_OFFSET]) {
         return 9;
     }
     0
@@ -299,7 +338,7 @@ fn redesignation_refusal(bytes: &[u8], at: usize, designated: u8) -> u8
     if bytes.len() - at < REDESIGNATION_SIZE {
         return 7;
     }
-    let new = bytes[at + 2];
+    let new = bytes[at + GRADE_OFFSET];
     if 2 < new {
         return 10;
     }
@@ -352,14 +391,14 @@ fn place_after(bytes: &[u8], place: Place) -> Place
 
 // The records behind a plan, from left to right.
 fn check_records(bytes: &[u8]) -> Verdict
-    requires { ⌜ 75 ≤ length (now bytes) ⌝ }
+    requires { ⌜ planSize ≤ length (now bytes) ⌝ }
     ensures { λ r. ⌜ r ≡ checkFrom (now (bytes .entry)) (length (now (bytes .entry))) 0 ⌝ }
 {
     let mut place = Place {
         records: 0,
         at: PLAN_SIZE,
         units: 0,
-        designated: bytes[2],
+        designated: bytes[GRADE_OFFSET],
     };
     while place.at < bytes.len() {
         let number = refusal_at(bytes, place.at, place.units, place.designated);

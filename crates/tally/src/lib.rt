@@ -14,13 +14,14 @@ ghost use Rattle.results.specs.Codes.{ungraded};
 ghost use Rattle.tally.specs.Outcome.{Outcome, resultOf, bytesBy, written, anyTooLarge, overfullBy, overfullBefore, outcomeBy, outcome};
 ghost use Rattle.tally.specs.Position.{positionAt, Walk};
 use cusum::Cusum;
-use cusum::Limits;
 use results::RESULT_SIZE;
 use results::ResultRecord;
 use results::grade_codes;
+use rules::Cusums;
 use rules::Entry;
 use rules::Sample;
 use rules::State;
+use rules::Table;
 use sheet::PLAN_SIZE;
 use sheet::Verdict;
 use sheet::check;
@@ -47,7 +48,7 @@ struct Position {
 }
 
 // Before the first record.
-fn first_position(table: [[Limits; 4]; 3], designated: u8) -> Position
+fn first_position(table: Table, designated: u8) -> Position
     ensures { λ r. ⌜ r ≡ record { index = 0; at = planSize; units = 0; state = opening table designated } ⌝ }
 {
     let state = State::opening(table, designated);
@@ -60,7 +61,7 @@ fn first_position(table: [[Limits; 4]; 3], designated: u8) -> Position
 }
 
 // The record at a position.
-fn entry_here(bytes: &[u8], records: usize, table: [[Limits; 4]; 3], position: Position) -> Entry
+fn entry_here(bytes: &[u8], records: usize, table: Table, position: Position) -> Entry
     requires { ⌜ Walk (now bytes) records table position × (position .index < records) ⌝ }
     ensures { λ r. ⌜ r ≡ entryAt (now (bytes .entry)) (position .index) ⌝ }
 {
@@ -69,7 +70,7 @@ fn entry_here(bytes: &[u8], records: usize, table: [[Limits; 4]; 3], position: P
 }
 
 // Past the record at a position.
-fn advance(bytes: &[u8], records: usize, table: [[Limits; 4]; 3], position: Position) -> Position
+fn advance(bytes: &[u8], records: usize, table: Table, position: Position) -> Position
     requires { ⌜ Walk (now bytes) records table position × (position .index < records) ⌝ }
     ensures { λ r. ⌜ r ≡ positionAt (now (bytes .entry)) records (position .index + 1) ⌝ }
 {
@@ -86,7 +87,7 @@ fn advance(bytes: &[u8], records: usize, table: [[Limits; 4]; 3], position: Posi
 }
 
 // Whether a CuSum is too large for two bytes.
-fn any_too_large(cusums: [Cusum; 4]) -> bool
+fn any_too_large(cusums: Cusums) -> bool
     ensures { λ r. ⌜ r ≡ anyTooLarge cusums ⌝ }
 {
     (Cusum::LARGEST_TENTHS < cusums[0].tenths)
@@ -96,7 +97,7 @@ fn any_too_large(cusums: [Cusum; 4]) -> bool
 }
 
 // The same at the record at a position.
-fn overfull_here(bytes: &[u8], records: usize, table: [[Limits; 4]; 3], position: Position) -> bool
+fn overfull_here(bytes: &[u8], records: usize, table: Table, position: Position) -> bool
     requires { ⌜ Walk (now bytes) records table position × (position .index < records) ⌝ }
     ensures { λ r. ⌜ r ≡ overfullBy (sheetOf (now (bytes .entry)) records) (position .index) (entryAt (now (bytes .entry)) (position .index)) ⌝ }
 {
@@ -113,7 +114,7 @@ fn overfull_here(bytes: &[u8], records: usize, table: [[Limits; 4]; 3], position
 }
 
 // The same at any record.
-fn any_overfull(bytes: &[u8], records: usize, table: [[Limits; 4]; 3], start: Position) -> bool
+fn any_overfull(bytes: &[u8], records: usize, table: Table, start: Position) -> bool
     requires { ⌜ Walk (now bytes) records table start × (start .index ≡ 0) ⌝ }
     ensures { λ r. ⌜ r ≡ overfullBefore (sheetOf (now (bytes .entry)) records) records ⌝ }
 {
@@ -128,7 +129,7 @@ fn any_overfull(bytes: &[u8], records: usize, table: [[Limits; 4]; 3], start: Po
 }
 
 // Whether step 3 ends at the record at a position; behind the last record it does not.
-fn ends_here(bytes: &[u8], records: usize, table: [[Limits; 4]; 3], position: Position) -> bool
+fn ends_here(bytes: &[u8], records: usize, table: Table, position: Position) -> bool
     requires { ⌜ Walk (now bytes) records table position ⌝ }
     ensures { λ r. ⌜ r ≡ stepThreeEnds (sheetOf (now (bytes .entry)) records) (position .index) ⌝ }
 {
@@ -140,12 +141,7 @@ fn ends_here(bytes: &[u8], records: usize, table: [[Limits; 4]; 3], position: Po
 }
 
 // Whether the record at a position is one of the three units at whose last step 3 ends: looks two records ahead.
-fn in_finished_run(
-    bytes: &[u8],
-    records: usize,
-    table: [[Limits; 4]; 3],
-    position: Position,
-) -> bool
+fn in_finished_run(bytes: &[u8], records: usize, table: Table, position: Position) -> bool
     requires { ⌜ Walk (now bytes) records table position × (position .index < records) ⌝ }
     ensures { λ r. ⌜ r ≡ inFinishedRun (sheetOf (now (bytes .entry)) records) (position .index) ⌝ }
 {
@@ -167,7 +163,7 @@ fn in_finished_run(
 fn is_recovered(
     bytes: &[u8],
     records: usize,
-    table: [[Limits; 4]; 3],
+    table: Table,
     position: Position,
     unit: Sample,
 ) -> bool
@@ -188,7 +184,7 @@ fn is_recovered(
 fn result_here(
     bytes: &[u8],
     records: usize,
-    table: [[Limits; 4]; 3],
+    table: Table,
     position: Position,
     unit: Sample,
 ) -> ResultRecord
@@ -215,13 +211,7 @@ fn result_here(
 }
 
 // Writes what the record at a position writes, after the result records before it.
-fn write_here(
-    bytes: &[u8],
-    records: usize,
-    table: [[Limits; 4]; 3],
-    position: Position,
-    results: &mut [u8],
-)
+fn write_here(bytes: &[u8], records: usize, table: Table, position: Position, results: &mut [u8])
     requires { ⌜ Walk (now bytes) records table position × (position .index < records) × (resultSize * unitsBefore (now bytes) (position .index + 1) ≤ length (now results)) ⌝ }
     ensures { λ _. ⌜ now (results .exit) ≡ sets (now (results .entry)) (resultSize * position .units) (bytesBy (λ code. ungraded) (sheetOf (now (bytes .entry)) records) (position .index) (entryAt (now (bytes .entry)) (position .index))) ⌝ }
 {
@@ -237,13 +227,7 @@ fn write_here(
 }
 
 // Writes the result records, no code graded yet.
-fn write_records(
-    bytes: &[u8],
-    records: usize,
-    table: [[Limits; 4]; 3],
-    start: Position,
-    results: &mut [u8],
-)
+fn write_records(bytes: &[u8], records: usize, table: Table, start: Position, results: &mut [u8])
     requires { ⌜ Walk (now bytes) records table start × (start .index ≡ 0) × (resultSize * unitsBefore (now bytes) records ≤ length (now results)) ⌝ }
     ensures { λ _. ⌜ now (results .exit) ≡ written (λ code. ungraded) (sheetOf (now (bytes .entry)) records) records ++ drop (resultSize * unitsBefore (now (bytes .entry)) records) (now (results .entry)) ⌝ }
 {
