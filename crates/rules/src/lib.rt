@@ -225,13 +225,7 @@ fn best_lower(table: Table, grade: u8, counts: Counts) -> u8
 }
 
 // A unit graded: the table, the designated grade, the grade of the plan in force, the CuSums before the unit, its counts.
-fn grade_counts(
-    table: Table,
-    designated: u8,
-    grade: u8,
-    cusums: Cusums,
-    counts: Counts,
-) -> Grading
+fn grade_counts(table: Table, designated: u8, grade: u8, cusums: Cusums, counts: Counts) -> Grading
     ensures { λ r. ⌜ r ≡ gradingOf table designated grade cusums counts ⌝ }
 {
     let stepped = step_in_force(table, grade, cusums, counts);
@@ -554,7 +548,8 @@ impl State {
         )
     }
 
-    fn after_unit(self, table: Table, grading: Grading) -> State
+    // The state after a unit that was graded in this state.
+    pub fn after_unit(self, table: Table, grading: Grading) -> State
         ensures { λ r. ⌜ r ≡ stateWith table (phaseAfterUnit (self .phase) grading) (unitRestarts (self .phase) grading) (grading .cusums) ⌝ }
     {
         let phase = self.phase;

@@ -2,23 +2,25 @@
 -- Each case rewrites the outcome with the tests on the way; the accepted buffer comes from the passes over the records.
 use Prim.Native.Nat.{ℕ, _+_, _*_, _≤_, _<_}
 use mathlib.Core.Path.{_≡_, refl, sym, _∙_, ap}
-use mathlib.Core.Bool.{true, false}
+use mathlib.Core.Bool.{true, true≢false}
 use mathlib.Core.List.{List, _++_}
 use native.Mathlib.Omega.{arith}
 use lib.ListN.{length, drop}
 use borrow.Author.Tests.{lt-ltb, le-ltb}
 use Rattle.encoding.specs.Bytes.{byte}
+use Rattle.rules.specs.Words.{tableOf}
 use Rattle.rules.specs.StepThree.{pick}
 use Rattle.rules.specs.Sheet.{codeGrade}
-use Rattle.sheet.specs.Layout.{planSize, unitsBefore, sheetOf}
-use Rattle.sheet.specs.Refusals.{verdict}
+use Rattle.sheet.specs.Layout.{planSize, planOf, unitsBefore, sheetOf}
+use Rattle.sheet.specs.Refusals.{verdict, anyLimits}
 use Rattle.sheet.specs.declared.Verdict.the-variants.{Accepted}
 use Rattle.sheet.proofs.Rows.{plan-whole}
 use Rattle.sheet.proofs.Accepted.{Facts, facts}
 use Rattle.sheet.proofs.Ranges.{units-most}
 use Rattle.results.specs.Record.{resultSize}
 use Rattle.results.specs.Codes.{ungraded, codesGraded, Ungraded}
-use Rattle.tally.specs.Outcome.{Outcome, refusal, acceptance, outcomeBy, overfullBefore, written}
+use Rattle.tally.specs.Outcome.{Outcome, refusal, acceptance, outcomeBy, limitTooLarge, written}
+use Rattle.tally.proofs.Overfull.{limits-fit, none-overfull}
 use Rattle.tally.proofs.Writing.{writtenSoFar, length-so-far}
 use Rattle.tally.proofs.Coding.{ungraded-yet, codes-are}
 
@@ -43,9 +45,9 @@ module _ (bytes buffer : List ℕ) (records units : ℕ) (accepted : verdict byt
     pub room-for-records : resultSize * unitsBefore bytes records ≤ length buffer
     room-for-records = omega (arith, units-counted)
 
-    pub overfull : overfullBefore (sheetOf bytes records) records ≡ true → refusal 14 (length bytes) buffer ≡ outcomeBy bytes buffer (Accepted records units)
-    unfolding outcomeBy pick
-    overfull e = rw (le-ltb (length buffer) (resultSize * units) room, e)
+    -- the code tests every L, and no L is too large
+    pub never-overfull : anyLimits limitTooLarge (tableOf (planOf bytes)) ≡ true → ⊥
+    never-overfull e = true≢false (sym e ∙ limits-fit bytes records sheet-facts)
 
     module _ (raw : List ℕ) (is-raw : raw ≡ writtenSoFar bytes records buffer records) (small : (at : ℕ) → byte bytes at < 256) where
       pub ready-for-codes : (resultSize * units ≤ length raw) × Ungraded raw units
@@ -55,11 +57,11 @@ module _ (bytes buffer : List ℕ) (records units : ℕ) (accepted : verdict byt
             ungraded-yet bytes records sheet-facts small (drop (resultSize * unitsBefore bytes records) buffer),
           )
 
-      pub done : overfullBefore (sheetOf bytes records) records ≡ false → (graded : List ℕ) → graded ≡ codesGraded raw units
+      pub done : (graded : List ℕ) → graded ≡ codesGraded raw units
           → _≡_ {A = Outcome} (record { answer = record { number = 0; units = units; offset = length bytes }; buffer = graded }) (outcomeBy bytes buffer (Accepted records units))
       unfolding outcomeBy pick acceptance
-      done e graded is-graded =
-          rw (le-ltb (length buffer) (resultSize * units) room, e)
+      done graded is-graded =
+          rw (le-ltb (length buffer) (resultSize * units) room, none-overfull bytes records sheet-facts records)
           (ap (λ (l : List ℕ). record { answer = record { number = 0; units = units; offset = length bytes }; buffer = l }) final)
         where
           final : graded ≡ written (codeGrade (sheetOf bytes records)) (sheetOf bytes records) records ++ drop (resultSize * units) buffer

@@ -1,38 +1,92 @@
--- The search for a CuSum too large for two bytes: one record more, and what one record decides for all.
--- By induction on the records.
+-- Number 14 never applies: every L of an accepted plan fits in two bytes, and a CuSum is at most its L.
+-- From the ranges of the plan, for any grade and any class, and by induction on the records.
 use Prim.Native.Nat.{ℕ, zero, suc, _+_, _≤_, _<_}
-use mathlib.Core.Path.{_≡_, refl, sym, _∙_, ap}
-use mathlib.Core.Logic.{_⊎_, inl, inr}
+use mathlib.Core.Path.{_≡_, refl, sym, _∙_, ap, subst}
 use mathlib.Core.Bool.{Bool, true, false, _||_}
-use native.Mathlib.Nat.{eq-or-lt-of-le, le-of-suc-le-suc}
-use native.Mathlib.Numerals.{add-one}
+use mathlib.Core.List.{List, [], _∷_}
 use native.Mathlib.Omega.{arith}
-use Rattle.rules.specs.Sheet.{Sheet}
-use Rattle.tally.specs.Outcome.{overfullBy, overfullBefore}
+use lib.Dec.{leb}
+use borrow.Author.Tests.{le-ltb, leb-true, leb-false}
+use Rattle.cusum.specs.declared.Limits.{Limits}
+use Rattle.cusum.specs.declared.Cusum.{Cusum}
+use Rattle.cusum.specs.Step.{largestTenths}
+use Rattle.rules.specs.Words.{classes, any, rowOf, limitsOf, tableOf, tenthsIn, countsOf}
+use Rattle.rules.specs.Unit.{classCusum, newCusums}
+use Rattle.rules.specs.StepThree.{graded}
+use Rattle.rules.specs.Sheet.{Sheet, before, inForceAt, gradedAt}
+use Rattle.rules.specs.declared.Plan.{Plan}
+use Rattle.rules.specs.declared.Sample.{Sample}
+use Rattle.rules.specs.declared.Entry.{Entry}
+use Rattle.rules.specs.declared.Entry.the-variants.{SampleUnit, Redesignation, Break}
+use Rattle.rules.proofs.LargestForm.{at-class}
+use Rattle.rules.proofs.Grades.{class-cusum-le}
+use Rattle.sheet.specs.Layout.{planOf, sheetOf}
+use Rattle.sheet.specs.Refusals.{largestLimit, anyClass, anyLimits}
+use Rattle.sheet.proofs.Accepted.{Facts}
+use Rattle.sheet.proofs.Ranges.{limits-in-range}
+use Rattle.tally.specs.Outcome.{anyTooLarge, overfullBy, overfullBefore, limitTooLarge}
 
-or-true : (a b : Bool) → b ≡ true → (a || b) ≡ true
-or-true true b e = refl
-or-true false b e = e
+none-of : (p : ℕ → Bool) → ((k : ℕ) → p k ≡ false) → (ks : List ℕ) → any p ks ≡ false
+unfolding any
+none-of p h [] = refl
+none-of p h (k ∷ ks) = rw (h k) (none-of p h ks)
 
-true-or : (a b : Bool) → a ≡ true → (a || b) ≡ true
-true-or true b e = refl
-true-or false b e = ap (λ (x : Bool). x || b) e
+-- where there is no plan, and behind the last class, L is zero
+no-plan : (plan : Plan) (grade class : ℕ) → 3 ≤ grade → limitsOf (tableOf plan) grade class .limit ≤ largestLimit
+no-plan plan zero class h = absurd (omega arith)
+no-plan plan (suc zero) class h = absurd (omega arith)
+no-plan plan (suc (suc zero)) class h = absurd (omega arith)
+no-plan plan (suc (suc (suc grade))) zero h = omega arith
+no-plan plan (suc (suc (suc grade))) (suc zero) h = omega arith
+no-plan plan (suc (suc (suc grade))) (suc (suc zero)) h = omega arith
+no-plan plan (suc (suc (suc grade))) (suc (suc (suc zero))) h = omega arith
+no-plan plan (suc (suc (suc grade))) (suc (suc (suc (suc class)))) h = omega arith
 
-module _ (sheet : Sheet) where
-  pub overfull-at : (i n : ℕ) → i < n → overfullBy sheet i (sheet .entry i) ≡ true → overfullBefore sheet n ≡ true
-  unfolding overfullBefore
-  overfull-at i zero h e = absurd (omega arith)
-  overfull-at i (suc n) h e = go (eq-or-lt-of-le (le-of-suc-le-suc h)) (overfull-at i n)
+behind : (plan : Plan) (grade class : ℕ) → grade < 3 → 4 ≤ class → limitsOf (tableOf plan) grade class .limit ≤ largestLimit
+behind plan grade zero h k = absurd (omega arith)
+behind plan grade (suc zero) h k = absurd (omega arith)
+behind plan grade (suc (suc zero)) h k = absurd (omega arith)
+behind plan grade (suc (suc (suc zero))) h k = absurd (omega arith)
+behind plan zero (suc (suc (suc (suc class)))) h k = omega arith
+behind plan (suc zero) (suc (suc (suc (suc class)))) h k = omega arith
+behind plan (suc (suc zero)) (suc (suc (suc (suc class)))) h k = omega arith
+behind plan (suc (suc (suc grade))) (suc (suc (suc (suc class)))) h k = absurd (omega arith)
+
+by-entry : (bytes : List ℕ) (records i : ℕ) (entry : Entry) → ((unit : Sample) → anyTooLarge (gradedAt (sheetOf bytes records) i unit .cusums) ≡ false)
+    → overfullBy (sheetOf bytes records) i entry ≡ false
+unfolding overfullBy
+by-entry bytes records i (SampleUnit unit) h = h unit
+by-entry bytes records i (Redesignation new) h = refl
+by-entry bytes records i Break h = refl
+
+module _ (bytes : List ℕ) (records : ℕ) (facts : Facts bytes records) where
+  -- every L is small, also where there is no plan and behind the last class
+  limit-small : (grade class : ℕ) → limitsOf (tableOf (planOf bytes)) grade class .limit ≤ largestLimit
+  limit-small grade class = go (leb 3 grade) refl (leb 4 class) refl
     where
-      go : (i ≡ n) ⊎ (i < n) → (i < n → overfullBy sheet i (sheet .entry i) ≡ true → overfullBefore sheet n ≡ true)
-          → (overfullBefore sheet n || overfullBy sheet n (sheet .entry n)) ≡ true
-      go (inl q) r = or-true (overfullBefore sheet n) _ (sym (ap (λ (j : ℕ). overfullBy sheet j (sheet .entry j)) q) ∙ e)
-      go (inr l) r = true-or (overfullBefore sheet n) _ (r l e)
+      go : (g : Bool) → leb 3 grade ≡ g → (k : Bool) → leb 4 class ≡ k → limitsOf (tableOf (planOf bytes)) grade class .limit ≤ largestLimit
+      go false e false f = limits-in-range bytes records facts grade class (omega (arith, leb-false 3 grade e)) (leb-false 4 class f) .limit-le
+      go false e true f = behind (planOf bytes) grade class (leb-false 3 grade e) (leb-true 4 class f)
+      go true e k f = no-plan (planOf bytes) grade class (leb-true 3 grade e)
 
-  pub none-so-far : (i : ℕ) → overfullBefore sheet i ≡ false → overfullBy sheet i (sheet .entry i) ≡ false → overfullBefore sheet (i + 1) ≡ false
-  unfolding overfullBefore
-  none-so-far i e f = rw (add-one i, e, f)
+  pub limits-fit : anyLimits limitTooLarge (tableOf (planOf bytes)) ≡ false
+  unfolding anyLimits anyClass limitTooLarge
+  limits-fit = none-of _ (λ grade. none-of _ (λ class. le-ltb largestTenths (limitsOf (tableOf (planOf bytes)) grade class .limit) (omega (arith, limit-small grade class))) classes) (0 ∷ 1 ∷ 2 ∷ [])
 
-  pub overfull-start : overfullBefore sheet 0 ≡ false
+  cusums-fit : (i : ℕ) (unit : Sample) → anyTooLarge (gradedAt (sheetOf bytes records) i unit .cusums) ≡ false
+  unfolding anyTooLarge graded newCusums sheetOf any
+  cusums-fit i unit =
+      let sheet = sheetOf bytes records in
+      let grade = inForceAt sheet i in
+      let small : (class : ℕ) → classCusum (tableOf (planOf bytes)) grade (before sheet i .cusums) (countsOf unit) class ≤ largestTenths
+      = λ class. omega (arith, class-cusum-le (tableOf (planOf bytes)) grade (before sheet i .cusums) (countsOf unit) class, limit-small grade class) in
+      rw (le-ltb largestTenths _ (small 0), le-ltb largestTenths _ (small 1), le-ltb largestTenths _ (small 2), le-ltb largestTenths _ (small 3))
+
+  -- no accepted plan and no counts lead to number 14
+  pub none-overfull : (n : ℕ) → overfullBefore (sheetOf bytes records) n ≡ false
   unfolding overfullBefore
-  overfull-start = refl
+  none-overfull zero = refl
+  none-overfull (suc n) = rw (none-overfull n) (at-record n (sheetOf bytes records .entry n))
+    where
+      at-record : (i : ℕ) (entry : Entry) → overfullBy (sheetOf bytes records) i entry ≡ false
+      at-record i entry = by-entry bytes records i entry (cusums-fit i)

@@ -55,19 +55,18 @@ module _ (bytes : List ℕ) (records : ℕ) (table : Table) (position : Position
       omega (arith, units-after bytes (position .index), units-are bytes records table position walk)
 
   -- the record of a unit, written into the part that was lent
-  pub unit-written : (old part : List ℕ) (unit : Sample) (result : ResultRecord) → entryAt bytes (position .index) ≡ SampleUnit unit
+  pub unit-written : (old part : List ℕ) (unit : Sample) (result : ResultRecord)
       → 16 * position .units ≤ length old
       → part ≡ sets (take (length old - 16 * position .units) (drop (16 * position .units) old)) 0 (resultBytes ungraded result)
       → result ≡ resultOf (sheetOf bytes records) (position .index) unit
       → take (16 * position .units) old ++ (part ++ drop (length old - 16 * position .units) (drop (16 * position .units) old))
-      ≡ sets old (resultSize * position .units) (bytesBy (λ code. ungraded) (sheetOf bytes records) (position .index) (entryAt bytes (position .index)))
+      ≡ sets old (resultSize * position .units) (bytesBy (λ code. ungraded) (sheetOf bytes records) (position .index) (SampleUnit unit))
   unfolding bytesBy
-  unit-written old part unit result e room p r =
+  unit-written old part unit result room p r =
       let n = 16 * position .units in
       ap (λ (ys : List ℕ). take n old ++ (ys ++ drop (length old - n) (drop n old))) p
       ∙ lent-back old (resultBytes ungraded result) n room
       ∙ ap (λ (x : ResultRecord). sets old n (resultBytes ungraded x)) r
-      ∙ sym (ap (λ (x : Entry). sets old n (bytesBy (λ code. ungraded) (sheetOf bytes records) (position .index) x)) e)
 
 -- ---- all records
 

@@ -4,6 +4,7 @@ use mathlib.Core.Bool.{Bool, false, _||_}
 use mathlib.Core.List.{List, [], _++_}
 use lib.Dec.{ltb}
 use lib.ListN.{length, drop}
+use Rattle.cusum.specs.declared.Limits.{Limits}
 use Rattle.cusum.specs.declared.Cusum.{Cusum}
 use Rattle.cusum.specs.Step.{largestTenths}
 use Rattle.rules.specs.Words.{classes, any, tenthsIn}
@@ -59,6 +60,10 @@ overfullBy sheet i Break = false
 unfoldable pub overfullBefore : Sheet → ℕ → Bool
 overfullBefore sheet zero = false
 overfullBefore sheet (suc n) = overfullBefore sheet n || overfullBy sheet n (sheet .entry n)
+
+-- an L too large for two bytes
+unfoldable pub limitTooLarge : Limits → Bool
+limitTooLarge limits = ltb largestTenths (limits .limit)
 
 -- ---- the outcome
 

@@ -4,24 +4,28 @@ ghost use Prim.Native.Nat.{_+_, _*_, _<_, _≤_};
 ghost use mathlib.Core.List.{_++_};
 ghost use lib.ListN.{length, drop};
 ghost use lib.Seq.{sets};
-ghost use Rattle.rules.specs.StepThree.{opening};
+ghost use Rattle.rules.specs.StepThree.{opening, graded, next};
+ghost use Rattle.rules.specs.declared.Entry.the-variants.{SampleUnit};
 ghost use Rattle.rules.specs.Sheet.{stepThreeEnds, inFinishedRun, recovered};
 ghost use Rattle.sheet.specs.Layout.{planSize, entryAt, unitsBefore, sheetOf};
-ghost use Rattle.sheet.specs.Refusals.{verdict};
+ghost use Rattle.sheet.specs.Refusals.{verdict, anyClass, anyLimits};
 ghost use Rattle.sheet.specs.declared.Verdict.the-variants.{Accepted};
 ghost use Rattle.results.specs.Record.{resultSize};
 ghost use Rattle.results.specs.Codes.{ungraded};
-ghost use Rattle.tally.specs.Outcome.{Outcome, resultOf, bytesBy, written, anyTooLarge, overfullBy, overfullBefore, outcomeBy, outcome};
+ghost use Rattle.tally.specs.Outcome.{Outcome, resultOf, bytesBy, written, limitTooLarge, outcomeBy, outcome};
 ghost use Rattle.tally.specs.Position.{positionAt, Walk};
 use cusum::Cusum;
+use cusum::Limits;
 use results::RESULT_SIZE;
 use results::ResultRecord;
 use results::grade_codes;
-use rules::Cusums;
 use rules::Entry;
+use rules::Grading;
+use rules::Row;
 use rules::Sample;
 use rules::State;
 use rules::Table;
+use rules::row_of;
 use sheet::PLAN_SIZE;
 use sheet::Verdict;
 use sheet::check;
@@ -69,63 +73,28 @@ fn entry_here(bytes: &[u8], records: usize, table: Table, position: Position) ->
     entry_at(bytes, at, mark_at(bytes, at))
 }
 
-// Past the record at a position.
-fn advance(bytes: &[u8], records: usize, table: Table, position: Position) -> Position
-    requires { ⌜ Walk (now bytes) records table position × (position .index < records) ⌝ }
+// Past the record at a position, with the state after it.
+fn past(bytes: &[u8], records: usize, table: Table, position: Position, after: State) -> Position
+    requires { ⌜ Walk (now bytes) records table position × (position .index < records) × (after ≡ next table (position .state) (entryAt (now bytes) (position .index))) ⌝ }
     ensures { λ r. ⌜ r ≡ positionAt (now (bytes .entry)) records (position .index + 1) ⌝ }
 {
     let at = position.at;
     let mark = mark_at(bytes, at);
-    let state = position.state;
-    let next = state.after(table, entry_at(bytes, at, mark));
     Position {
         index: position.index + 1,
         at: at + size_of(mark),
         units: position.units + unit_of(mark),
-        state: next,
+        state: after,
     }
 }
 
-// Whether a CuSum is too large for two bytes.
-fn any_too_large(cusums: Cusums) -> bool
-    ensures { λ r. ⌜ r ≡ anyTooLarge cusums ⌝ }
-{
-    (Cusum::LARGEST_TENTHS < cusums[0].tenths)
-        | ((Cusum::LARGEST_TENTHS < cusums[1].tenths)
-            | ((Cusum::LARGEST_TENTHS < cusums[2].tenths)
-                | (Cusum::LARGEST_TENTHS < cusums[3].tenths)))
-}
-
-// The same at the record at a position.
-fn overfull_here(bytes: &[u8], records: usize, table: Table, position: Position) -> bool
+fn advance(bytes: &[u8], records: usize, table: Table, position: Position) -> Position
     requires { ⌜ Walk (now bytes) records table position × (position .index < records) ⌝ }
-    ensures { λ r. ⌜ r ≡ overfullBy (sheetOf (now (bytes .entry)) records) (position .index) (entryAt (now (bytes .entry)) (position .index)) ⌝ }
+    ensures { λ r. ⌜ r ≡ positionAt (now (bytes .entry)) records (position .index + 1) ⌝ }
 {
     let state = position.state;
-    match entry_here(bytes, records, table, position) {
-        Entry::SampleUnit(unit) => {
-            let grading = state.grade(table, unit);
-            let cusums = grading.cusums;
-            any_too_large(cusums)
-        }
-        Entry::Redesignation(_) => false,
-        Entry::Break => false,
-    }
-}
-
-// The same at any record.
-fn any_overfull(bytes: &[u8], records: usize, table: Table, start: Position) -> bool
-    requires { ⌜ Walk (now bytes) records table start × (start .index ≡ 0) ⌝ }
-    ensures { λ r. ⌜ r ≡ overfullBefore (sheetOf (now (bytes .entry)) records) records ⌝ }
-{
-    let mut position = start;
-    while position.index < records {
-        if overfull_here(bytes, records, table, position) {
-            return true;
-        }
-        position = advance(bytes, records, table, position);
-    }
-    false
+    let after = state.after(table, entry_here(bytes, records, table, position));
+    past(bytes, records, table, position, after)
 }
 
 // Whether step 3 ends at the record at a position; behind the last record it does not.
@@ -180,20 +149,20 @@ fn is_recovered(
     false
 }
 
-// What is recorded of the unit at a position, but for its code grade.
+// What is recorded of the unit at a position, as it was graded, but for its code grade.
 fn result_here(
     bytes: &[u8],
     records: usize,
     table: Table,
     position: Position,
     unit: Sample,
+    grading: Grading,
 ) -> ResultRecord
-    requires { ⌜ Walk (now bytes) records table position × (position .index < records) ⌝ }
+    requires { ⌜ Walk (now bytes) records table position × (position .index < records) × (grading ≡ graded table (position .state) unit) ⌝ }
     ensures { λ r. ⌜ r ≡ resultOf (sheetOf (now (bytes .entry)) records) (position .index) unit ⌝ }
 {
     let state = position.state;
     let phase = state.phase;
-    let grading = state.grade(table, unit);
     let recovered = is_recovered(bytes, records, table, position, unit);
     let cusums = grading.cusums;
     ResultRecord {
@@ -210,19 +179,53 @@ fn result_here(
     }
 }
 
-// Writes what the record at a position writes, after the result records before it.
-fn write_here(bytes: &[u8], records: usize, table: Table, position: Position, results: &mut [u8])
-    requires { ⌜ Walk (now bytes) records table position × (position .index < records) × (resultSize * unitsBefore (now bytes) (position .index + 1) ≤ length (now results)) ⌝ }
-    ensures { λ _. ⌜ now (results .exit) ≡ sets (now (results .entry)) (resultSize * position .units) (bytesBy (λ code. ungraded) (sheetOf (now (bytes .entry)) records) (position .index) (entryAt (now (bytes .entry)) (position .index))) ⌝ }
+// Grades the unit at a position, and writes its result record after those before it: the state after it.
+fn write_unit(
+    bytes: &[u8],
+    records: usize,
+    table: Table,
+    position: Position,
+    unit: Sample,
+    results: &mut [u8],
+) -> State
+    requires { ⌜ Walk (now bytes) records table position × (position .index < records) × (entryAt (now bytes) (position .index) ≡ SampleUnit unit) × (resultSize * unitsBefore (now bytes) (position .index + 1) ≤ length (now results)) ⌝ }
+    ensures state { λ r. ⌜ r ≡ next table (position .state) (SampleUnit unit) ⌝ }
+    ensures buffer { λ r. ⌜ now (results .exit) ≡ sets (now (results .entry)) (resultSize * position .units) (bytesBy (λ code. ungraded) (sheetOf (now (bytes .entry)) records) (position .index) (SampleUnit unit)) ⌝ }
 {
+    let state = position.state;
     let at = RESULT_SIZE * position.units;
+    let grading = state.grade(table, unit);
+    let result = result_here(bytes, records, table, position, unit, grading);
+    results::write(&mut results[at..], result);
+    state.after_unit(table, grading)
+}
+
+// Writes what the record at a position writes, and goes past it.
+fn write_here(
+    bytes: &[u8],
+    records: usize,
+    table: Table,
+    position: Position,
+    results: &mut [u8],
+) -> Position
+    requires { ⌜ Walk (now bytes) records table position × (position .index < records) × (resultSize * unitsBefore (now bytes) (position .index + 1) ≤ length (now results)) ⌝ }
+    ensures position { λ r. ⌜ r ≡ positionAt (now (bytes .entry)) records (position .index + 1) ⌝ }
+    ensures buffer { λ r. ⌜ now (results .exit) ≡ sets (now (results .entry)) (resultSize * position .units) (bytesBy (λ code. ungraded) (sheetOf (now (bytes .entry)) records) (position .index) (entryAt (now (bytes .entry)) (position .index))) ⌝ }
+{
+    let state = position.state;
     match entry_here(bytes, records, table, position) {
         Entry::SampleUnit(unit) => {
-            let result = result_here(bytes, records, table, position, unit);
-            results::write(&mut results[at..], result);
+            let after = write_unit(bytes, records, table, position, unit, results);
+            past(bytes, records, table, position, after)
         }
-        Entry::Redesignation(_) => {}
-        Entry::Break => {}
+        Entry::Redesignation(new) => {
+            let after = state.after(table, Entry::Redesignation(new));
+            past(bytes, records, table, position, after)
+        }
+        Entry::Break => {
+            let after = state.after(table, Entry::Break);
+            past(bytes, records, table, position, after)
+        }
     }
 }
 
@@ -233,9 +236,30 @@ fn write_records(bytes: &[u8], records: usize, table: Table, start: Position, re
 {
     let mut position = start;
     while position.index < records {
-        write_here(bytes, records, table, position, results);
-        position = advance(bytes, records, table, position);
+        position = write_here(bytes, records, table, position, results);
     }
+}
+
+// Whether an L is too large for two bytes. A CuSum is at most its L, so that none is too large where no L is (law `none-overfull`).
+fn limit_too_large(limits: Limits) -> bool
+    ensures { λ r. ⌜ r ≡ limitTooLarge limits ⌝ }
+{
+    let limit = limits.limit as u32;
+    Cusum::LARGEST_TENTHS < limit
+}
+
+fn row_overfull(row: Row) -> bool
+    ensures { λ r. ⌜ r ≡ anyClass limitTooLarge row ⌝ }
+{
+    limit_too_large(row[0])
+        | (limit_too_large(row[1]) | (limit_too_large(row[2]) | limit_too_large(row[3])))
+}
+
+fn table_overfull(table: Table) -> bool
+    ensures { λ r. ⌜ r ≡ anyLimits limitTooLarge table ⌝ }
+{
+    row_overfull(row_of(table, 0))
+        | (row_overfull(row_of(table, 1)) | row_overfull(row_of(table, 2)))
 }
 
 fn refusal(number: u32, offset: usize) -> Answer
@@ -258,10 +282,10 @@ fn grade_accepted(bytes: &[u8], results: &mut [u8], records: usize, units: usize
     }
     let plan = plan_of(bytes);
     let table = plan.table();
-    let start = first_position(table, plan.designated);
-    if any_overfull(bytes, records, table, start) {
+    if table_overfull(table) {
         return refusal(14, bytes.len());
     }
+    let start = first_position(table, plan.designated);
     write_records(bytes, records, table, start, results);
     grade_codes(results, units);
     Answer {

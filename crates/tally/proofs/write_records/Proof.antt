@@ -1,6 +1,5 @@
 use Prim.Native.Nat.{ℕ, _+_, _*_, _-_, _≤_, _<_}
 use mathlib.Core.Path.{_≡_, refl, sym, _∙_, ap}
-use mathlib.Core.List.{List}
 use native.Mathlib.Omega.{arith}
 use lib.ListN.{length}
 use Rattle.tally.specs.Position.{Walk}
@@ -10,7 +9,6 @@ use Rattle.tally.proofs.write_records.Statement.{statement}
 use Rattle.tally.proofs.write_records.Tie as tie
 use Rattle.tally.proofs.write_records.Reads as reads
 use Rattle.tally.proofs.write_records.Lts as lts
-use Rattle.tally.proofs.advance.Reads as advance-reads
 use Rattle.tally.proofs.write_here.Reads as write-here-reads
 
 abbrev Inv-loop : tie.InvT-loop
@@ -19,31 +17,27 @@ Inv-loop bytes records table results₀ position₀ results position = Walk byte
 abbrev μ-loop : tie.MeasureT-loop
 μ-loop bytes records table results₀ position₀ results position = records - position .index
 
--- src/lib.rt:216:5
+-- src/lib.rt:237:5
 loop-holds : tie.Need-loop-holds Inv-loop μ-loop
 loop-holds c = (c .before .before .pre .0, nothing-yet (c .before .before .args .bytes .now) (c .before .before .args .records) (c .before .before .args .results .now) ∙ sym (ap (writtenSoFar (c .before .before .args .bytes .now) (c .before .before .args .records) (c .before .before .args .results .now)) (c .before .before .pre .1)))
 
--- src/lib.rt:217:9
+-- src/lib.rt:238:9
 write-here-requires : tie.Need-write-here-requires Inv-loop μ-loop
 write-here-requires c κs = (c .before .before .before .loop .inv .0, c .before .if1 .taken, room-in-results _ _ _ _ (c .before .before .before .loop .inv .0) (c .before .if1 .taken) _ _ (c .before .before .before .before .before .before .pre .2) (c .before .before .before .loop .inv .1))
 
--- src/lib.rt:218:9
-advance-requires : tie.Need-advance-requires Inv-loop μ-loop
-advance-requires c κs = (c .before .before .before .before .before .before .loop .inv .0, c .before .before .before .before .if1 .taken)
-
--- src/lib.rt:216:5
+-- src/lib.rt:237:5
 loop-less : tie.Need-loop-less Inv-loop μ-loop
-loop-less c = omega (arith, next-index _ _ _ _ (c .before .before .before .before .before .before .before .loop .inv .0) (c .before .before .before .before .before .if1 .taken) _ (c .advance .ensures))
+loop-less c = omega (arith, next-index _ _ _ _ (c .before .before .before .before .before .before .loop .inv .0) (c .before .before .before .before .if1 .taken) _ (c .before .before .write-here .ensures .0))
 
--- src/lib.rt:216:5
+-- src/lib.rt:237:5
 loop-again : tie.Need-loop-again Inv-loop μ-loop
-loop-again c = (walk-on _ _ _ _ (c .before .before .before .before .before .before .before .loop .inv .0) (c .before .before .before .before .before .if1 .taken) _ (c .advance .ensures), written-on _ _ _ _ (c .before .before .before .before .before .before .before .loop .inv .0) (c .before .before .before .before .before .if1 .taken) _ _ (c .before .before .before .before .before .before .before .before .before .before .pre .2) (c .before .before .before .before .before .before .before .loop .inv .1) _ (c .before .before .before .write-here .ensures) _ (c .advance .ensures))
+loop-again c = (walk-on _ _ _ _ (c .before .before .before .before .before .before .loop .inv .0) (c .before .before .before .before .if1 .taken) _ (c .before .before .write-here .ensures .0), written-on _ _ _ _ (c .before .before .before .before .before .before .loop .inv .0) (c .before .before .before .before .if1 .taken) _ _ (c .before .before .before .before .before .before .before .before .before .pre .2) (c .before .before .before .before .before .before .loop .inv .1) _ (c .before .before .write-here .ensures .1) _ (c .before .before .write-here .ensures .0))
 
--- src/lib.rt:211:1
+-- src/lib.rt:232:1
 same-length : tie.Need-same-length Inv-loop μ-loop
 same-length c = let e : c .before .before .loop .position .index ≡ c .before .before .before .before .before .args .records = omega (arith, c .before .before .loop .inv .0 .inside) in ap length (c .before .before .loop .inv .1) ∙ ap (λ (i : ℕ). length (writtenSoFar (c .before .before .before .before .before .args .bytes .now) (c .before .before .before .before .before .args .records) (c .before .before .before .before .before .args .results .now) i)) e ∙ length-so-far (c .before .before .before .before .before .args .bytes .now) (c .before .before .before .before .before .args .records) (c .before .before .before .before .before .args .results .now) (c .before .before .before .before .before .args .records) (c .before .before .before .before .before .pre .2)
 
--- src/lib.rt:211:1
+-- src/lib.rt:232:1
 returns : tie.Need-returns Inv-loop μ-loop
 returns c = let e : c .before .before .loop .position .index ≡ c .before .before .before .before .before .args .records = omega (arith, c .before .before .loop .inv .0 .inside) in c .before .before .loop .inv .1 ∙ ap (writtenSoFar (c .before .before .before .before .before .args .bytes .now) (c .before .before .before .before .before .args .records) (c .before .before .before .before .before .args .results .now)) e
 
@@ -55,7 +49,6 @@ write-records-spec =
     μ-loop
     loop-holds
     write-here-requires
-    advance-requires
     loop-less
     loop-again
     same-length
