@@ -21,6 +21,9 @@ portionOffset = 4
 abbrev pub codeGradeOffset : ℕ
 codeGradeOffset = 5
 
+abbrev pub standingOffset : ℕ
+standingOffset = 7
+
 abbrev pub cusumsOffset : ℕ
 cusumsOffset = 8
 

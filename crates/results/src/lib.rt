@@ -18,6 +18,8 @@ pub const PORTION_OFFSET: usize = 4;
 
 pub const CODE_GRADE_OFFSET: usize = 5;
 
+pub const STANDING_OFFSET: usize = 7;
+
 // In place of the code grade while the code is not graded.
 const UNGRADED: u8 = 255;
 

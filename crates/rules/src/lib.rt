@@ -410,7 +410,8 @@ impl Phase {
         }
     }
 
-    fn ends_step_three(self, grading: Grading) -> bool
+    // Whether step 3 ends at a unit.
+    pub fn ends_step_three(self, grading: Grading) -> bool
         ensures { λ r. ⌜ r ≡ unitEndsStepThree self grading ⌝ }
     {
         match self {

@@ -276,7 +276,8 @@ pub fn unit_of(mark: Mark) -> usize
     }
 }
 
-fn sample_at(bytes: &[u8], at: usize) -> Sample
+// The unit at an offset, whole.
+pub fn sample_at(bytes: &[u8], at: usize) -> Sample
     requires { ⌜ at + unitSize ≤ length (now bytes) ⌝ }
     ensures { λ r. ⌜ r ≡ sampleAt (now (bytes .entry)) at ⌝ }
 {

@@ -1,6 +1,7 @@
 pub mod Written
 pub mod Walking
 pub mod Overfull
+pub mod Recovering
 pub mod Writing
 pub mod Coding
 pub mod Cases

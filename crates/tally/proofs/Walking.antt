@@ -59,11 +59,6 @@ module _ (bytes : List ℕ) (records : ℕ) (table : Table) (position : Position
   unfolding sheetOf
   graded-is unit = ap₂ (λ (t : Table) (s : State). graded t s unit) (walk .same-table) state-is
 
-  -- step 3 ends here, or not
-  pub ends-is : stepThreeEnds (sheetOf bytes records) (position .index) ≡ endsAt table (position .state) (entryAt bytes (position .index))
-  unfolding stepThreeEnds sheetOf
-  ends-is = sym (ap₂ (λ (t : Table) (s : State). endsAt t s (entryAt bytes (position .index))) (walk .same-table) state-is)
-
   module _ (inside : position .index < records) where
     pub whole-here : position .at + sizeOf (markAt bytes (position .at)) ≤ length bytes
     whole-here = subst⁻¹ (λ (x : ℕ). x + sizeOf (markAt bytes x) ≤ length bytes) at-is (walk-facts .whole (position .index) inside)
@@ -113,47 +108,7 @@ module _ (bytes : List ℕ) (records : ℕ) (table : Table) (position : Position
           here = e ∙ ap (positionAt bytes records) (sym i);
         }
 
-  -- behind the last record step 3 does not end
-  pub no-end-behind : records ≤ position .index → stepThreeEnds (sheetOf bytes records) (position .index) ≡ false
-  unfolding endsAt
-  no-end-behind h = ends-is ∙ ap (endsAt table (position .state)) (past-entry bytes records walk-facts (position .index) h)
-
--- ---- the finished run, looked for two records ahead
-
-module _ (bytes : List ℕ) (records i : ℕ) where
-  pub ends-first : stepThreeEnds (sheetOf bytes records) i ≡ true → true ≡ inFinishedRun (sheetOf bytes records) i
-  unfolding inFinishedRun
-  ends-first e = rw e
-
-  module _ (not-first : stepThreeEnds (sheetOf bytes records) i ≡ false) (second : Position) (at-second : second ≡ positionAt bytes records (i + 1)) where
-    second-index : second .index ≡ i + 1
-    unfolding positionAt
-    second-index = ap (λ (p : Position). p .index) at-second
-
-    pub ends-second : stepThreeEnds (sheetOf bytes records) (second .index) ≡ true → true ≡ inFinishedRun (sheetOf bytes records) i
-    unfolding inFinishedRun
-    ends-second e = rw (not-first, ← second-index, e)
-
-    module _ (not-second : stepThreeEnds (sheetOf bytes records) (second .index) ≡ false) where
-      only-third : inFinishedRun (sheetOf bytes records) i ≡ stepThreeEnds (sheetOf bytes records) (i + 2)
-      unfolding inFinishedRun
-      only-third = rw (not-first, ← second-index, not-second)
-
-      pub ends-third : (third : Position) → third ≡ positionAt bytes records (second .index + 1)
-          → stepThreeEnds (sheetOf bytes records) (third .index) ≡ inFinishedRun (sheetOf bytes records) i
-      unfolding positionAt
-      ends-third third at-third =
-          let e : third .index ≡ i + 2 = omega (arith, ap (λ (p : Position). p .index) at-third, second-index) in
-          ap (stepThreeEnds (sheetOf bytes records)) e ∙ sym only-third
-
 -- behind the last record nothing ends
-no-end : (bytes : List ℕ) (records : ℕ) → Facts bytes records → (i : ℕ) → records ≤ i → stepThreeEnds (sheetOf bytes records) i ≡ false
+pub no-end : (bytes : List ℕ) (records : ℕ) → Facts bytes records → (i : ℕ) → records ≤ i → stepThreeEnds (sheetOf bytes records) i ≡ false
 unfolding stepThreeEnds endsAt sheetOf
 no-end bytes records f i h = ap (endsAt (tableOf (planOf bytes)) (before (sheetOf bytes records) i)) (past-entry bytes records f i h)
-
-pub ends-none : (bytes : List ℕ) (records : ℕ) (table : Table) (position : Position) → Walk bytes records table position
-    → stepThreeEnds (sheetOf bytes records) (position .index) ≡ false → (second : Position) → second ≡ positionAt bytes records (position .index + 1)
-    → stepThreeEnds (sheetOf bytes records) (second .index) ≡ false → records ≤ second .index → false ≡ inFinishedRun (sheetOf bytes records) (position .index)
-ends-none bytes records table position walk not-first second at-second not-second behind =
-    let e : records ≤ position .index + 2 = omega (arith, second-index bytes records (position .index) not-first second at-second) in
-    sym (only-third bytes records (position .index) not-first second at-second not-second ∙ no-end bytes records (walk-facts bytes records table position walk) (position .index + 2) e)

@@ -1,87 +1,80 @@
--- Writing the result records, no code graded yet: the room for a unit's record, one record more, and the start.
--- From the stores' laws and the lengths of the records.
+-- The writing pass, one record at a time: the room for a unit's record, the record added, and the two before it recovered where step 3
+-- ends. From the stores' laws, the lengths of the records, and the laws of what is written so far.
 use Prim.Native.Nat.{ℕ, zero, suc, _+_, _*_, _-_, _≤_, _<_}
-use mathlib.Core.Path.{_≡_, refl, sym, _∙_, ap, ap₂, subst}
+use mathlib.Core.Path.{_≡_, refl, sym, _∙_, ap, ap₂, subst, subst⁻¹}
 use mathlib.Core.Logic.{_⊎_, inl, inr}
-use mathlib.Core.List.{List, [], _++_}
+use mathlib.Core.Bool.{Bool, true, false, _&&_}
+use mathlib.Core.List.{List, [], _++_, append-assoc, append-nil}
 use native.Mathlib.Nat.{eq-or-lt-of-le}
 use native.Mathlib.Numerals.{add-one}
 use native.Mathlib.Omega.{arith}
-use lib.ListN.{length, take, drop, length-append, length-drop}
-use lib.Seq.{sets, length-sets}
+use lib.ListN.{length, drop, length-append, length-drop}
+use lib.Seq.{sets}
 use Rattle.rules.specs.Words.{Table}
+use Rattle.rules.specs.StepThree.{designatedIn, graded, unitEndsStepThree, endsAt}
+use Rattle.rules.specs.Sheet.{Sheet, before, designatedBefore, stepThreeEnds}
+use Rattle.rules.specs.declared.State.{State}
+use Rattle.rules.specs.declared.Grading.{Grading}
 use Rattle.rules.specs.declared.Sample.{Sample}
 use Rattle.rules.specs.declared.Entry.{Entry}
 use Rattle.rules.specs.declared.Entry.the-variants.{SampleUnit, Redesignation, Break}
-use Rattle.sheet.specs.Layout.{offset, mark, entryOf, entryAt, unitOf, unitsBefore, sheetOf}
+use Rattle.rules.proofs.FinishedRun.{FinishedRun, finished-run}
+use Rattle.sheet.specs.Layout.{planSize, unitSize, sizeOf, sampleAt, offset, mark, entryOf, entryAt, unitOf, unitsBefore, sheetOf}
 use Rattle.sheet.specs.declared.Mark.{Mark}
 use Rattle.sheet.specs.declared.Mark.the-variants.{UnitMark, RedesignationMark, BreakMark, NoMark}
-use Rattle.sheet.proofs.Offsets.{unit-of-le}
+use Rattle.sheet.proofs.Accepted.{Facts}
+use Rattle.sheet.proofs.Offsets.{offset-ge}
 use Rattle.sheet.proofs.Ranges.{units-most}
 use Rattle.results.specs.Record.{resultSize, resultBytes}
 use Rattle.results.specs.Codes.{ungraded}
 use Rattle.results.specs.declared.ResultRecord.{ResultRecord}
-use Rattle.results.proofs.Stores.{lent-back, appended, part-length}
+use Rattle.results.proofs.Fields.{length-result}
+use Rattle.results.proofs.Stores.{appended}
 use Rattle.tally.specs.declared.Position.{Position}
 use Rattle.tally.specs.Position.{positionAt, Walk}
-use Rattle.tally.specs.Outcome.{resultOf, bytesBy, written}
-use Rattle.tally.proofs.Walking.{walk-facts, units-are, next-index}
-use Rattle.tally.proofs.Written.{length-written}
+use Rattle.tally.specs.Outcome.{written}
+use Rattle.tally.specs.Writing.{resultIf, recoveredSoFar, bytesSoFar, recordsSoFar, writtenSoFar, recoveredIn, TwoBefore, twoRecovered}
+use Rattle.tally.proofs.Recorded.{entry-unit}
+use Rattle.tally.proofs.Recovering.{records-stay, records-before-run, recovered-now, recovered-first, recovered-second, not-marked, one-recovered, same-designated, records-all}
+use Rattle.tally.proofs.Walking.{walk-facts, at-is, units-are, state-is, no-end}
 
--- a record that reads as a unit counts as one
-unit-counts : (bytes : List ℕ) (at : ℕ) (m : Mark) (unit : Sample) → entryOf bytes at m ≡ SampleUnit unit → unitOf m ≡ 1
-unfolding entryOf unitOf
-unit-counts bytes at UnitMark unit e = refl
-unit-counts bytes at RedesignationMark unit e = let z : _≡_ {A = ℕ} 0 1 = cc in z
-unit-counts bytes at BreakMark unit e = let z : _≡_ {A = ℕ} 0 1 = cc in z
-unit-counts bytes at NoMark unit e = let z : _≡_ {A = ℕ} 0 1 = cc in z
+-- ---- a record that is no unit
 
--- the units up to and with record i
-pub units-after : (bytes : List ℕ) (i : ℕ) → unitsBefore bytes (i + 1) ≡ unitsBefore bytes i + unitOf (mark bytes i)
-unfolding unitsBefore
-units-after bytes i = ap (unitsBefore bytes) (add-one i)
+unfoldable pub NoUnit : Entry → Type 0
+NoUnit (SampleUnit unit) = ⊥
+NoUnit (Redesignation new) = Unit {0}
+NoUnit Break = Unit {0}
 
-module _ (bytes : List ℕ) (records : ℕ) (table : Table) (position : Position) (walk : Walk bytes records table position) where
-  -- the offset of the next result record
-  pub units-few : position .units ≤ 1000
-  units-few = omega (arith, units-are bytes records table position walk, units-most bytes records (walk-facts bytes records table position walk) (position .index) (walk .inside))
+-- ---- units and their places
 
-  -- there is room for a unit's record
-  pub room-for-unit : (size : ℕ) (unit : Sample) → resultSize * unitsBefore bytes (position .index + 1) ≤ size → entryAt bytes (position .index) ≡ SampleUnit unit
-      → 16 * position .units + 16 ≤ size
-  unfolding entryAt
-  room-for-unit size unit room e =
-      let one = unit-counts bytes (offset bytes (position .index)) (mark bytes (position .index)) unit e in
-      omega (arith, units-after bytes (position .index), units-are bytes records table position walk)
+-- a record that reads as a unit has its mark
+unit-mark-of : (bytes : List ℕ) (at : ℕ) (m : Mark) (unit : Sample) → entryOf bytes at m ≡ SampleUnit unit → m ≡ UnitMark
+unfolding entryOf
+unit-mark-of bytes at UnitMark unit e = refl
+unit-mark-of bytes at RedesignationMark unit e = let z : _≡_ {A = ℕ} 0 1 = cc in absurd (omega arith)
+unit-mark-of bytes at BreakMark unit e = let z : _≡_ {A = ℕ} 0 1 = cc in absurd (omega arith)
+unit-mark-of bytes at NoMark unit e = let z : _≡_ {A = ℕ} 0 1 = cc in absurd (omega arith)
 
-  -- the record of a unit, written into the part that was lent
-  pub unit-written : (old part : List ℕ) (unit : Sample) (result : ResultRecord)
-      → 16 * position .units ≤ length old
-      → part ≡ sets (take (length old - 16 * position .units) (drop (16 * position .units) old)) 0 (resultBytes ungraded result)
-      → result ≡ resultOf (sheetOf bytes records) (position .index) unit
-      → take (16 * position .units) old ++ (part ++ drop (length old - 16 * position .units) (drop (16 * position .units) old))
-      ≡ sets old (resultSize * position .units) (bytesBy (λ code. ungraded) (sheetOf bytes records) (position .index) (SampleUnit unit))
-  unfolding bytesBy
-  unit-written old part unit result room p r =
-      let n = 16 * position .units in
-      ap (λ (ys : List ℕ). take n old ++ (ys ++ drop (length old - n) (drop n old))) p
-      ∙ lent-back old (resultBytes ungraded result) n room
-      ∙ ap (λ (x : ResultRecord). sets old n (resultBytes ungraded x)) r
+pub unit-mark : (bytes : List ℕ) (i : ℕ) (unit : Sample) → entryAt bytes i ≡ SampleUnit unit → mark bytes i ≡ UnitMark
+unfolding entryAt
+unit-mark bytes i unit e = unit-mark-of bytes (offset bytes i) (mark bytes i) unit e
 
--- ---- all records
+module _ (bytes : List ℕ) (i : ℕ) (m : mark bytes i ≡ UnitMark) where
+  pub next-offset : offset bytes (suc i) ≡ offset bytes i + unitSize
+  unfolding offset sizeOf
+  next-offset = ap (λ (x : Mark). offset bytes i + sizeOf x) m
 
--- what the buffer holds before record i is handled
-abbrev pub writtenSoFar : List ℕ → ℕ → List ℕ → ℕ → List ℕ
-writtenSoFar bytes records old i = written (λ code. ungraded) (sheetOf bytes records) i ++ drop (resultSize * unitsBefore bytes i) old
+  pub next-units : unitsBefore bytes (suc i) ≡ unitsBefore bytes i + 1
+  unfolding unitsBefore unitOf
+  next-units = ap (λ (x : Mark). unitsBefore bytes i + unitOf x) m
 
-pub nothing-yet : (bytes : List ℕ) (records : ℕ) (old : List ℕ) → old ≡ writtenSoFar bytes records old 0
-unfolding written unitsBefore
-nothing-yet bytes records old = refl
-
-pub length-so-far : (bytes : List ℕ) (records : ℕ) (old : List ℕ) (i : ℕ) → resultSize * unitsBefore bytes i ≤ length old → length (writtenSoFar bytes records old i) ≡ length old
-length-so-far bytes records old i h =
-    length-append (written (λ code. ungraded) (sheetOf bytes records) i) (drop (resultSize * unitsBefore bytes i) old)
-    ∙ omega (arith, length-written (λ code. ungraded) bytes records i, length-drop (resultSize * unitsBefore bytes i) old)
+-- a record of an accepted sheet starts inside it
+pub offset-inside : (bytes : List ℕ) (records : ℕ) → Facts bytes records → (i : ℕ) → i ≤ records → offset bytes i ≤ length bytes
+offset-inside bytes records f i h = go (eq-or-lt-of-le h)
+  where
+    go : (i ≡ records) ⊎ (i < records) → offset bytes i ≤ length bytes
+    go (inl e) = omega (arith, ap (offset bytes) e, f .end)
+    go (inr l) = omega (arith, f .within i l .0)
 
 pub units-mono : (bytes : List ℕ) (i n : ℕ) → i ≤ n → unitsBefore bytes i ≤ unitsBefore bytes n
 unfolding unitsBefore
@@ -92,42 +85,261 @@ units-mono bytes i (suc n) h = go (eq-or-lt-of-le h) (units-mono bytes i n)
     go (inl e) r = rw e (omega arith)
     go (inr l) r = omega (arith, r (omega arith))
 
--- one record more
-pub record-written : (bytes : List ℕ) (records : ℕ) (old : List ℕ) (i : ℕ) → resultSize * unitsBefore bytes (i + 1) ≤ length old
-    → sets (writtenSoFar bytes records old i) (resultSize * unitsBefore bytes i) (bytesBy (λ code. ungraded) (sheetOf bytes records) i (entryAt bytes i))
-    ≡ writtenSoFar bytes records old (i + 1)
-unfolding written sheetOf
-record-written bytes records old i room =
+-- ---- lengths
+
+length-by : (bytes : List ℕ) (sheet : Sheet) (m i at : ℕ) (k : Mark) → length (bytesSoFar sheet m i (entryOf bytes at k)) ≡ resultSize * unitOf k
+unfolding bytesSoFar entryOf unitOf
+length-by bytes sheet m i at UnitMark = length-result _ _
+length-by bytes sheet m i at RedesignationMark = refl
+length-by bytes sheet m i at BreakMark = refl
+length-by bytes sheet m i at NoMark = refl
+
+pub length-records : (bytes : List ℕ) (records m n : ℕ) → length (recordsSoFar (sheetOf bytes records) m n) ≡ resultSize * unitsBefore bytes n
+unfolding recordsSoFar unitsBefore sheetOf entryAt
+length-records bytes records m zero = refl
+length-records bytes records m (suc n) =
     let sheet = sheetOf bytes records in
-    let w = written (λ code. ungraded) sheet i in
-    let r = bytesBy (λ code. ungraded) sheet i (entryAt bytes i) in
-    let lw : length w ≡ resultSize * unitsBefore bytes i = length-written (λ code. ungraded) bytes records i in
-    let both : length w + length r ≡ resultSize * unitsBefore bytes (i + 1) =
-    sym (length-append w r) ∙ length-written (λ code. ungraded) bytes records (suc i) ∙ ap (λ (n : ℕ). resultSize * unitsBefore bytes n) (sym (add-one i)) in
-    ap (λ (n : ℕ). sets (w ++ drop n old) n r) (sym lw)
-    ∙ appended w r old (omega arith)
-    ∙ ap (λ (n : ℕ). (w ++ r) ++ drop n old) both
-    ∙ sym (ap (λ (n : ℕ). written (λ code. ungraded) sheet n ++ drop (resultSize * unitsBefore bytes (i + 1)) old) (add-one i))
+    omega (arith, length-append (recordsSoFar sheet m n) (bytesSoFar sheet m n (entryAt bytes n)), length-records bytes records m n, length-by bytes sheet m n (offset bytes n) (mark bytes n))
+
+pub length-so-far : (bytes : List ℕ) (records : ℕ) (old : List ℕ) (m : ℕ) → resultSize * unitsBefore bytes m ≤ length old → length (writtenSoFar bytes records old m) ≡ length old
+unfolding writtenSoFar
+length-so-far bytes records old m h =
+    length-append (recordsSoFar (sheetOf bytes records) m m) (drop (resultSize * unitsBefore bytes m) old)
+    ∙ omega (arith, length-records bytes records m m, length-drop (resultSize * unitsBefore bytes m) old)
+
+pub nothing-yet : (bytes : List ℕ) (records : ℕ) (old : List ℕ) → old ≡ writtenSoFar bytes records old 0
+unfolding writtenSoFar recordsSoFar unitsBefore
+nothing-yet bytes records old = refl
+
+-- ---- a record that writes nothing
+
+module _ (bytes : List ℕ) (records : ℕ) (old : List ℕ) (i : ℕ) where
+  pub silent : unitOf (mark bytes i) ≡ 0 → stepThreeEnds (sheetOf bytes records) i ≡ false
+      → bytesSoFar (sheetOf bytes records) (suc i) i (entryAt bytes i) ≡ [] → writtenSoFar bytes records old i ≡ writtenSoFar bytes records old (i + 1)
+  unfolding writtenSoFar recordsSoFar unitsBefore sheetOf
+  silent u stays nothing =
+      let sheet = sheetOf bytes records in
+      let units : unitsBefore bytes i + unitOf (mark bytes i) ≡ unitsBefore bytes i = omega (arith, u) in
+      ap₂ (λ (w : List ℕ) (n : ℕ). w ++ drop (resultSize * n) old)
+      (records-stay sheet i stays ∙ sym (ap (λ (l : List ℕ). recordsSoFar sheet (suc i) i ++ l) nothing ∙ append-nil (recordsSoFar sheet (suc i) i))) (sym units)
+      ∙ sym (ap (λ (n : ℕ). recordsSoFar sheet n n ++ drop (resultSize * unitsBefore bytes n) old) (add-one i))
+
+  no-unit-mark : (at : ℕ) (k : Mark) (entry : Entry) → entryOf bytes at k ≡ entry → NoUnit entry → unitOf k ≡ 0
+  unfolding entryOf unitOf NoUnit
+  no-unit-mark at UnitMark entry e h = absurd (subst NoUnit (sym e) h)
+  no-unit-mark at RedesignationMark entry e h = refl
+  no-unit-mark at BreakMark entry e h = refl
+  no-unit-mark at NoMark entry e h = refl
+
+  no-unit-ends : (state : State) (table : Table) (entry : Entry) → NoUnit entry → endsAt table state entry ≡ false
+  unfolding endsAt NoUnit
+  no-unit-ends state table (SampleUnit unit) h = absurd h
+  no-unit-ends state table (Redesignation new) h = refl
+  no-unit-ends state table Break h = refl
+
+  no-unit-bytes : (sheet : Sheet) (m : ℕ) (entry : Entry) → NoUnit entry → bytesSoFar sheet m i entry ≡ []
+  unfolding bytesSoFar NoUnit
+  no-unit-bytes sheet m (SampleUnit unit) h = absurd h
+  no-unit-bytes sheet m (Redesignation new) h = refl
+  no-unit-bytes sheet m Break h = refl
+
+  -- a redesignation or a break
+  pub no-unit : (entry : Entry) → entryAt bytes i ≡ entry → NoUnit entry → writtenSoFar bytes records old i ≡ writtenSoFar bytes records old (i + 1)
+  unfolding entryAt stepThreeEnds sheetOf
+  no-unit entry e h =
+      let sheet = sheetOf bytes records in
+      silent (no-unit-mark (offset bytes i) (mark bytes i) entry e h)
+      (no-unit-ends (before sheet i) (sheet .table) (entryAt bytes i) (subst⁻¹ NoUnit e h))
+      (no-unit-bytes sheet (suc i) (entryAt bytes i) (subst⁻¹ NoUnit e h))
+
+-- ---- the finished run recovered
+
+module _ (bytes : List ℕ) (records k : ℕ) (ends : stepThreeEnds (sheetOf bytes records) (suc (suc k)) ≡ true)
+    (m0 : mark bytes k ≡ UnitMark) (m1 : mark bytes (suc k) ≡ UnitMark) (designated : ℕ)
+    (d0 : designated ≡ designatedBefore (sheetOf bytes records) k) (d1 : designated ≡ designatedBefore (sheetOf bytes records) (suc k)) where
+  abbrev sheet : Sheet
+  sheet = sheetOf bytes records
+
+  abbrev first : Sample
+  first = sampleAt bytes (offset bytes k)
+
+  abbrev second : Sample
+  second = sampleAt bytes (offset bytes (suc k))
+
+  abbrev one : (m j : ℕ) (unit : Sample) → List ℕ
+  one m j unit = resultBytes ungraded (resultIf sheet j unit (recoveredSoFar sheet m j unit))
+
+  run-records : (m : ℕ) → recordsSoFar sheet m (suc (suc k)) ≡ (recordsSoFar sheet m k ++ one m k first) ++ one m (suc k) second
+  unfolding recordsSoFar bytesSoFar sheetOf
+  run-records m =
+      ap₂ (λ (x y : Entry). (recordsSoFar sheet m k ++ bytesSoFar sheet m k x) ++ bytesSoFar sheet m (suc k) y) (entry-unit bytes k m0) (entry-unit bytes (suc k) m1)
+
+  pub run-recovered : (rest : List ℕ)
+      → recoveredIn (recoveredIn (recordsSoFar sheet (suc (suc k)) (suc (suc k)) ++ rest) (resultSize * unitsBefore bytes k) designated first) (resultSize * unitsBefore bytes (suc k)) designated second
+      ≡ recordsSoFar sheet (suc (suc (suc k))) (suc (suc k)) ++ rest
+  run-recovered rest =
+      let m = suc (suc k) in
+      let p = recordsSoFar sheet m k in
+      let b0 = one m k first in
+      let b1 = one m (suc k) second in
+      let r0 = resultBytes ungraded (resultIf sheet k first (first .recoverable)) in
+      let r1 = resultBytes ungraded (resultIf sheet (suc k) second (second .recoverable)) in
+      let lp : resultSize * unitsBefore bytes k ≡ length p = sym (length-records bytes records m k) in
+      let lq : resultSize * unitsBefore bytes (suc k) ≡ length (p ++ r0) =
+      omega (arith, length-append p r0, length-records bytes records m k, length-result ungraded (resultIf sheet k first (first .recoverable)), next-units bytes k m0) in
+      ap (λ (l : List ℕ). recoveredIn (recoveredIn l (resultSize * unitsBefore bytes k) designated first) (resultSize * unitsBefore bytes (suc k)) designated second)
+      (ap (λ (l : List ℕ). l ++ rest) (run-records m) ∙ append-assoc (p ++ b0) b1 rest ∙ append-assoc p b0 (b1 ++ rest))
+      ∙ ap (λ (n : ℕ). recoveredIn (recoveredIn (p ++ (b0 ++ (b1 ++ rest))) n designated first) (resultSize * unitsBefore bytes (suc k)) designated second) lp
+      ∙ ap (λ (l : List ℕ). recoveredIn l (resultSize * unitsBefore bytes (suc k)) designated second)
+      (one-recovered sheet k designated first (recoveredSoFar sheet m k first) p (b1 ++ rest) d0 (not-marked sheet m k first)
+      ∙ sym (append-assoc p r0 (b1 ++ rest)))
+      ∙ ap (λ (n : ℕ). recoveredIn ((p ++ r0) ++ (b1 ++ rest)) n designated second) lq
+      ∙ one-recovered sheet (suc k) designated second (recoveredSoFar sheet m (suc k) second) (p ++ r0) rest d1 (not-marked sheet m (suc k) second)
+      ∙ sym (append-assoc (p ++ r0) r1 rest)
+      ∙ sym (ap (λ (l : List ℕ). l ++ rest) (run-records (suc m) ∙ after))
+    where
+      after : (recordsSoFar sheet (suc (suc (suc k))) k ++ one (suc (suc (suc k))) k first) ++ one (suc (suc (suc k))) (suc k) second
+          ≡ (recordsSoFar sheet (suc (suc k)) k ++ resultBytes ungraded (resultIf sheet k first (first .recoverable)))
+          ++ resultBytes ungraded (resultIf sheet (suc k) second (second .recoverable))
+      after =
+          rw (recovered-first sheet k first ends, recovered-second sheet k second ends, ← records-before-run sheet (suc (suc k)) k (omega arith))
+
+-- ---- a unit
+
+module _ (bytes : List ℕ) (records : ℕ) (table : Table) (position : Position) (walk : Walk bytes records table position) where
+  abbrev i : ℕ
+  i = position .index
+
+  -- the offset of the next result record
+  pub units-few : position .units ≤ 1000
+  units-few = omega (arith, units-are bytes records table position walk, units-most bytes records (walk-facts bytes records table position walk) i (walk .inside))
+
+  module _ (unit : Sample) (is-unit : entryAt bytes i ≡ SampleUnit unit) where
+    units-next : unitsBefore bytes (i + 1) ≡ position .units + 1
+    units-next =
+        ap (unitsBefore bytes) (add-one i) ∙ next-units bytes i (unit-mark bytes i unit is-unit) ∙ ap (λ (n : ℕ). n + 1) (sym (units-are bytes records table position walk))
+
+    -- there is room for its record
+    pub room-for-unit : (size : ℕ) → resultSize * unitsBefore bytes (i + 1) ≤ size → 16 * position .units + 16 ≤ size
+    room-for-unit size room = omega (arith, units-next)
+
+    -- step 3 ends at it
+    pub ends-is : (grading : Grading) → grading ≡ graded table (position .state) unit → unitEndsStepThree (position .state .phase) grading ≡ stepThreeEnds (sheetOf bytes records) i
+    unfolding stepThreeEnds endsAt sheetOf
+    ends-is grading e =
+        ap (unitEndsStepThree (position .state .phase)) e
+        ∙ ap₂ (λ (t : Table) (s : State). unitEndsStepThree (s .phase) (graded t s unit)) (walk .same-table) (state-is bytes records table position walk)
+        ∙ sym (ap (endsAt (sheetOf bytes records .table) (before (sheetOf bytes records) i)) is-unit)
+
+    -- where step 3 ends at it, the finished run stands right before it
+    module _ (ends : stepThreeEnds (sheetOf bytes records) i ≡ true) where
+      pub run : FinishedRun (sheetOf bytes records) i
+      run = finished-run (sheetOf bytes records) i ends
+
+      run-mark-first : mark bytes (run .start) ≡ UnitMark
+      unfolding sheetOf
+      run-mark-first = unit-mark bytes (run .start) (run .first .unit) (run .first .is-unit)
+
+      run-mark-second : mark bytes (suc (run .start)) ≡ UnitMark
+      unfolding sheetOf
+      run-mark-second = unit-mark bytes (suc (run .start)) (run .second .unit) (run .second .is-unit)
+
+      offset-is : position .at ≡ offset bytes (run .start) + unitSize + unitSize
+      offset-is =
+          at-is bytes records table position walk ∙ ap (offset bytes) (run .ends-here)
+          ∙ next-offset bytes (suc (run .start)) run-mark-second ∙ ap (λ (x : ℕ). x + unitSize) (next-offset bytes (run .start) run-mark-first)
+
+      units-is : position .units ≡ unitsBefore bytes (run .start) + 1 + 1
+      units-is =
+          units-are bytes records table position walk ∙ ap (unitsBefore bytes) (run .ends-here)
+          ∙ next-units bytes (suc (run .start)) run-mark-second ∙ ap (λ (x : ℕ). x + 1) (next-units bytes (run .start) run-mark-first)
+
+      pub two-before : (size : ℕ) → 16 * position .units + 16 ≤ size → TwoBefore bytes position size
+      two-before size room =
+          record {
+            two-units = omega (arith, offset-is);
+            inside = omega (arith, at-is bytes records table position walk, offset-inside bytes records (walk-facts bytes records table position walk) i (walk .inside));
+            two-results = omega (arith, units-is);
+            few = units-few;
+            room = omega arith;
+          }
+
+    module _ (old results : List ℕ) (so-far : results ≡ writtenSoFar bytes records old i) (same-length : length old ≡ length results)
+        (room : resultSize * unitsBefore bytes (i + 1) ≤ length results) (result : ResultRecord)
+        (is-result : result ≡ resultIf (sheetOf bytes records) i unit (unit .recoverable && stepThreeEnds (sheetOf bytes records) i)) where
+      abbrev whole : Sheet
+      whole = sheetOf bytes records
+
+      abbrev rest : List ℕ
+      rest = drop (resultSize * unitsBefore bytes (i + 1)) old
+
+      -- its record behind those before it
+      pub added : sets results (16 * position .units) (resultBytes ungraded result) ≡ recordsSoFar whole i i ++ (bytesSoFar whole (suc i) i (SampleUnit unit) ++ rest)
+      unfolding writtenSoFar bytesSoFar
+      added =
+          let n = 16 * position .units in
+          let w = recordsSoFar whole i i in
+          let r = resultBytes ungraded result in
+          let units : resultSize * unitsBefore bytes i ≡ n = ap (λ (x : ℕ). resultSize * x) (sym (units-are bytes records table position walk)) in
+          let lw : length w ≡ n = length-records bytes records i i ∙ units in
+          let lr : length r ≡ 16 = length-result ungraded result in
+          let both : length w + length r ≡ resultSize * unitsBefore bytes (i + 1) = omega (arith, lw, lr, units-next) in
+          ap (λ (l : List ℕ). sets l n r) (so-far ∙ ap (λ (x : ℕ). w ++ drop x old) (units ∙ sym lw))
+          ∙ ap (λ (x : ℕ). sets (w ++ drop (length w) old) x r) (sym lw)
+          ∙ appended w r old (omega (arith, lw, lr, room-for-unit (length results) room))
+          ∙ append-assoc w r (drop (length w + length r) old)
+          ∙ ap₂ (λ (l : List ℕ) (x : ℕ). w ++ (l ++ drop x old))
+          (ap (resultBytes ungraded) (is-result ∙ ap (resultIf whole i unit) (recovered-now whole i unit)))
+          both
+
+      finish : recordsSoFar whole (suc i) i ++ (bytesSoFar whole (suc i) i (SampleUnit unit) ++ rest) ≡ writtenSoFar bytes records old (i + 1)
+      unfolding writtenSoFar recordsSoFar sheetOf
+      finish =
+          sym (append-assoc (recordsSoFar whole (suc i) i) (bytesSoFar whole (suc i) i (SampleUnit unit)) rest)
+          ∙ ap (λ (x : Entry). (recordsSoFar whole (suc i) i ++ bytesSoFar whole (suc i) i x) ++ rest) (sym is-unit)
+          ∙ sym (ap (λ (n : ℕ). recordsSoFar whole n n ++ rest) (add-one i))
+
+      -- where step 3 does not end that is all
+      pub plain : stepThreeEnds whole i ≡ false → recordsSoFar whole i i ++ (bytesSoFar whole (suc i) i (SampleUnit unit) ++ rest) ≡ writtenSoFar bytes records old (i + 1)
+      unfolding writtenSoFar recordsSoFar sheetOf
+      plain stays =
+          ap (λ (l : List ℕ). l ++ (bytesSoFar whole (suc i) i (SampleUnit unit) ++ rest)) (records-stay whole i stays)
+          ∙ finish
+
+      -- and the two before it are recovered
+      pub ended : (ends : stepThreeEnds whole i ≡ true) (designated : ℕ) → designated ≡ designatedIn (position .state .phase)
+          → twoRecovered bytes position designated (recordsSoFar whole i i ++ (bytesSoFar whole (suc i) i (SampleUnit unit) ++ rest)) ≡ writtenSoFar bytes records old (i + 1)
+      unfolding twoRecovered
+      ended ends designated d =
+          let here : designated ≡ designatedBefore whole i = d ∙ ap (λ (x : State). designatedIn (x .phase)) (state-is bytes records table position walk) in
+          let same = same-designated whole i (run ends) in
+          let tail = bytesSoFar whole (suc i) i (SampleUnit unit) ++ rest in
+          let e : resultSize * position .units - 2 * resultSize ≡ resultSize * unitsBefore bytes (run ends .start) = omega (arith, units-is ends) in
+          let f : resultSize * position .units - resultSize ≡ resultSize * unitsBefore bytes (suc (run ends .start)) = omega (arith, units-is ends, next-units bytes (run ends .start) (run-mark-first ends)) in
+          let o : position .at - 2 * unitSize ≡ offset bytes (run ends .start) = omega (arith, offset-is ends) in
+          let q : position .at - unitSize ≡ offset bytes (suc (run ends .start)) = omega (arith, offset-is ends, next-offset bytes (run ends .start) (run-mark-first ends)) in
+          rw (e, f, o, q)
+          (ap (λ (n : ℕ). recoveredIn (recoveredIn (recordsSoFar whole n n ++ tail) (resultSize * unitsBefore bytes (run ends .start)) designated (sampleAt bytes (offset bytes (run ends .start))))
+          (resultSize * unitsBefore bytes (suc (run ends .start))) designated (sampleAt bytes (offset bytes (suc (run ends .start))))) (run ends .ends-here)
+          ∙ run-recovered bytes records (run ends .start) (subst (λ (n : ℕ). stepThreeEnds whole n ≡ true) (run ends .ends-here) ends) (run-mark-first ends) (run-mark-second ends) designated
+          (here ∙ sym (same .0)) (here ∙ sym (same .1)) tail
+          ∙ sym (ap (λ (n : ℕ). recordsSoFar whole (suc n) n ++ tail) (run ends .ends-here))
+          ∙ finish)
 
 -- ---- a turn of the loop
 
-module _ (bytes : List ℕ) (records : ℕ) (table : Table) (position : Position) (walk : Walk bytes records table position) (inside : position .index < records)
-    (old results : List ℕ) (room : resultSize * unitsBefore bytes records ≤ length old) (so-far : results ≡ writtenSoFar bytes records old (position .index)) where
-  pub room-here : resultSize * unitsBefore bytes (position .index + 1) ≤ length old
-  room-here = omega (arith, units-mono bytes (position .index + 1) records (omega arith))
+module _ (bytes : List ℕ) (records : ℕ) (position : Position) (inside : position .index < records) (old results : List ℕ)
+    (room : resultSize * unitsBefore bytes records ≤ length old) (so-far : results ≡ writtenSoFar bytes records old (position .index)) where
+  pub same-length-here : length old ≡ length results
+  same-length-here = sym (ap length so-far ∙ length-so-far bytes records old (position .index) (omega (arith, units-mono bytes (position .index) records (omega arith))))
 
-  pub same-length-here : length results ≡ length old
-  same-length-here = ap length so-far ∙ length-so-far bytes records old (position .index) (omega (arith, units-mono bytes (position .index) records (omega arith)))
+  pub room-here : resultSize * unitsBefore bytes (position .index + 1) ≤ length results
+  room-here = omega (arith, same-length-here, units-mono bytes (position .index + 1) records (omega arith))
 
-  pub room-in-results : resultSize * unitsBefore bytes (position .index + 1) ≤ length results
-  room-in-results = omega (arith, room-here, same-length-here)
+-- ---- all records done
 
-  pub written-on : (results' : List ℕ)
-      → results' ≡ sets results (resultSize * position .units) (bytesBy (λ code. ungraded) (sheetOf bytes records) (position .index) (entryAt bytes (position .index)))
-      → (after : Position) → after ≡ positionAt bytes records (position .index + 1) → results' ≡ writtenSoFar bytes records old (after .index)
-  written-on results' e after at-after =
-      e
-      ∙ ap₂ (λ (l : List ℕ) (n : ℕ). sets l (resultSize * n) (bytesBy (λ code. ungraded) (sheetOf bytes records) (position .index) (entryAt bytes (position .index))))
-      so-far (units-are bytes records table position walk)
-      ∙ record-written bytes records old (position .index) room-here
-      ∙ sym (ap (writtenSoFar bytes records old) (next-index bytes records table position walk inside after at-after))
+pub all-written : (bytes : List ℕ) (records : ℕ) (old : List ℕ) → Facts bytes records
+    → writtenSoFar bytes records old records ≡ written (λ code. ungraded) (sheetOf bytes records) records ++ drop (resultSize * unitsBefore bytes records) old
+unfolding writtenSoFar
+all-written bytes records old f =
+    ap (λ (w : List ℕ). w ++ drop (resultSize * unitsBefore bytes records) old) (records-all (sheetOf bytes records) records (no-end bytes records f) records)

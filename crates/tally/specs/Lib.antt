@@ -2,3 +2,4 @@ pub mod Outcome
 pub mod Demand3
 pub mod WorkedCases
 pub mod Position
+pub mod Writing

@@ -1,23 +1,25 @@
 // Grading a whole sheet: the check, refusals 13 and 14, the result records, the code grades.
 ghost use mathlib.Core.Path.{_≡_};
-ghost use Prim.Native.Nat.{_+_, _*_, _<_, _≤_};
-ghost use mathlib.Core.List.{_++_};
-ghost use lib.ListN.{length, drop};
+ghost use Prim.Native.Nat.{ℕ, _+_, _*_, _<_, _≤_};
+ghost use mathlib.Core.List.{List};
+ghost use lib.ListN.{length};
 ghost use lib.Seq.{sets};
 ghost use Rattle.rules.specs.StepThree.{opening, graded, next};
 ghost use Rattle.rules.specs.declared.Entry.the-variants.{SampleUnit};
-ghost use Rattle.rules.specs.Sheet.{stepThreeEnds, inFinishedRun, recovered};
 ghost use Rattle.sheet.specs.Layout.{planSize, entryAt, unitsBefore, sheetOf};
 ghost use Rattle.sheet.specs.Refusals.{verdict, anyClass, anyLimits};
 ghost use Rattle.sheet.specs.declared.Verdict.the-variants.{Accepted};
-ghost use Rattle.results.specs.Record.{resultSize};
+ghost use Rattle.results.specs.Record.{resultSize, resultBytes};
 ghost use Rattle.results.specs.Codes.{ungraded};
-ghost use Rattle.tally.specs.Outcome.{Outcome, resultOf, bytesBy, written, limitTooLarge, outcomeBy, outcome};
+ghost use Rattle.tally.specs.Outcome.{Outcome, limitTooLarge, outcomeBy, outcome};
+ghost use Rattle.tally.specs.Writing.{resultIf, writtenSoFar, recoveredIn, TwoBefore, twoRecovered};
 ghost use Rattle.tally.specs.Position.{positionAt, Walk};
 use cusum::Cusum;
 use cusum::Limits;
+use results::PORTION_OFFSET;
 use results::RESULT_SIZE;
 use results::ResultRecord;
+use results::STANDING_OFFSET;
 use results::grade_codes;
 use rules::Entry;
 use rules::Grading;
@@ -26,14 +28,20 @@ use rules::Sample;
 use rules::State;
 use rules::Table;
 use rules::row_of;
+use rules::worse_of;
 use sheet::PLAN_SIZE;
+use sheet::UNIT_SIZE;
 use sheet::Verdict;
 use sheet::check;
 use sheet::entry_at;
 use sheet::mark_at;
 use sheet::plan_of;
+use sheet::sample_at;
 use sheet::size_of;
 use sheet::unit_of;
+
+// The standing of a recovered portion.
+const RECOVERED: u8 = 3;
 
 // Acceptance: 0, the number of units, the sheet's length. A refusal: its number, no units, an offset in the sheet.
 #[repr(C)]
@@ -88,68 +96,7 @@ fn past(bytes: &[u8], records: usize, table: Table, position: Position, after: S
     }
 }
 
-fn advance(bytes: &[u8], records: usize, table: Table, position: Position) -> Position
-    requires { ⌜ Walk (now bytes) records table position × (position .index < records) ⌝ }
-    ensures { λ r. ⌜ r ≡ positionAt (now (bytes .entry)) records (position .index + 1) ⌝ }
-{
-    let state = position.state;
-    let after = state.after(table, entry_here(bytes, records, table, position));
-    past(bytes, records, table, position, after)
-}
-
-// Whether step 3 ends at the record at a position; behind the last record it does not.
-fn ends_here(bytes: &[u8], records: usize, table: Table, position: Position) -> bool
-    requires { ⌜ Walk (now bytes) records table position ⌝ }
-    ensures { λ r. ⌜ r ≡ stepThreeEnds (sheetOf (now (bytes .entry)) records) (position .index) ⌝ }
-{
-    if position.index < records {
-        let state = position.state;
-        return state.ends_at(table, entry_here(bytes, records, table, position));
-    }
-    false
-}
-
-// Whether the record at a position is one of the three units at whose last step 3 ends: looks two records ahead.
-fn in_finished_run(bytes: &[u8], records: usize, table: Table, position: Position) -> bool
-    requires { ⌜ Walk (now bytes) records table position × (position .index < records) ⌝ }
-    ensures { λ r. ⌜ r ≡ inFinishedRun (sheetOf (now (bytes .entry)) records) (position .index) ⌝ }
-{
-    if ends_here(bytes, records, table, position) {
-        return true;
-    }
-    let second = advance(bytes, records, table, position);
-    if ends_here(bytes, records, table, second) {
-        return true;
-    }
-    if second.index < records {
-        let third = advance(bytes, records, table, second);
-        return ends_here(bytes, records, table, third);
-    }
-    false
-}
-
-// Whether the portion of the unit at a position is recovered.
-fn is_recovered(
-    bytes: &[u8],
-    records: usize,
-    table: Table,
-    position: Position,
-    unit: Sample,
-) -> bool
-    requires { ⌜ Walk (now bytes) records table position × (position .index < records) ⌝ }
-    ensures { λ r. ⌜ r ≡ recovered (sheetOf (now (bytes .entry)) records) (position .index) unit ⌝ }
-{
-    if unit.recoverable {
-        let state = position.state;
-        let phase = state.phase;
-        if phase.in_step_three() {
-            return in_finished_run(bytes, records, table, position);
-        }
-    }
-    false
-}
-
-// What is recorded of the unit at a position, as it was graded, but for its code grade.
+// What is recorded of the unit at a position, as it was graded, recovered or not, but for its code grade.
 fn result_here(
     bytes: &[u8],
     records: usize,
@@ -157,13 +104,13 @@ fn result_here(
     position: Position,
     unit: Sample,
     grading: Grading,
+    recovered: bool,
 ) -> ResultRecord
-    requires { ⌜ Walk (now bytes) records table position × (position .index < records) × (grading ≡ graded table (position .state) unit) ⌝ }
-    ensures { λ r. ⌜ r ≡ resultOf (sheetOf (now (bytes .entry)) records) (position .index) unit ⌝ }
+    requires { ⌜ Walk (now bytes) records table position × (grading ≡ graded table (position .state) unit) ⌝ }
+    ensures { λ r. ⌜ r ≡ resultIf (sheetOf (now (bytes .entry)) records) (position .index) unit recovered ⌝ }
 {
     let state = position.state;
     let phase = state.phase;
-    let recovered = is_recovered(bytes, records, table, position, unit);
     let cusums = grading.cusums;
     ResultRecord {
         code: unit.code,
@@ -179,7 +126,40 @@ fn result_here(
     }
 }
 
-// Grades the unit at a position, and writes its result record after those before it: the state after it.
+// Recovers the portion of a unit, if it is marked recoverable, in its result record.
+fn recover(unit: Sample, designated: u8, results: &mut [u8], start: usize)
+    requires { ⌜ start + resultSize ≤ length (now results) ⌝ }
+    ensures { λ _. ⌜ now (results .exit) ≡ recoveredIn (now (results .entry)) start designated unit ⌝ }
+{
+    if unit.recoverable {
+        results[start + PORTION_OFFSET] = worse_of(designated, unit.prerequisite);
+        results[start + STANDING_OFFSET] = RECOVERED;
+    }
+}
+
+// Recovers the two units right before the one at a position, at which step 3 ends.
+fn recover_two(bytes: &[u8], position: Position, designated: u8, results: &mut [u8])
+    requires { ⌜ TwoBefore (now bytes) position (length (now results)) ⌝ }
+    ensures { λ _. ⌜ now (results .exit) ≡ twoRecovered (now (bytes .entry)) position designated (now (results .entry)) ⌝ }
+{
+    let at = position.at;
+    let place = RESULT_SIZE * position.units;
+    let first = sample_at(bytes, at - 2 * UNIT_SIZE);
+    let second = sample_at(bytes, at - UNIT_SIZE);
+    recover(first, designated, results, place - 2 * RESULT_SIZE);
+    recover(second, designated, results, place - RESULT_SIZE);
+}
+
+// Writes a result record into the rest of the buffer, from its start.
+fn write_at(results: &mut [u8], at: usize, result: ResultRecord)
+    requires { ⌜ at + resultSize ≤ length (now results) ⌝ }
+    ensures { λ _. ⌜ now (results .exit) ≡ sets (now (results .entry)) at (resultBytes ungraded result) ⌝ }
+{
+    results::write(&mut results[at..], result);
+}
+
+// Grades the unit at a position, writes its result record after those before it and, where step 3 ends, recovers the two before it:
+// the state after it.
 fn write_unit(
     bytes: &[u8],
     records: usize,
@@ -190,14 +170,29 @@ fn write_unit(
 ) -> State
     requires { ⌜ Walk (now bytes) records table position × (position .index < records) × (entryAt (now bytes) (position .index) ≡ SampleUnit unit) × (resultSize * unitsBefore (now bytes) (position .index + 1) ≤ length (now results)) ⌝ }
     ensures state { λ r. ⌜ r ≡ next table (position .state) (SampleUnit unit) ⌝ }
-    ensures buffer { λ r. ⌜ now (results .exit) ≡ sets (now (results .entry)) (resultSize * position .units) (bytesBy (λ code. ungraded) (sheetOf (now (bytes .entry)) records) (position .index) (SampleUnit unit)) ⌝ }
+    ensures buffer { λ r. ⌜ ((old : List ℕ) → now (results .entry) ≡ writtenSoFar (now (bytes .entry)) records old (position .index) → length old ≡ length (now (results .entry)) → now (results .exit) ≡ writtenSoFar (now (bytes .entry)) records old (position .index + 1)) ⌝ }
 {
     let state = position.state;
+    let phase = state.phase;
     let at = RESULT_SIZE * position.units;
     let grading = state.grade(table, unit);
-    let result = result_here(bytes, records, table, position, unit, grading);
-    results::write(&mut results[at..], result);
-    state.after_unit(table, grading)
+    let ends = phase.ends_step_three(grading);
+    let result = result_here(
+        bytes,
+        records,
+        table,
+        position,
+        unit,
+        grading,
+        unit.recoverable & ends,
+    );
+    let after = state.after_unit(table, grading);
+    write_at(results, at, result);
+    if ends {
+        recover_two(bytes, position, phase.designated(), results);
+        return after;
+    }
+    after
 }
 
 // Writes what the record at a position writes, and goes past it.
@@ -210,7 +205,7 @@ fn write_here(
 ) -> Position
     requires { ⌜ Walk (now bytes) records table position × (position .index < records) × (resultSize * unitsBefore (now bytes) (position .index + 1) ≤ length (now results)) ⌝ }
     ensures position { λ r. ⌜ r ≡ positionAt (now (bytes .entry)) records (position .index + 1) ⌝ }
-    ensures buffer { λ r. ⌜ now (results .exit) ≡ sets (now (results .entry)) (resultSize * position .units) (bytesBy (λ code. ungraded) (sheetOf (now (bytes .entry)) records) (position .index) (entryAt (now (bytes .entry)) (position .index))) ⌝ }
+    ensures buffer { λ r. ⌜ ((old : List ℕ) → now (results .entry) ≡ writtenSoFar (now (bytes .entry)) records old (position .index) → length old ≡ length (now (results .entry)) → now (results .exit) ≡ writtenSoFar (now (bytes .entry)) records old (position .index + 1)) ⌝ }
 {
     let state = position.state;
     match entry_here(bytes, records, table, position) {
@@ -232,7 +227,7 @@ fn write_here(
 // Writes the result records, no code graded yet.
 fn write_records(bytes: &[u8], records: usize, table: Table, start: Position, results: &mut [u8])
     requires { ⌜ Walk (now bytes) records table start × (start .index ≡ 0) × (resultSize * unitsBefore (now bytes) records ≤ length (now results)) ⌝ }
-    ensures { λ _. ⌜ now (results .exit) ≡ written (λ code. ungraded) (sheetOf (now (bytes .entry)) records) records ++ drop (resultSize * unitsBefore (now (bytes .entry)) records) (now (results .entry)) ⌝ }
+    ensures { λ _. ⌜ now (results .exit) ≡ writtenSoFar (now (bytes .entry)) records (now (results .entry)) records ⌝ }
 {
     let mut position = start;
     while position.index < records {

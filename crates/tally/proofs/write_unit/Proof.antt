@@ -1,60 +1,93 @@
 use Prim.Native.Nat.{ℕ, _+_, _*_, _≤_}
 use mathlib.Core.Path.{_≡_, refl, sym, _∙_, ap}
+use mathlib.Core.Bool.{Bool, true, false, _&&_}
+use mathlib.Core.List.{List}
 use native.Mathlib.Omega.{arith}
 use lib.ListN.{length}
+use lib.Seq.{length-sets}
 use Rattle.rules.specs.StepThree.{next, phaseAfter, restarts, cusumsAfter}
-use Rattle.results.proofs.Stores.{part-length}
-use Rattle.tally.proofs.Writing.{units-few, room-for-unit, unit-written}
+use Rattle.sheet.specs.Layout.{sheetOf}
+use Rattle.results.specs.Record.{resultBytes}
+use Rattle.results.specs.Codes.{ungraded}
+use Rattle.tally.specs.Writing.{resultIf, twoRecovered}
+use Rattle.tally.proofs.Writing.{units-few, room-for-unit, ends-is, two-before, added, plain, ended}
 use borrow.Author.Needs.{needs}
 use Rattle.tally.proofs.write_unit.Statement.{statement}
 use Rattle.tally.proofs.write_unit.Tie as tie
 use Rattle.tally.proofs.write_unit.Reads as reads
 use Rattle.tally.proofs.write_unit.Lts as lts
-use Rattle.results.proofs.write.Reads as write-reads
+use Rattle.rules.proofs.Phase.designated.Reads as designated-reads
+use Rattle.rules.proofs.Phase.ends_step_three.Reads as ends-step-three-reads
 use Rattle.rules.proofs.State.after_unit.Reads as after-unit-reads
 use Rattle.rules.proofs.State.grade.Reads as grade-reads
+use Rattle.tally.proofs.recover_two.Reads as recover-two-reads
 use Rattle.tally.proofs.result_here.Reads as result-here-reads
+use Rattle.tally.proofs.write_at.Reads as write-at-reads
 
--- src/lib.rt:195:14
+-- src/lib.rt:177:14
 mul-at : tie.Need-mul-at
 mul-at c = omega (arith, units-few _ _ _ _ (c .before .before .before .before .pre .0))
 
--- src/lib.rt:196:9
+-- src/lib.rt:178:9
 grade-requires : tie.Need-grade-requires
 grade-requires c κs = search needs
 
--- src/lib.rt:197:9
+-- src/lib.rt:179:9
+ends-step-three-requires : tie.Need-ends-step-three-requires
+ends-step-three-requires c κs = search needs
+
+-- src/lib.rt:180:9
 result-here-requires : tie.Need-result-here-requires
-result-here-requires c κs = (c .before .before .before .before .before .pre .0, c .before .before .before .before .before .pre .1, c .grade .ensures)
+result-here-requires c κs = search needs
 
--- src/lib.rt:198:20
-sub-write : tie.Need-sub-write
-sub-write c = omega (arith, room-for-unit _ _ _ _ (c .before .before .before .before .before .before .pre .0) _ _ (c .before .before .before .before .before .before .pre .3) (c .before .before .before .before .before .before .pre .2))
-
--- src/lib.rt:198:20
-part-write-start : tie.Need-part-write-start
-part-write-start c = omega (arith, room-for-unit _ _ _ _ (c .before .before .before .before .before .before .pre .0) _ _ (c .before .before .before .before .before .before .pre .3) (c .before .before .before .before .before .before .pre .2))
-
--- src/lib.rt:198:20
-part-write-end : tie.Need-part-write-end
-part-write-end c = search needs
-
--- src/lib.rt:198:5
-write-requires : tie.Need-write-requires
-write-requires c κs = let h = room-for-unit _ _ _ _ (c .before .before .before .before .before .before .before .pre .0) _ _ (c .before .before .before .before .before .before .before .pre .3) (c .before .before .before .before .before .before .before .pre .2) in omega (arith, part-length (c .before .before .before .before .before .before .before .args .results .now) (16 * c .before .before .before .before .before .before .before .args .position .units))
-
--- src/lib.rt:199:5
+-- src/lib.rt:189:9
 after-unit-requires : tie.Need-after-unit-requires
 after-unit-requires c κs = search needs
 
--- src/lib.rt:182:1
+-- src/lib.rt:190:5
+write-at-requires : tie.Need-write-at-requires
+write-at-requires c κs = room-for-unit _ _ _ _ (c .before .before .before .before .before .before .before .before .before .before .pre .0) _ (c .before .before .before .before .before .before .before .before .before .before .pre .2) _ (c .before .before .before .before .before .before .before .before .before .before .pre .3)
+
+-- src/lib.rt:192:38
+designated-requires : tie.Need-designated-requires
+designated-requires c κs = search needs
+
+-- src/lib.rt:192:9
+recover-two-requires : tie.Need-recover-two-requires
+recover-two-requires c κs = two-before _ _ _ _ (c .before .before .before .before .before .before .before .before .before .before .before .before .before .before .before .before .pre .0) _ (c .before .before .before .before .before .before .before .before .before .before .before .before .before .before .before .before .pre .2) (sym (ends-is _ _ _ _ (c .before .before .before .before .before .before .before .before .before .before .before .before .before .before .before .before .pre .0) _ (c .before .before .before .before .before .before .before .before .before .before .before .before .before .before .before .before .pre .2) _ (c .before .before .before .before .before .before .before .before .before .before .before .grade .ensures)) ∙ sym (c .before .before .before .before .before .before .before .before .before .before .ends-step-three .ensures) ∙ c .before .before .if1 .taken) _ (omega (arith, room-for-unit _ _ _ _ (c .before .before .before .before .before .before .before .before .before .before .before .before .before .before .before .before .pre .0) _ (c .before .before .before .before .before .before .before .before .before .before .before .before .before .before .before .before .pre .2) _ (c .before .before .before .before .before .before .before .before .before .before .before .before .before .before .before .before .pre .3), ap length (c .before .before .before .before .before .write-at .ensures), length-sets (c .before .before .before .before .before .before .before .before .before .before .before .before .before .before .before .before .args .results .now) (16 * c .before .before .before .before .before .before .before .before .before .before .before .before .before .before .before .before .args .position .units) (resultBytes ungraded (c .before .before .before .before .before .before .before .before .result-here .result))))
+
+-- src/lib.rt:193:9
 same-length : tie.Need-same-length
 same-length c = search needs
 
--- src/lib.rt:182:1
+-- src/lib.rt:193:9
 returns : tie.Need-returns
 unfolding next phaseAfter restarts cusumsAfter
-returns c = (rw (c .after-unit .ensures, c .before .before .before .before .before .before .grade .ensures), unit-written _ _ _ _ (c .before .before .before .before .before .before .before .before .before .before .before .pre .0) _ _ _ _ (omega (arith, room-for-unit _ _ _ _ (c .before .before .before .before .before .before .before .before .before .before .before .pre .0) _ _ (c .before .before .before .before .before .before .before .before .before .before .before .pre .3) (c .before .before .before .before .before .before .before .before .before .before .before .pre .2))) (c .before .before .before .write .ensures) (c .before .before .before .before .before .result-here .ensures))
+returns c = (
+  rw (c .before .before .before .before .before .before .before .before .before .before .after-unit .ensures, c .before .before .before .before .before .before .before .before .before .before .before .before .before .before .grade .ensures),
+  λ old so-far same.
+      let e = ends-is _ _ _ _ (c .before .before .before .before .before .before .before .before .before .before .before .before .before .before .before .before .before .before .before .pre .0) _ (c .before .before .before .before .before .before .before .before .before .before .before .before .before .before .before .before .before .before .before .pre .2) _ (c .before .before .before .before .before .before .before .before .before .before .before .before .before .before .grade .ensures) in
+      let is-result = c .before .before .before .before .before .before .before .before .before .before .before .result-here .ensures ∙ ap (λ (b : Bool). resultIf (sheetOf (c .before .before .before .before .before .before .before .before .before .before .before .before .before .before .before .before .before .before .before .args .bytes .now) (c .before .before .before .before .before .before .before .before .before .before .before .before .before .before .before .before .before .before .before .args .records)) (c .before .before .before .before .before .before .before .before .before .before .before .before .before .before .before .before .before .before .before .args .position .index) (c .before .before .before .before .before .before .before .before .before .before .before .before .before .before .before .before .before .before .before .args .unit) (c .before .before .before .before .before .before .before .before .before .before .before .before .before .before .before .before .before .before .before .args .unit .recoverable && b)) (c .before .before .before .before .before .before .before .before .before .before .before .before .before .ends-step-three .ensures ∙ e) in
+      c .before .before .recover-two .ensures
+      ∙ ap (twoRecovered (c .before .before .before .before .before .before .before .before .before .before .before .before .before .before .before .before .before .before .before .args .bytes .now) (c .before .before .before .before .before .before .before .before .before .before .before .before .before .before .before .before .before .before .before .args .position) (c .before .before .before .before .designated .result)) (c .before .before .before .before .before .before .before .before .write-at .ensures ∙ added _ _ _ _ (c .before .before .before .before .before .before .before .before .before .before .before .before .before .before .before .before .before .before .before .pre .0) _ (c .before .before .before .before .before .before .before .before .before .before .before .before .before .before .before .before .before .before .before .pre .2) old _ so-far same (c .before .before .before .before .before .before .before .before .before .before .before .before .before .before .before .before .before .before .before .pre .3) _ is-result)
+      ∙ ended _ _ _ _ (c .before .before .before .before .before .before .before .before .before .before .before .before .before .before .before .before .before .before .before .pre .0) _ (c .before .before .before .before .before .before .before .before .before .before .before .before .before .before .before .before .before .before .before .pre .2) old _ so-far same (c .before .before .before .before .before .before .before .before .before .before .before .before .before .before .before .before .before .before .before .pre .3) _ is-result (sym e ∙ sym (c .before .before .before .before .before .before .before .before .before .before .before .before .before .ends-step-three .ensures) ∙ c .before .before .before .before .before .if1 .taken) _ (c .before .before .before .before .designated .ensures),
+)
+
+-- src/lib.rt:163:1
+same-length-2 : tie.Need-same-length-2
+same-length-2 c = search needs
+
+-- src/lib.rt:163:1
+returns-2 : tie.Need-returns-2
+unfolding next phaseAfter restarts cusumsAfter
+returns-2 c = (
+  rw (c .before .before .before .before .before .after-unit .ensures, c .before .before .before .before .before .before .before .before .before .grade .ensures),
+  λ old so-far same.
+      let e = ends-is _ _ _ _ (c .before .before .before .before .before .before .before .before .before .before .before .before .before .before .pre .0) _ (c .before .before .before .before .before .before .before .before .before .before .before .before .before .before .pre .2) _ (c .before .before .before .before .before .before .before .before .before .grade .ensures) in
+      let is-result = c .before .before .before .before .before .before .result-here .ensures ∙ ap (λ (b : Bool). resultIf (sheetOf (c .before .before .before .before .before .before .before .before .before .before .before .before .before .before .args .bytes .now) (c .before .before .before .before .before .before .before .before .before .before .before .before .before .before .args .records)) (c .before .before .before .before .before .before .before .before .before .before .before .before .before .before .args .position .index) (c .before .before .before .before .before .before .before .before .before .before .before .before .before .before .args .unit) (c .before .before .before .before .before .before .before .before .before .before .before .before .before .before .args .unit .recoverable && b)) (c .before .before .before .before .before .before .before .before .ends-step-three .ensures ∙ e) in
+      c .before .before .before .write-at .ensures ∙ added _ _ _ _ (c .before .before .before .before .before .before .before .before .before .before .before .before .before .before .pre .0) _ (c .before .before .before .before .before .before .before .before .before .before .before .before .before .before .pre .2) old _ so-far same (c .before .before .before .before .before .before .before .before .before .before .before .before .before .before .pre .3) _ is-result
+      ∙ plain _ _ _ _ (c .before .before .before .before .before .before .before .before .before .before .before .before .before .before .pre .0) _ (c .before .before .before .before .before .before .before .before .before .before .before .before .before .before .pre .2) old _ so-far same (c .before .before .before .before .before .before .before .before .before .before .before .before .before .before .pre .3) _ is-result (sym e ∙ sym (c .before .before .before .before .before .before .before .before .ends-step-three .ensures) ∙ c .if1 .left),
+)
 
 pub write-unit-spec : {M : Type 1} → statement M
 write-unit-spec =
@@ -62,11 +95,13 @@ write-unit-spec =
     (tie.spec
     mul-at
     grade-requires
+    ends-step-three-requires
     result-here-requires
-    sub-write
-    part-write-start
-    part-write-end
-    write-requires
     after-unit-requires
+    write-at-requires
+    designated-requires
+    recover-two-requires
     same-length
-    returns)
+    returns
+    same-length-2
+    returns-2)

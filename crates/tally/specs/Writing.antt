@@ -1,0 +1,72 @@
+-- The writing pass: what the result buffer holds once the first m records are done. Portions are recovered when step 3 ends, in
+-- records that are written by then; no code is graded yet.
+use Prim.Native.Nat.{ℕ, zero, suc, _+_, _*_, _-_, _≤_}
+use mathlib.Core.Bool.{Bool, _&&_, _||_}
+use mathlib.Core.List.{List, [], _++_}
+use lib.Dec.{ltb}
+use lib.ListN.{length, drop, set}
+use Rattle.rules.specs.Words.{worse}
+use Rattle.rules.specs.StepThree.{pick}
+use Rattle.rules.specs.Sheet.{Sheet, before, designatedBefore, inForceAt, gradedAt, stepThreeEnds, portionOf, standingOf}
+use Rattle.rules.specs.declared.Sample.{Sample}
+use Rattle.rules.specs.declared.Entry.{Entry}
+use Rattle.rules.specs.declared.Entry.the-variants.{SampleUnit, Redesignation, Break}
+use Rattle.sheet.specs.Layout.{unitSize, sampleAt, unitsBefore, sheetOf}
+use Rattle.results.specs.Record.{resultSize, portionOffset, standingOffset, resultBytes}
+use Rattle.results.specs.Codes.{ungraded}
+use Rattle.results.specs.declared.ResultRecord.{ResultRecord}
+use Rattle.tally.specs.declared.Position.{Position}
+
+-- the result record of a unit, graded where the grading stands before record i, recovered or not
+unfoldable pub resultIf : Sheet → ℕ → Sample → Bool → ResultRecord
+resultIf sheet i unit recovered =
+    record {
+      code = unit .code;
+      portion = portionOf (designatedBefore sheet i) (gradedAt sheet i unit .grade) (unit .prerequisite) recovered;
+      plan = inForceAt sheet i;
+      standing = standingOf (before sheet i .phase) (gradedAt sheet i unit .fails) recovered;
+      cusums = gradedAt sheet i unit .cusums;
+    }
+
+module _ (sheet : Sheet) (m : ℕ) where
+  -- step 3 ends at record j, and that is among the first m
+  unfoldable pub endedAt : ℕ → Bool
+  endedAt j = ltb j m && stepThreeEnds sheet j
+
+  -- recovered by then
+  unfoldable pub recoveredSoFar : ℕ → Sample → Bool
+  recoveredSoFar i unit = unit .recoverable && (endedAt i || (endedAt (i + 1) || endedAt (i + 2)))
+
+  -- what record i has written, and what the first n records have
+  unfoldable pub bytesSoFar : ℕ → Entry → List ℕ
+  bytesSoFar i (SampleUnit unit) = resultBytes ungraded (resultIf sheet i unit (recoveredSoFar i unit))
+  bytesSoFar i (Redesignation new) = []
+  bytesSoFar i Break = []
+
+  unfoldable pub recordsSoFar : ℕ → List ℕ
+  recordsSoFar zero = []
+  recordsSoFar (suc n) = recordsSoFar n ++ bytesSoFar n (sheet .entry n)
+
+-- the buffer once the first m records are done: their result records, and behind them what was there
+unfoldable pub writtenSoFar : List ℕ → ℕ → List ℕ → ℕ → List ℕ
+writtenSoFar bytes records old m = recordsSoFar (sheetOf bytes records) m m ++ drop (resultSize * unitsBefore bytes m) old
+
+-- a portion is recovered in its result record, which starts at this offset of the buffer: the worse of designated grade and
+-- prerequisite grade, and standing 3
+unfoldable pub recoveredIn : List ℕ → ℕ → ℕ → Sample → List ℕ
+recoveredIn results start designated unit =
+    pick (unit .recoverable) (set (set results (start + portionOffset) (worse designated (unit .prerequisite))) (start + standingOffset) 3) results
+
+-- the two records right before a position are units, with their result records in the buffer
+pub record TwoBefore (bytes : List ℕ) (position : Position) (size : ℕ) : Type 0 where
+  pub two-units : 2 * unitSize ≤ position .at
+  pub inside : position .at ≤ length bytes
+  pub two-results : 2 ≤ position .units
+  pub few : position .units ≤ 1000
+  pub room : resultSize * position .units ≤ size
+
+unfoldable pub twoRecovered : List ℕ → Position → ℕ → List ℕ → List ℕ
+twoRecovered bytes position designated results =
+    let start = resultSize * position .units in
+    recoveredIn (recoveredIn results (start - 2 * resultSize) designated (sampleAt bytes (position .at - 2 * unitSize)))
+    (start - resultSize) designated (sampleAt bytes (position .at - unitSize))
