@@ -1,0 +1,49 @@
+//! The boundary as `include/hatmuyon.h` declares it. [`grade`](crate::grade) is the safe way in.
+
+/// Offset of the production code in a result record, 2 bytes with the high byte first.
+pub const RESULT_CODE: usize = 2;
+/// Offset of the portion grade, 1 byte.
+pub const RESULT_PORTION: usize = 4;
+/// Offset of the code grade, 1 byte.
+pub const RESULT_CODE_GRADE: usize = 5;
+/// Offset of the grade of the plan in force, 1 byte, 3 if there is none.
+pub const RESULT_PLAN: usize = 6;
+/// Offset of the standing, 1 byte.
+pub const RESULT_STANDING: usize = 7;
+/// Offset of the CuSum of critical defects, 2 bytes, tenths.
+pub const RESULT_CRITICAL: usize = 8;
+/// Offset of the CuSum of severe defects.
+pub const RESULT_SEVERE: usize = 10;
+/// Offset of the CuSum of major defects.
+pub const RESULT_MAJOR: usize = 12;
+/// Offset of the CuSum of total defects.
+pub const RESULT_TOTAL: usize = 14;
+
+/// `struct hatmuyon_answer`.
+#[derive(Clone, Copy, Debug, PartialEq, Eq)]
+#[repr(C)]
+pub struct Answer {
+    /// 0, or the number of the refusal, 1 to 14.
+    pub number: u32,
+    /// Accepted: the number of sample units. Refused: 0.
+    pub units: usize,
+    /// Accepted: the sheet's length. Refused: the place in the sheet.
+    pub offset: usize,
+}
+
+extern "C" {
+    /// Grades a sheet into a result buffer.
+    ///
+    /// # Safety
+    ///
+    /// `sheet` must be valid for reads of `sheet_length` bytes and `results` for reads and writes
+    /// of `results_length` bytes, all of them initialized; neither is null, also where its length
+    /// is 0. The two must not overlap, and during the call no other thread may write to the sheet
+    /// or touch the results.
+    pub fn hatmuyon_grade(
+        sheet: *const u8,
+        sheet_length: usize,
+        results: *mut u8,
+        results_length: usize,
+    ) -> Answer;
+}

@@ -1,0 +1,376 @@
+//! Grades the tally sheet of an on-line inspection under the USDA cumulative sum plan, File Code
+//! 120 A-6 of August 1978.
+//!
+//! A sheet is bytes: a plan record, and then sample units, redesignations and breaks in any order.
+//! `include/hatmuyon.h` describes them. [`grade`] takes any bytes, and either grades the sheet into
+//! a result buffer or refuses it with the [`Ground`] and the place:
+//!
+//! ```
+//! use hatmuyon::{grade, Grade, Ground, Standing, RESULT_SIZE};
+//!
+//! // A plan with grade A designated; S is 0, T and L are 5.0, in every grade and class.
+//! let mut sheet = vec![0x50, 0x4C, 0];
+//! for _ in 0..12 {
+//!     sheet.extend([0, 0, 0, 50, 0, 50]);
+//! }
+//! // A sample unit with code 7 and six minor defects.
+//! sheet.extend([0x53, 0x55, 0, 7, 0, 0, 0, 0, 0, 0, 0, 6, 0, 0]);
+//!
+//! let mut results = [0; RESULT_SIZE];
+//! let graded = grade(&sheet, &mut results)?;
+//! assert_eq!(graded.units(), 1);
+//! for record in &graded {
+//!     assert_eq!(record.code, 7);
+//!     assert_eq!(record.portion, Grade::A);
+//!     assert_eq!(record.standing, Standing::Met);
+//!     assert_eq!(record.cusums, [0, 0, 0, 10]); // tenths
+//! }
+//!
+//! // The same without its last byte.
+//! let refusal = grade(&sheet[..88], &mut results).unwrap_err();
+//! assert_eq!(refusal.ground, Ground::CutShort);
+//! assert_eq!(refusal.offset, 75);
+//! # Ok::<(), hatmuyon::Refusal>(())
+//! ```
+//!
+//! The grading itself is the proved library `libhatmuyon.a`, which `rt staticlib hatmuyon` writes
+//! (x86-64). The build links it from target/staticlib of the repository, or from the folder that
+//! the environment variable `HATMUYON_ARCHIVE_DIR` names.
+
+#![warn(missing_docs)]
+
+use std::fmt;
+use std::iter::FusedIterator;
+use std::slice::ChunksExact;
+
+pub mod ffi;
+
+/// Bytes of a plan record.
+pub const PLAN_SIZE: usize = 75;
+/// Bytes of a sample unit.
+pub const UNIT_SIZE: usize = 14;
+/// Bytes of a redesignation.
+pub const REDESIGNATION_SIZE: usize = 3;
+/// Bytes of a break in production.
+pub const BREAK_SIZE: usize = 2;
+/// Bytes of a result record.
+pub const RESULT_SIZE: usize = 16;
+/// The most sample units on a sheet, so that `RESULT_SIZE * MOST_UNITS` bytes hold the results of
+/// any sheet.
+pub const MOST_UNITS: usize = 1000;
+
+/// Grades a sheet into a result buffer: one result record of [`RESULT_SIZE`] bytes for each sample
+/// unit, in their order.
+///
+/// An accepted sheet changes only the bytes of its result records, which are lent on in the
+/// [`Graded`]; a refused one changes no byte of the buffer. No sheet is refused to which none of
+/// the grounds applies. Nothing is allocated.
+///
+/// ```
+/// let mut results = [0xEE; 32];
+/// let refusal = hatmuyon::grade(b"not a sheet", &mut results).unwrap_err();
+/// assert_eq!(refusal.ground.number(), 1);
+/// assert_eq!(results, [0xEE; 32]);
+/// ```
+pub fn grade<'r>(sheet: &[u8], results: &'r mut [u8]) -> Result<Graded<'r>, Refusal> {
+    // Safety: a slice's pointer is not null and valid for its length, and a slice that may be
+    // written overlaps no other.
+    let answer = unsafe {
+        ffi::hatmuyon_grade(sheet.as_ptr(), sheet.len(), results.as_mut_ptr(), results.len())
+    };
+    if answer.number == 0 {
+        return Ok(Graded { bytes: &results[..RESULT_SIZE * answer.units] });
+    }
+    let ground = Ground::from_number(answer.number).expect("the library answers 0 to 14");
+    Err(Refusal { ground, offset: answer.offset })
+}
+
+/// The result records of an accepted sheet, borrowed from the result buffer.
+#[derive(Clone, Copy, Debug, PartialEq, Eq)]
+pub struct Graded<'r> {
+    bytes: &'r [u8],
+}
+
+impl<'r> Graded<'r> {
+    /// The number of sample units on the sheet, which is the number of result records.
+    pub fn units(&self) -> usize {
+        self.bytes.len() / RESULT_SIZE
+    }
+
+    /// The result records as they stand in the buffer, [`RESULT_SIZE`] bytes each.
+    pub fn bytes(&self) -> &'r [u8] {
+        self.bytes
+    }
+
+    /// The result records, one for each sample unit, in their order.
+    pub fn records(&self) -> Records<'r> {
+        Records { chunks: self.bytes.chunks_exact(RESULT_SIZE) }
+    }
+}
+
+impl<'r> IntoIterator for Graded<'r> {
+    type Item = Record;
+    type IntoIter = Records<'r>;
+
+    fn into_iter(self) -> Records<'r> {
+        self.records()
+    }
+}
+
+impl<'r> IntoIterator for &Graded<'r> {
+    type Item = Record;
+    type IntoIter = Records<'r>;
+
+    fn into_iter(self) -> Records<'r> {
+        self.records()
+    }
+}
+
+/// An iterator over result records; see [`Graded::records`].
+#[derive(Clone, Debug)]
+pub struct Records<'r> {
+    chunks: ChunksExact<'r, u8>,
+}
+
+impl Iterator for Records<'_> {
+    type Item = Record;
+
+    fn next(&mut self) -> Option<Record> {
+        self.chunks.next().map(Record::from_bytes)
+    }
+
+    fn size_hint(&self) -> (usize, Option<usize>) {
+        self.chunks.size_hint()
+    }
+
+    fn nth(&mut self, n: usize) -> Option<Record> {
+        self.chunks.nth(n).map(Record::from_bytes)
+    }
+}
+
+impl DoubleEndedIterator for Records<'_> {
+    fn next_back(&mut self) -> Option<Record> {
+        self.chunks.next_back().map(Record::from_bytes)
+    }
+}
+
+impl ExactSizeIterator for Records<'_> {}
+impl FusedIterator for Records<'_> {}
+
+/// What is recorded of a sample unit.
+#[derive(Clone, Copy, Debug, PartialEq, Eq, Hash)]
+pub struct Record {
+    /// The production code.
+    pub code: u16,
+    /// The grade of the portion that the unit stands for.
+    pub portion: Grade,
+    /// The grade of the code: the worst portion grade among all units of the sheet with it.
+    pub code_grade: Grade,
+    /// The grade of the plan in force for the unit, A, B or C, or none.
+    pub plan: Option<Grade>,
+    /// How the unit stands to the designated plan.
+    pub standing: Standing,
+    /// The CuSums of the classes critical, severe, major and total, in tenths of a defect; zero if
+    /// no plan is in force.
+    pub cusums: [u16; 4],
+}
+
+impl Record {
+    /// From the bytes of a result record. The library writes grades and standings from 0 to 3.
+    fn from_bytes(bytes: &[u8]) -> Record {
+        use ffi::*;
+        let two = |at: usize| u16::from_be_bytes([bytes[at], bytes[at + 1]]);
+        Record {
+            code: two(RESULT_CODE),
+            portion: Grade::from_byte(bytes[RESULT_PORTION]),
+            code_grade: Grade::from_byte(bytes[RESULT_CODE_GRADE]),
+            plan: match Grade::from_byte(bytes[RESULT_PLAN]) {
+                Grade::Substandard => None,
+                grade => Some(grade),
+            },
+            standing: Standing::from_byte(bytes[RESULT_STANDING]),
+            cusums: [RESULT_CRITICAL, RESULT_SEVERE, RESULT_MAJOR, RESULT_TOTAL].map(two),
+        }
+    }
+}
+
+/// A grade; a worse one is greater.
+#[derive(Clone, Copy, Debug, PartialEq, Eq, PartialOrd, Ord, Hash)]
+#[repr(u8)]
+#[allow(missing_docs)]
+pub enum Grade {
+    A = 0,
+    B = 1,
+    C = 2,
+    Substandard = 3,
+}
+
+impl Grade {
+    fn from_byte(byte: u8) -> Grade {
+        match byte {
+            0 => Grade::A,
+            1 => Grade::B,
+            2 => Grade::C,
+            _ => Grade::Substandard,
+        }
+    }
+}
+
+/// A letter: A, B, C, or S for Substandard.
+impl fmt::Display for Grade {
+    fn fmt(&self, f: &mut fmt::Formatter<'_>) -> fmt::Result {
+        f.write_str(match self {
+            Grade::A => "A",
+            Grade::B => "B",
+            Grade::C => "C",
+            Grade::Substandard => "S",
+        })
+    }
+}
+
+/// How a unit stands to the designated plan.
+#[derive(Clone, Copy, Debug, PartialEq, Eq, Hash)]
+#[repr(u8)]
+pub enum Standing {
+    /// It met the designated plan.
+    Met = 0,
+    /// It failed the designated plan.
+    Failed = 1,
+    /// It is in step 3 and not recovered.
+    InStepThree = 2,
+    /// It is in step 3 and recovered.
+    Recovered = 3,
+}
+
+impl Standing {
+    fn from_byte(byte: u8) -> Standing {
+        match byte {
+            0 => Standing::Met,
+            1 => Standing::Failed,
+            2 => Standing::InStepThree,
+            _ => Standing::Recovered,
+        }
+    }
+}
+
+/// A refused sheet: on which ground, and the place.
+///
+/// ```
+/// let refusal = hatmuyon::grade(&[], &mut []).unwrap_err();
+/// assert_eq!(
+///     refusal.to_string(),
+///     "refused 1 at offset 0: shorter than 75 bytes, or first mark not 50 4C"
+/// );
+/// ```
+#[derive(Clone, Copy, Debug, PartialEq, Eq, Hash)]
+pub struct Refusal {
+    /// The first ground met.
+    pub ground: Ground,
+    /// 0 for a ground in the plan, the offset of the record's mark for one in a record, and the
+    /// sheet's length for one in the result buffer.
+    pub offset: usize,
+}
+
+impl fmt::Display for Refusal {
+    fn fmt(&self, f: &mut fmt::Formatter<'_>) -> fmt::Result {
+        let Refusal { ground, offset } = self;
+        write!(f, "refused {} at offset {offset}: {ground}", ground.number())
+    }
+}
+
+impl std::error::Error for Refusal {}
+
+/// A ground on which a sheet is refused.
+///
+/// The plan is checked first, for grounds 1 to 5 in turn; then the records from left to right, each
+/// wholly before the next, for 6, 7, 12, 8, 9, 10, 11 in this order; then the result buffer.
+#[derive(Clone, Copy, Debug, PartialEq, Eq, Hash)]
+#[repr(u32)]
+pub enum Ground {
+    /// The sheet is shorter than 75 bytes, or its first mark is not 50 4C.
+    NoPlan = 1,
+    /// The designated grade is above 2.
+    DesignatedGrade = 2,
+    /// An S, T or L is above 9,999.
+    Limit = 3,
+    /// An S is above its L.
+    Start = 4,
+    /// In a class, T or T+L is smaller at B than at A, or at C than at B.
+    FallingPlan = 5,
+    /// One byte is left, or a mark is not of a unit, redesignation or break.
+    Mark = 6,
+    /// A record is cut short.
+    CutShort = 7,
+    /// A count is above 2,000.
+    Count = 8,
+    /// A prerequisite is above 3, or a recoverable above 1.
+    UnitField = 9,
+    /// A new grade is above 2.
+    NewGrade = 10,
+    /// A new grade equals the one designated just before its record.
+    SameGrade = 11,
+    /// A unit stands after the 1,000th.
+    TooManyUnits = 12,
+    /// The result buffer is shorter than 16 times the units.
+    Results = 13,
+    /// A CuSum is too large for two bytes; no sheet leads to it.
+    Cusum = 14,
+}
+
+impl Ground {
+    /// Every ground, by its number.
+    pub const ALL: [Ground; 14] = [
+        Ground::NoPlan,
+        Ground::DesignatedGrade,
+        Ground::Limit,
+        Ground::Start,
+        Ground::FallingPlan,
+        Ground::Mark,
+        Ground::CutShort,
+        Ground::Count,
+        Ground::UnitField,
+        Ground::NewGrade,
+        Ground::SameGrade,
+        Ground::TooManyUnits,
+        Ground::Results,
+        Ground::Cusum,
+    ];
+
+    /// The number of the refusal, 1 to 14.
+    pub fn number(self) -> u32 {
+        self as u32
+    }
+
+    /// The ground with this number, if there is one.
+    ///
+    /// ```
+    /// use hatmuyon::Ground;
+    ///
+    /// assert_eq!(Ground::from_number(8), Some(Ground::Count));
+    /// assert_eq!(Ground::from_number(0), None);
+    /// ```
+    pub fn from_number(number: u32) -> Option<Ground> {
+        Ground::ALL.into_iter().find(|ground| ground.number() == number)
+    }
+}
+
+impl fmt::Display for Ground {
+    fn fmt(&self, f: &mut fmt::Formatter<'_>) -> fmt::Result {
+        f.write_str(match self {
+            Ground::NoPlan => "shorter than 75 bytes, or first mark not 50 4C",
+            Ground::DesignatedGrade => "designated grade above 2",
+            Ground::Limit => "an S, T or L above 9,999",
+            Ground::Start => "an S above its L",
+            Ground::FallingPlan => "in a class, T or T+L smaller at B than at A, or at C than at B",
+            Ground::Mark => "one byte left, or a mark not of a unit, redesignation or break",
+            Ground::CutShort => "record cut short",
+            Ground::Count => "a count above 2,000",
+            Ground::UnitField => "prerequisite above 3 or recoverable above 1",
+            Ground::NewGrade => "new grade above 2",
+            Ground::SameGrade => "new grade equals the one designated just before this record",
+            Ground::TooManyUnits => "a unit after the 1,000th",
+            Ground::Results => "result buffer shorter than 16 times the units",
+            Ground::Cusum => "a CuSum too large for two bytes",
+        })
+    }
+}

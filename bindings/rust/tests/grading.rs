@@ -1,0 +1,225 @@
+//! The library over its boundary: the example sheets, every refusal, and what the result buffer keeps.
+
+use hatmuyon::{grade, Grade, Ground, Record, Refusal, Standing};
+use hatmuyon::{MOST_UNITS, PLAN_SIZE, RESULT_SIZE, UNIT_SIZE};
+
+const PEACH: &[u8] = include_bytes!("../../../examples/peach.sheet");
+const PEA: &[u8] = include_bytes!("../../../examples/pea.sheet");
+const DAMAGED: &[u8] = include_bytes!("../../../examples/damaged.sheet");
+
+const BREAK: [u8; 2] = [0x42, 0x4B];
+
+/// A plan with A designated; S is 0, T and L are 5.0 in every grade and class.
+fn plan() -> Vec<u8> {
+    let mut plan = vec![0x50, 0x4C, 0];
+    plan.extend([0, 0, 0, 50, 0, 50].repeat(12));
+    plan
+}
+
+/// A plan with one of its 36 numbers changed: S, T or L of a class of a grade.
+fn plan_with(grade: usize, class: usize, number: usize, value: u16) -> Vec<u8> {
+    let mut plan = plan();
+    put(&mut plan, 3 + 24 * grade + 6 * class + 2 * number, value);
+    plan
+}
+
+fn put(bytes: &mut [u8], at: usize, value: u16) {
+    bytes[at..at + 2].copy_from_slice(&value.to_be_bytes());
+}
+
+/// A sample unit with this code and these counts of critical, severe, major and minor.
+fn unit(code: u16, counts: [u16; 4]) -> Vec<u8> {
+    let [a, b, c, d] = counts;
+    let mut unit = [0x5355, code, a, b, c, d].map(u16::to_be_bytes).concat();
+    unit.extend([0, 0]);
+    unit
+}
+
+fn redesignation(new: u8) -> Vec<u8> {
+    vec![0x52, 0x44, new]
+}
+
+fn sheet(records: &[&[u8]]) -> Vec<u8> {
+    [plan(), records.concat()].concat()
+}
+
+/// Grades into a buffer of 0xEE, which a refusal must keep.
+fn refused(sheet: &[u8], room: usize) -> (u32, usize) {
+    let mut results = vec![0xEE; room];
+    let Refusal { ground, offset } = grade(sheet, &mut results).expect_err("the sheet is accepted");
+    assert!(results.iter().all(|&byte| byte == 0xEE), "a byte was changed");
+    (ground.number(), offset)
+}
+
+#[test]
+fn peach_sheet() {
+    let record = |code, portion, code_grade, standing, plan, cusums| Record {
+        code,
+        portion,
+        code_grade,
+        plan: Some(plan),
+        standing,
+        cusums,
+    };
+    use Grade::{A, B};
+    use Standing::{Failed, InStepThree, Met, Recovered};
+    let expected = [
+        record(1, A, A, Met, A, [0, 0, 0, 20]),
+        record(2, B, B, Failed, A, [0, 5, 10, 40]),
+        record(3, B, B, Failed, A, [0, 0, 10, 40]),
+        record(4, A, A, Recovered, B, [0; 4]),
+        record(5, A, B, Recovered, B, [0; 4]),
+        record(5, B, B, InStepThree, B, [0; 4]),
+        record(7, B, B, Met, A, [5, 0, 0, 0]),
+    ];
+    let mut results = [0; 7 * RESULT_SIZE];
+    let graded = grade(PEACH, &mut results).unwrap();
+    assert_eq!(graded.units(), 7);
+    assert_eq!(graded.records().collect::<Vec<_>>(), expected);
+    assert_eq!(graded.bytes().len(), 7 * RESULT_SIZE);
+}
+
+#[test]
+fn pea_sheet() {
+    let mut results = [0; 40 * RESULT_SIZE];
+    let graded = grade(PEA, &mut results).unwrap();
+    let failed: Vec<_> =
+        (1..).zip(&graded).filter(|(_, unit)| unit.standing != Standing::Met).collect();
+    let [(23, unit)] = failed[..] else { panic!("not the 23rd unit alone: {failed:?}") };
+    assert_eq!((unit.portion, unit.cusums), (Grade::B, [0, 5, 10, 60]));
+    assert_eq!(graded.records().nth(23).unwrap().cusums, [0, 0, 0, 30]);
+}
+
+#[test]
+fn damaged_sheet() {
+    assert_eq!(refused(DAMAGED, 1000), (8, 103));
+}
+
+#[test]
+fn no_plan_in_force() {
+    // Two units fail to Substandard; then no plan is in force.
+    let bad = unit(9, [2000, 0, 0, 0]);
+    let sheet = sheet(&[&bad, &bad, &unit(9, [0; 4])]);
+    let mut results = [0; 3 * RESULT_SIZE];
+    let last = grade(&sheet, &mut results).unwrap().records().next_back().unwrap();
+    assert_eq!((last.plan, last.portion, last.cusums), (None, Grade::Substandard, [0; 4]));
+    assert_eq!(last.standing, Standing::InStepThree);
+}
+
+#[test]
+fn empty_input() {
+    assert_eq!(refused(&[], 0), (1, 0));
+    assert_eq!(refused(&[], 100), (1, 0));
+}
+
+#[test]
+fn no_unit() {
+    let mut results = [0xEE; 4];
+    let graded = grade(&sheet(&[&BREAK]), &mut results).unwrap();
+    assert_eq!((graded.units(), graded.records().next()), (0, None));
+    assert_eq!(results, [0xEE; 4]);
+    assert_eq!(grade(&plan(), &mut []).unwrap().units(), 0);
+}
+
+#[test]
+fn every_refusal() {
+    let ok = unit(1, [0, 1, 2, 3]);
+    let with = |at: usize, value: u8| {
+        let mut unit = ok.clone();
+        unit[at] = value;
+        unit
+    };
+    let full = ok.repeat(MOST_UNITS);
+    let behind_full = PLAN_SIZE + full.len();
+    let mut not_a_plan = plan();
+    not_a_plan[1] = 0x4D;
+    let mut designated = plan();
+    designated[2] = 3;
+    let cases: Vec<(u32, Vec<u8>, usize)> = vec![
+        (1, plan()[..74].to_vec(), 0),
+        (1, not_a_plan, 0),
+        (2, designated, 0),
+        (3, plan_with(2, 3, 1, 10_000), 0),
+        (4, plan_with(0, 1, 0, 51), 0),
+        (5, plan_with(1, 2, 1, 49), 0),
+        (5, plan_with(2, 0, 2, 49), 0),
+        (6, sheet(&[&ok, &[0x53]]), 89),
+        (6, sheet(&[&ok, b"PL"]), 89),
+        (7, sheet(&[&ok, &ok[..13]]), 89),
+        (7, sheet(&[&BREAK, &[0x52, 0x44]]), 77),
+        (8, sheet(&[&ok, &unit(1, [2001, 0, 0, 0])]), 89),
+        (8, sheet(&[&unit(1, [0, 2001, 0, 0])]), 75),
+        (8, sheet(&[&unit(1, [0, 0, 2001, 0])]), 75),
+        (8, sheet(&[&unit(1, [0, 0, 0, 2001])]), 75),
+        (9, sheet(&[&ok, &with(12, 4)]), 89),
+        (9, sheet(&[&ok, &with(13, 2)]), 89),
+        (10, sheet(&[&redesignation(3)]), 75),
+        (11, sheet(&[&redesignation(0)]), 75),
+        (11, sheet(&[&redesignation(2), &ok, &redesignation(2)]), 92),
+        (12, sheet(&[&full, &ok]), behind_full),
+        (12, sheet(&[&full, &with(12, 4)]), behind_full),
+    ];
+    for (number, sheet, offset) in &cases {
+        for room in [0, RESULT_SIZE * MOST_UNITS] {
+            assert_eq!(refused(sheet, room), (*number, *offset));
+        }
+    }
+    let two = sheet(&[&ok, &ok]);
+    for room in [0, 1, 16, 31] {
+        assert_eq!(refused(&two, room), (13, PLAN_SIZE + 2 * UNIT_SIZE));
+    }
+    // Every ground but 14, to which no sheet leads.
+    let mut met: Vec<u32> = cases.iter().map(|(number, _, _)| *number).collect();
+    met.push(13);
+    met.sort();
+    met.dedup();
+    assert_eq!(met, (1..=13).collect::<Vec<_>>());
+}
+
+#[test]
+fn largest_sheet() {
+    let sheet = sheet(&[&unit(65_535, [2000; 4]).repeat(MOST_UNITS)]);
+    let mut results = vec![0; RESULT_SIZE * MOST_UNITS];
+    let graded = grade(&sheet, &mut results).unwrap();
+    assert_eq!(graded.units(), MOST_UNITS);
+    assert!(graded
+        .into_iter()
+        .all(|unit| unit.code == 65_535 && unit.portion == Grade::Substandard));
+}
+
+#[test]
+fn bytes_behind_the_records_are_kept() {
+    let sheet = sheet(&[&unit(1, [0; 4]), &BREAK, &unit(2, [0; 4])]);
+    let mut results = [0xEE; 60];
+    let graded = grade(&sheet, &mut results).unwrap();
+    assert_eq!((graded.units(), graded.bytes().len()), (2, 32));
+    assert_eq!(results[32..], [0xEE; 28]);
+    assert!(results[..32].iter().all(|&byte| byte != 0xEE));
+}
+
+#[test]
+fn records_from_both_ends() {
+    let units: Vec<u8> = (1..=5).flat_map(|code| unit(code, [0; 4])).collect();
+    let sheet = sheet(&[&units]);
+    let mut results = [0; 80];
+    let graded = grade(&sheet, &mut results).unwrap();
+    let mut records = graded.records();
+    assert_eq!(records.len(), 5);
+    assert_eq!(records.next().unwrap().code, 1);
+    assert_eq!(records.next_back().unwrap().code, 5);
+    assert_eq!(records.len(), 3);
+    assert_eq!(records.rev().map(|unit| unit.code).collect::<Vec<_>>(), [4, 3, 2]);
+    assert_eq!(graded.into_iter().count(), 5);
+}
+
+#[test]
+fn grounds_and_errors() {
+    for (number, ground) in (1..).zip(Ground::ALL) {
+        assert_eq!(ground.number(), number);
+        assert_eq!(Ground::from_number(number), Some(ground));
+        assert!(!ground.to_string().is_empty());
+    }
+    assert_eq!(Ground::from_number(15), None);
+    let error: Box<dyn std::error::Error> = Box::new(grade(DAMAGED, &mut []).unwrap_err());
+    assert_eq!(error.to_string(), "refused 8 at offset 103: a count above 2,000");
+}

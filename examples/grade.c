@@ -1,0 +1,88 @@
+/*
+ * Grades a tally sheet and prints the answer and the result records.
+ *
+ *   grade [FILE]    reads standard input if no file is named
+ *
+ * The first line has number, units and offset; then comes a line for each result record, its fields
+ * in hexadecimal. The exit status is 0 for an accepted sheet, 2 for a refused one, and 1 if the
+ * input cannot be read or the output cannot be written.
+ */
+#include <errno.h>
+#include <stdint.h>
+#include <stdio.h>
+#include <stdlib.h>
+#include <string.h>
+
+#include "hatmuyon.h"
+
+/* The bytes of a file to its end, or NULL; never NULL for an empty file. */
+static uint8_t *read_all(FILE *file, size_t *length)
+{
+    size_t room = 65536, filled = 0;
+    uint8_t *bytes = malloc(room);
+
+    while (bytes != NULL) {
+        filled += fread(bytes + filled, 1, room - filled, file);
+        if (filled < room)
+            break;
+        uint8_t *larger = room <= SIZE_MAX / 2 ? realloc(bytes, 2 * room) : NULL;
+        if (larger == NULL)
+            free(bytes);
+        bytes = larger;
+        room *= 2;
+    }
+    if (bytes != NULL && ferror(file)) {
+        free(bytes);
+        bytes = NULL;
+    }
+    *length = filled;
+    return bytes;
+}
+
+static unsigned two(const uint8_t *bytes)
+{
+    return 256u * bytes[0] + bytes[1];
+}
+
+/* Prints a result record: mark, code, portion, code grade, plan, standing, four CuSums. */
+static void print_record(const uint8_t *record)
+{
+    printf("%04x %04x %02x %02x %02x %02x %04x %04x %04x %04x\n",
+           two(record), two(record + HATMUYON_RESULT_CODE),
+           record[HATMUYON_RESULT_PORTION], record[HATMUYON_RESULT_CODE_GRADE],
+           record[HATMUYON_RESULT_PLAN], record[HATMUYON_RESULT_STANDING],
+           two(record + HATMUYON_RESULT_CRITICAL), two(record + HATMUYON_RESULT_SEVERE),
+           two(record + HATMUYON_RESULT_MAJOR), two(record + HATMUYON_RESULT_TOTAL));
+}
+
+int main(int argc, char **argv)
+{
+    static uint8_t results[HATMUYON_RESULT_SIZE * HATMUYON_MOST_UNITS];
+
+    if (argc > 2) {
+        fprintf(stderr, "usage: grade [FILE]\n");
+        return 1;
+    }
+    FILE *file = argc == 2 ? fopen(argv[1], "rb") : stdin;
+    size_t length = 0;
+    uint8_t *sheet = file != NULL ? read_all(file, &length) : NULL;
+    if (sheet == NULL) {
+        fprintf(stderr, "grade: cannot read %s: %s\n", argc == 2 ? argv[1] : "standard input",
+                strerror(errno));
+        return 1;
+    }
+
+    struct hatmuyon_answer answer = hatmuyon_grade(sheet, length, results, sizeof results);
+    free(sheet);
+
+    printf("number %lu, units %zu, offset %zu\n", (unsigned long)answer.number, answer.units,
+           answer.offset);
+    for (size_t unit = 0; unit < answer.units; unit++)
+        print_record(results + HATMUYON_RESULT_SIZE * unit);
+
+    if (fflush(stdout) != 0 || ferror(stdout)) {
+        fprintf(stderr, "grade: cannot write: %s\n", strerror(errno));
+        return 1;
+    }
+    return answer.number == HATMUYON_ACCEPTED ? 0 : 2;
+}

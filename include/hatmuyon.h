@@ -1,0 +1,141 @@
+/*
+ * hatmuyon: grades the tally sheet of an on-line inspection under the USDA cumulative sum plan,
+ * File Code 120 A-6 of August 1978.
+ *
+ * Link with libhatmuyon.a, which `rt staticlib hatmuyon` writes to target/staticlib (x86-64).
+ * The archive needs no other library.
+ */
+#ifndef HATMUYON_H
+#define HATMUYON_H
+
+#include <stddef.h>
+#include <stdint.h>
+
+#ifdef __cplusplus
+extern "C" {
+#endif
+
+/*
+ * A tally sheet is a plan record and then, in any order, sample units, redesignations and breaks.
+ * Every record opens with a mark of two bytes; numbers of two bytes have the high byte first.
+ *
+ *   plan           50 4C, designated grade (1), then for grades A, B, C, within each for the classes
+ *                  critical, severe, major, total: S, T, L (2 each, tenths of a defect)
+ *   sample unit    53 55, production code (2), counts of critical, severe, major, minor (2 each),
+ *                  prerequisite grade (1), recoverable (1): 1 if the portion is separately coded and
+ *                  within reach, else 0
+ *   redesignation  52 44, new designated grade (1)
+ *   break          42 4B
+ *
+ * S is the start of a CuSum, T the tolerance, L the acceptance limit.
+ */
+
+/* The marks, as numbers of two bytes. */
+#define HATMUYON_PLAN_MARK 0x504C
+#define HATMUYON_UNIT_MARK 0x5355
+#define HATMUYON_REDESIGNATION_MARK 0x5244
+#define HATMUYON_BREAK_MARK 0x424B
+#define HATMUYON_RESULT_MARK 0x4752
+
+/* Sizes of the records in bytes. */
+#define HATMUYON_PLAN_SIZE 75
+#define HATMUYON_UNIT_SIZE 14
+#define HATMUYON_REDESIGNATION_SIZE 3
+#define HATMUYON_BREAK_SIZE 2
+#define HATMUYON_RESULT_SIZE 16
+
+/* Limits of the numbers on a sheet. A result buffer for any sheet has
+ * HATMUYON_RESULT_SIZE * HATMUYON_MOST_UNITS bytes. */
+#define HATMUYON_MOST_UNITS 1000
+#define HATMUYON_LARGEST_COUNT 2000
+#define HATMUYON_LARGEST_LIMIT 9999 /* of S, T and L, in tenths */
+
+/* Offsets of the fields of a result record, which opens with the mark 47 52. */
+#define HATMUYON_RESULT_CODE 2       /* 2 bytes: production code */
+#define HATMUYON_RESULT_PORTION 4    /* 1 byte: grade of the portion */
+#define HATMUYON_RESULT_CODE_GRADE 5 /* 1 byte: worst portion grade of the code on the sheet */
+#define HATMUYON_RESULT_PLAN 6       /* 1 byte: grade of the plan in force for the unit, 3 if none */
+#define HATMUYON_RESULT_STANDING 7   /* 1 byte: a standing, see below */
+#define HATMUYON_RESULT_CRITICAL 8   /* 2 bytes each: the CuSums in tenths, 0 if no plan is in force */
+#define HATMUYON_RESULT_SEVERE 10
+#define HATMUYON_RESULT_MAJOR 12
+#define HATMUYON_RESULT_TOTAL 14
+
+/* Grades, best first. */
+enum hatmuyon_grade_code {
+    HATMUYON_GRADE_A = 0,
+    HATMUYON_GRADE_B = 1,
+    HATMUYON_GRADE_C = 2,
+    HATMUYON_SUBSTANDARD = 3
+};
+
+/* The standing of a unit. */
+enum hatmuyon_standing {
+    HATMUYON_MET = 0,           /* it met the designated plan */
+    HATMUYON_FAILED = 1,        /* it failed the designated plan */
+    HATMUYON_IN_STEP_THREE = 2, /* it is in step 3 and not recovered */
+    HATMUYON_RECOVERED = 3      /* it is in step 3 and recovered */
+};
+
+/*
+ * The number of an answer: 0, or the ground on which the sheet is refused. The place is 0 for 1 to
+ * 5, the offset of the record's mark for 6 to 12, and the sheet's length for 13 and 14.
+ *
+ * The plan is checked first, for 1 to 5 in turn; then the records from left to right, each wholly
+ * before the next, for 6, 7, 12, 8, 9, 10, 11 in this order; then the result buffer, for 13 and 14.
+ * The first ground met is the answer.
+ */
+enum hatmuyon_number {
+    HATMUYON_ACCEPTED = 0,
+    HATMUYON_REFUSED_NO_PLAN = 1,          /* shorter than 75 bytes, or first mark not 50 4C */
+    HATMUYON_REFUSED_DESIGNATED_GRADE = 2, /* designated grade above 2 */
+    HATMUYON_REFUSED_LIMIT = 3,            /* an S, T or L above 9,999 */
+    HATMUYON_REFUSED_START = 4,            /* an S above its L */
+    HATMUYON_REFUSED_FALLING_PLAN = 5,     /* in a class, T or T+L smaller at B than at A, or at C than at B */
+    HATMUYON_REFUSED_MARK = 6,             /* one byte left, or a mark not of a unit, redesignation or break */
+    HATMUYON_REFUSED_CUT_SHORT = 7,        /* record cut short */
+    HATMUYON_REFUSED_COUNT = 8,            /* a count above 2,000 */
+    HATMUYON_REFUSED_UNIT_FIELD = 9,       /* prerequisite above 3 or recoverable above 1 */
+    HATMUYON_REFUSED_NEW_GRADE = 10,       /* new grade above 2 */
+    HATMUYON_REFUSED_SAME_GRADE = 11,      /* new grade equals the one designated just before this record */
+    HATMUYON_REFUSED_TOO_MANY_UNITS = 12,  /* a unit after the 1,000th */
+    HATMUYON_REFUSED_RESULTS = 13,         /* result buffer shorter than 16 times the units */
+    HATMUYON_REFUSED_CUSUM = 14            /* a CuSum too large for two bytes; no sheet leads to it */
+};
+
+/* What the grading answers. */
+struct hatmuyon_answer {
+    uint32_t number; /* an enum hatmuyon_number */
+    size_t units;    /* accepted: the sample units, which is the number of result records; refused: 0 */
+    size_t offset;   /* accepted: the sheet's length; refused: the place in the sheet */
+};
+
+/*
+ * Grades a sheet into a result buffer: one result record for each sample unit, in their order.
+ *
+ * The caller owes:
+ *   - `sheet` may be read for `sheet_length` bytes, `results` may be read and written for
+ *     `results_length` bytes;
+ *   - neither pointer is null, also where its length is 0;
+ *   - the two buffers do not overlap;
+ *   - during the call no other thread writes to the sheet, and none reads or writes the results.
+ * Nothing is owed of the bytes: any sheet may be passed, and any result buffer.
+ *
+ * The function promises:
+ *   - it accepts the sheet, or refuses it by one of the numbers 1 to 14 with the place, and refuses
+ *     none to which no ground applies;
+ *   - refused: every byte of `results` is kept;
+ *   - accepted: the first HATMUYON_RESULT_SIZE * units bytes of `results` are the result records,
+ *     and every byte behind them is kept;
+ *   - no byte of the sheet is changed, no other memory is touched but the stack, nothing is
+ *     allocated, and nothing is kept from one call to the next;
+ *   - it always returns.
+ */
+struct hatmuyon_answer hatmuyon_grade(const uint8_t *sheet, size_t sheet_length,
+                                      uint8_t *results, size_t results_length);
+
+#ifdef __cplusplus
+}
+#endif
+
+#endif
