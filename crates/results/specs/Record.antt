@@ -21,6 +21,9 @@ portionOffset = 4
 abbrev pub codeGradeOffset : ℕ
 codeGradeOffset = 5
 
+abbrev pub planOffset : ℕ
+planOffset = 6
+
 abbrev pub standingOffset : ℕ
 standingOffset = 7
 
@@ -51,6 +54,13 @@ portionIn results j = byte results (resultSize * j + portionOffset)
 
 abbrev pub codeGradeIn : List ℕ → ℕ → ℕ
 codeGradeIn results j = byte results (resultSize * j + codeGradeOffset)
+
+-- the grade of the plan in force, and the standing
+abbrev pub planIn : List ℕ → ℕ → ℕ
+planIn results j = byte results (resultSize * j + planOffset)
+
+abbrev pub standingIn : List ℕ → ℕ → ℕ
+standingIn results j = byte results (resultSize * j + standingOffset)
 
 -- the CuSum of a class
 abbrev pub cusumIn : List ℕ → ℕ → ℕ → ℕ

@@ -18,7 +18,11 @@ pub const PORTION_OFFSET: usize = 4;
 
 pub const CODE_GRADE_OFFSET: usize = 5;
 
+pub const PLAN_OFFSET: usize = 6;
+
 pub const STANDING_OFFSET: usize = 7;
+
+pub const CUSUMS_OFFSET: usize = 8;
 
 // In place of the code grade while the code is not graded.
 const UNGRADED: u8 = 255;

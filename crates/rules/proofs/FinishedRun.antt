@@ -2,7 +2,6 @@
 -- The run counts back record by record, since every record that is no qualifying unit sets it to none.
 use Prim.Native.Nat.{ℕ, zero, suc, _+_, _≤_, _<_}
 use mathlib.Core.Path.{_≡_, refl, sym, _∙_, ap, subst}
-use mathlib.Core.Logic.{_⊎_, inl, inr}
 use mathlib.Core.Bool.{Bool, true, false, cond, _&&_, _||_, true≢false, false≢true}
 use mathlib.Core.List.{List}
 use native.Mathlib.Omega.{arith}
@@ -19,7 +18,7 @@ use Rattle.rules.specs.declared.Phase.{Phase}
 use Rattle.rules.specs.declared.Phase.the-variants.{Designated, StepThree}
 use Rattle.rules.specs.declared.State.{State}
 use Rattle.rules.specs.Words.{Table, worse}
-use Rattle.rules.specs.StepThree.{inStepThree, pick, afterDesignated, endsStepThree, afterStepThree, phaseAfterUnit, phaseAfterRedesignation, phaseAfterBreak, unitEndsStepThree, opening, graded, phaseAfter, endsAt, stateWith, next}
+use Rattle.rules.specs.StepThree.{pick, afterDesignated, endsStepThree, afterStepThree, phaseAfterUnit, phaseAfterRedesignation, phaseAfterBreak, unitEndsStepThree, opening, graded, phaseAfter, endsAt, stateWith, next}
 use Rattle.rules.specs.Sheet.{Sheet, before, gradedAt, stepThreeEnds, inFinishedRun}
 
 -- a phase is step 3 with this designated grade, lower grade and run
@@ -136,39 +135,6 @@ module _ (sheet : Sheet) where
             third = rw (ej, ek) at third;
             ends-here = ej ∙ ap suc ek;
           }
-
--- ---- a record of the finished run is in step 3
-
-in-step-three : (phase : Phase) (d l n : ℕ) → InStepThree phase d l n → inStepThree phase ≡ true
-unfolding InStepThree inStepThree
-in-step-three (Designated designated previous) d l n h = absurd h
-in-step-three (StepThree designated lower run) d l n h = refl
-
-module _ (sheet : Sheet) (i : ℕ) where
-  within : (j : ℕ) → FinishedRun sheet j → ((j ≡ i) ⊎ ((j ≡ suc i) ⊎ (j ≡ suc (suc i)))) → inStepThree (before sheet i .phase) ≡ true
-  within j run (inl e) =
-      let q : suc (suc (run .start)) ≡ i = sym (run .ends-here) ∙ e in
-      subst (λ (x : ℕ). inStepThree (before sheet x .phase) ≡ true) q (in-step-three _ _ _ _ (run .third .in-step-three))
-  within j run (inr (inl e)) =
-      let q : suc (run .start) ≡ i = omega (arith, run .ends-here) in
-      subst (λ (x : ℕ). inStepThree (before sheet x .phase) ≡ true) q (in-step-three _ _ _ _ (run .second .in-step-three))
-  within j run (inr (inr e)) =
-      let q : run .start ≡ i = omega (arith, run .ends-here) in
-      subst (λ (x : ℕ). inStepThree (before sheet x .phase) ≡ true) q (in-step-three _ _ _ _ (run .first .in-step-three))
-
-  -- outside step 3 no record is part of a finished run
-  pub outside-not-finished : inStepThree (before sheet i .phase) ≡ false → inFinishedRun sheet i ≡ false
-  unfolding inFinishedRun
-  outside-not-finished out = go (stepThreeEnds sheet i) refl (stepThreeEnds sheet (i + 1)) refl (stepThreeEnds sheet (i + 2)) refl
-    where
-      no : (j : ℕ) → stepThreeEnds sheet j ≡ true → ((j ≡ i) ⊎ ((j ≡ suc i) ⊎ (j ≡ suc (suc i)))) → ⊥
-      no j e place = true≢false (sym (within j (finished-run sheet j e) place) ∙ out)
-
-      go : (a : Bool) → stepThreeEnds sheet i ≡ a → (b : Bool) → stepThreeEnds sheet (i + 1) ≡ b → (c : Bool) → stepThreeEnds sheet (i + 2) ≡ c → (a || (b || c)) ≡ false
-      go true e b f c g = absurd (no i e (inl refl))
-      go false e true f c g = absurd (no (i + 1) f (inr (inl (omega arith))))
-      go false e false f true g = absurd (no (i + 2) g (inr (inr (omega arith))))
-      go false e false f false g = refl
 
 -- ---- 'recovered' is what the paper says
 

@@ -26,10 +26,6 @@ unfoldable pub inForce : Phase → ℕ
 inForce (Designated designated previous) = designated
 inForce (StepThree designated lower run) = lower
 
-unfoldable pub inStepThree : Phase → Bool
-inStepThree (Designated designated previous) = false
-inStepThree (StepThree designated lower run) = true
-
 -- one of two, by a test
 unfoldable pub pick {ℓ} : {A : Type ℓ} → Bool → A → A → A
 pick true first other = first

@@ -5,7 +5,8 @@ ghost use lib.Dec.{leb};
 ghost use Rattle.cusum.specs.Step.{tenthsOf};
 ghost use Rattle.rules.specs.Words.{tableOf, rowOf, countsOf, worse};
 ghost use Rattle.rules.specs.Unit.{starting, steppedIn, admits, withinTolerance, allZero, newCusums, unitFails, bestLower, gradingOf};
-ghost use Rattle.rules.specs.StepThree.{designatedIn, inForce, inStepThree, afterDesignated, endsStepThree, afterStepThree, phaseAfterUnit, phaseAfterRedesignation, phaseAfterBreak, unitEndsStepThree, unitStartsStepThree, unitRestarts, redesignationRestarts, opening, graded, endsAt, stateWith, next};
+ghost use Rattle.rules.specs.StepThree.{designatedIn, inForce, afterDesignated, endsStepThree, afterStepThree, phaseAfterUnit, phaseAfterRedesignation, phaseAfterBreak, unitEndsStepThree, unitStartsStepThree, unitRestarts, redesignationRestarts, opening, graded, stateWith, next};
+ghost use Rattle.rules.specs.declared.Entry.the-variants.{Redesignation, Break};
 ghost use Rattle.rules.specs.Sheet.{standingOf, portionOf};
 use cusum::Cusum;
 use cusum::Limits;
@@ -324,22 +325,6 @@ impl Phase {
         }
     }
 
-    pub fn in_step_three(self) -> bool
-        ensures { λ r. ⌜ r ≡ inStepThree self ⌝ }
-    {
-        match self {
-            Phase::Designated {
-                designated: _,
-                previous: _,
-            } => false,
-            Phase::StepThree {
-                designated: _,
-                lower: _,
-                run: _,
-            } => true,
-        }
-    }
-
     fn after_unit(self, grading: Grading) -> Phase
         ensures { λ r. ⌜ r ≡ phaseAfterUnit self grading ⌝ }
     {
@@ -563,33 +548,26 @@ impl State {
         )
     }
 
-    // The state after a record.
-    pub fn after(self, table: Table, entry: Entry) -> State
-        ensures { λ r. ⌜ r ≡ next table self entry ⌝ }
+    // The state after a redesignation.
+    pub fn after_redesignation(self, table: Table, new: u8) -> State
+        ensures { λ r. ⌜ r ≡ next table self (Redesignation new) ⌝ }
     {
         let phase = self.phase;
         let cusums = self.cusums;
-        match entry {
-            Entry::SampleUnit(unit) => self.after_unit(table, self.grade(table, unit)),
-            Entry::Redesignation(new) => state_with(
-                table,
-                phase.after_redesignation(new),
-                phase.redesignation_restarts(new),
-                cusums,
-            ),
-            Entry::Break => state_with(table, phase.after_break(), true, cusums),
-        }
+        state_with(
+            table,
+            phase.after_redesignation(new),
+            phase.redesignation_restarts(new),
+            cusums,
+        )
     }
 
-    // Whether step 3 ends at a record.
-    pub fn ends_at(self, table: Table, entry: Entry) -> bool
-        ensures { λ r. ⌜ r ≡ endsAt table self entry ⌝ }
+    // The state after a break.
+    pub fn after_break(self, table: Table) -> State
+        ensures { λ r. ⌜ r ≡ next table self Break ⌝ }
     {
         let phase = self.phase;
-        match entry {
-            Entry::SampleUnit(unit) => phase.ends_step_three(self.grade(table, unit)),
-            Entry::Redesignation(_) => false,
-            Entry::Break => false,
-        }
+        let cusums = self.cusums;
+        state_with(table, phase.after_break(), true, cusums)
     }
 }

@@ -65,7 +65,7 @@ const LARGEST_LIMIT: u16 = 9999;
 
 const LARGEST_COUNT: u16 = 2000;
 
-const MOST_UNITS: usize = 1000;
+pub const MOST_UNITS: usize = 1000;
 
 // Where a check stands: so many records and units before it, the offset of the next record, the grade designated there.
 struct Place {

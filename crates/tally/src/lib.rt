@@ -214,11 +214,11 @@ fn write_here(
             past(bytes, records, table, position, after)
         }
         Entry::Redesignation(new) => {
-            let after = state.after(table, Entry::Redesignation(new));
+            let after = state.after_redesignation(table, new);
             past(bytes, records, table, position, after)
         }
         Entry::Break => {
-            let after = state.after(table, Entry::Break);
+            let after = state.after_break(table);
             past(bytes, records, table, position, after)
         }
     }

@@ -1,0 +1,71 @@
+-- `lines::unit_lines` meets its contract. The loop's invariant: the lines of the units passed are written, none longer than 64 bytes.
+-- Assumes nothing.
+use Prim.Native.Nat.{ℕ, _*_, _-_, _<_, _≤_}
+use mathlib.Core.Path.{_≡_, refl}
+use native.Mathlib.Omega.{arith}
+use borrow.Author.Needs.{needs}
+use lib.ListN.{length}
+use Rattle.encoding.specs.Bytes.{byte}
+use Rattle.lines.specs.Lines.{lineSize, linesOf}
+use Rattle.lines.specs.Wrote.{Wrote}
+use Rattle.lines.proofs.Writing.{nothing-written, line-next}
+use Rattle.lines.proofs.LineLengths.{short-line}
+use Rattle.lines.proofs.unit_lines.Statement.{statement}
+use Rattle.lines.proofs.unit_lines.Tie as tie
+
+abbrev Inv-loop : tie.InvT-loop
+Inv-loop results units out₀ end₀ j₀ out end j =
+    (j ≤ units) × (length out ≡ length out₀) × (end ≤ lineSize * j) × Wrote out₀ 0 (linesOf results j) out end
+
+abbrev μ-loop : tie.MeasureT-loop
+μ-loop results units out₀ end₀ j₀ out end j = units - j
+
+loop-holds : tie.Need-loop-holds Inv-loop μ-loop
+unfolding linesOf
+loop-holds c = (search needs, refl, search needs, nothing-written _ 0 (omega arith))
+
+unit-line-requires : tie.Need-unit-line-requires Inv-loop μ-loop
+unit-line-requires c κs =
+    let results = c .before .before .before .before .before .args .results .now in
+    let bytes : (at : ℕ) → byte results at < 256 = λ at. omega (arith, c .before .before .before .before .shared-slice-known .given at) in
+    (omega arith, omega (arith, short-line results bytes (c .before .before .loop .j) (omega arith)))
+
+add-j : tie.Need-add-j Inv-loop μ-loop
+add-j c = search needs
+
+loop-less : tie.Need-loop-less Inv-loop μ-loop
+loop-less c = search needs
+
+loop-again : tie.Need-loop-again Inv-loop μ-loop
+loop-again c =
+    let results = c .before .before .before .before .before .before .before .before .args .results .now in
+    let loop = c .before .before .before .before .before .loop in
+    let bytes : (at : ℕ) → byte results at < 256 = λ at. omega (arith, c .before .before .before .before .before .before .before .shared-slice-known .given at) in (
+      search needs,
+      search needs,
+      omega (arith, c .before .before .unit-line .ensures .ends, short-line results bytes (loop .j) (omega arith)),
+      line-next results (loop .j) (loop .inv .3) (c .before .before .unit-line .ensures),
+    )
+
+same-length : tie.Need-same-length Inv-loop μ-loop
+same-length c = search needs
+
+returns : tie.Need-returns Inv-loop μ-loop
+returns c =
+    let loop = c .before .loop in
+    let all : loop .j ≡ c .before .before .before .before .args .units = omega arith in
+    rw (← all) (loop .inv .3)
+
+pub unit-lines-spec : {M : Type 1} → statement M
+unit-lines-spec =
+    tie.close
+    (tie.spec
+    Inv-loop
+    μ-loop
+    loop-holds
+    unit-line-requires
+    add-j
+    loop-less
+    loop-again
+    same-length
+    returns)

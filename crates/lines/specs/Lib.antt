@@ -1,0 +1,4 @@
+pub mod Ascii
+pub mod Lines
+pub mod Wrote
+pub mod Peach

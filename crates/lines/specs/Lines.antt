@@ -1,0 +1,110 @@
+-- What the printing program prints, as bytes in ASCII: a line a unit, or the refusal.
+use Prim.Native.Nat.{ℕ, zero, suc, _+_, _*_, _/_, _%_}
+use Prim.Native.Char.{code}
+use mathlib.Core.Bool.{cond}
+use mathlib.Core.List.{List, [], _∷_, _++_, map}
+use lib.Dec.{eqb, ltb}
+use lib.ListN.{length, getD, replicate}
+use Rattle.rules.specs.Words.{classes}
+use Rattle.sheet.specs.Refusals.{mostUnits}
+use Rattle.results.specs.Record.{resultSize, codeIn, portionIn, codeGradeIn, planIn, standingIn, cusumIn}
+use Rattle.tally.specs.declared.Answer.{Answer}
+use Rattle.tally.specs.Outcome.{outcome}
+use Rattle.lines.specs.Ascii.{ascii}
+
+abbrev pub newline : ℕ
+newline = code "\n"
+
+abbrev pub space : ℕ
+space = code " "
+
+abbrev pub point : ℕ
+point = code "."
+
+abbrev pub digit : ℕ → ℕ
+digit value = code "0" + value
+
+-- ---- fields
+
+-- the digits of a number, the highest first and no zero in front, if it has no more than so many places
+unfoldable pub digits : ℕ → ℕ → List ℕ
+digits zero value = []
+digits (suc places) value = cond (ltb value 10) (digit value ∷ []) (digits places (value / 10) ++ (digit (value % 10) ∷ []))
+
+-- a number in decimal; it never has more places than this
+unfoldable pub decimal : ℕ → List ℕ
+decimal value = digits (suc value) value
+
+-- a number of tenths with one decimal
+unfoldable pub oneDecimal : ℕ → List ℕ
+oneDecimal tenths = decimal (tenths / 10) ++ (point ∷ digit (tenths % 10) ∷ [])
+
+-- a grade: A, B, C, else S
+unfoldable pub gradeLetter : ℕ → ℕ
+gradeLetter grade = getD (ascii "ABC") grade (code "S")
+
+-- a standing: m, f, u, else r
+unfoldable pub standingLetter : ℕ → ℕ
+standingLetter standing = getD (ascii "mfu") standing (code "r")
+
+-- ---- lines
+
+-- fields parted by one space, and a newline
+unfoldable pub lineWith : List (List ℕ) → List ℕ
+lineWith [] = newline ∷ []
+lineWith (field ∷ []) = field ++ (newline ∷ [])
+lineWith (field ∷ next ∷ fields) = field ++ (space ∷ lineWith (next ∷ fields))
+
+-- unit j, the first being 0: unit number from 1, code, portion grade, code grade, standing, plan grade, four CuSums
+unfoldable pub lineOf : List ℕ → ℕ → List ℕ
+lineOf results j =
+    lineWith
+    (decimal (j + 1)
+    ∷ decimal (codeIn results j)
+    ∷ (gradeLetter (portionIn results j) ∷ [])
+    ∷ (gradeLetter (codeGradeIn results j) ∷ [])
+    ∷ (standingLetter (standingIn results j) ∷ [])
+    ∷ (gradeLetter (planIn results j) ∷ [])
+    ∷ map (λ class. oneDecimal (cusumIn results j class)) classes)
+
+-- a line for each of n units
+unfoldable pub linesOf : List ℕ → ℕ → List ℕ
+linesOf results zero = []
+linesOf results (suc n) = linesOf results n ++ lineOf results n
+
+unfoldable pub refusedLine : ℕ → ℕ → List ℕ
+refusedLine number offset = lineWith (ascii "refused" ∷ decimal number ∷ decimal offset ∷ [])
+
+-- ---- the whole text
+
+-- a line a unit; a refused sheet prints only "refused", number and offset
+unfoldable pub textOf : Answer → List ℕ → List ℕ
+textOf answer results =
+    cond (eqb (answer .number) 0) (linesOf results (answer .units)) (refusedLine (answer .number) (answer .offset))
+
+-- input above 65,536 bytes is number 15, offset 65536
+abbrev pub largestInput : ℕ
+largestInput = 65536
+
+abbrev pub tooMuchInput : ℕ
+tooMuchInput = 15
+
+-- a result buffer for the most units that a sheet has, filled with zeros
+unfoldable pub emptyResults : List ℕ
+emptyResults = replicate (resultSize * mostUnits) 0
+
+-- for an input of any length; number 15 before all else
+unfoldable pub printed : List ℕ → List ℕ
+printed input =
+    cond (ltb largestInput (length input)) (refusedLine tooMuchInput largestInput)
+    (textOf (outcome input emptyResults .answer) (outcome input emptyResults .buffer))
+
+-- ---- room
+
+-- no unit's line is longer
+abbrev pub lineSize : ℕ
+lineSize = 64
+
+-- enough for every text
+abbrev pub textSize : ℕ
+textSize = lineSize * mostUnits
