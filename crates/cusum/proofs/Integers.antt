@@ -1,6 +1,6 @@
 -- Laws of the integers of demand 3: an integer as a difference of two naturals, for omega, and one more member at the front of
 -- the 'largest of' form. By cases on signs, and omega.
-use Prim.Native.Nat.{ℕ, zero, suc, _+_, _*_, _-_, _≤_, _<_, min, max}
+use Prim.Native.Nat.{ℕ, zero, suc, _+_, _-_, _≤_, _<_, min, max}
 use mathlib.Core.Path.{_≡_, refl, sym, _∙_, ap}
 use mathlib.Core.Bool.{Bool, true, false, not, cond}
 use mathlib.Core.List.{List, [], _∷_, map}

@@ -1,7 +1,7 @@
 -- A run of steps, none of which fails, from an anchor: the CuSum at its end is the 'largest of' form. By induction on the run,
 -- one step unrolled at the front.
 use Prim.Native.Nat.{ℕ}
-use mathlib.Core.Path.{_≡_, refl, sym, _∙_, ap}
+use mathlib.Core.Path.{_≡_, refl, _∙_, ap}
 use mathlib.Core.Bool.{false}
 use mathlib.Core.List.{List, [], _∷_, _++_, map}
 use native.Mathlib.Omega.{arith}

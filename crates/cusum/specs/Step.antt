@@ -1,6 +1,6 @@
 -- Rules 1 and 2 of grading a unit, for one class. S, T and L are the fields start, tolerance and limit; all are tenths.
 use Prim.Native.Nat.{ℕ, _+_, _*_}
-use mathlib.Core.Bool.{Bool, true, false, cond}
+use mathlib.Core.Bool.{Bool, false, cond}
 use lib.Dec.{ltb}
 use lib.IntN.{ℤ, pos, negsuc, _-ℤ_}
 use Rattle.cusum.specs.declared.Limits.{Limits}

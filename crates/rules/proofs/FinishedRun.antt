@@ -1,15 +1,14 @@
 -- When step 3 ends at a record, that record and the two right before it are sample units in step 3 that qualify: the finished run.
 -- The run counts back record by record, since every record that is no qualifying unit sets it to none.
 use Prim.Native.Nat.{ℕ, zero, suc, _+_, _≤_, _<_}
-use mathlib.Core.Path.{_≡_, refl, sym, _∙_, ap, subst}
-use mathlib.Core.Bool.{Bool, true, false, cond, _&&_, _||_, true≢false, false≢true}
+use mathlib.Core.Path.{_≡_, refl, sym, _∙_, ap}
+use mathlib.Core.Bool.{Bool, true, false, _&&_, _||_, false≢true}
 use mathlib.Core.List.{List}
 use native.Mathlib.Omega.{arith}
 use lib.Dec.{ltb, leb}
 use borrow.Author.Tests.{leb-true, leb-false}
 use Rattle.cusum.specs.declared.Cusum.{Cusum}
 use Rattle.rules.specs.declared.Sample.{Sample}
-use Rattle.rules.specs.declared.Grading.{Grading}
 use Rattle.rules.specs.declared.Entry.{Entry}
 use Rattle.rules.specs.declared.Entry.the-variants.{SampleUnit, Redesignation, Break}
 use Rattle.rules.specs.declared.Previous.{Previous}
@@ -17,9 +16,9 @@ use Rattle.rules.specs.declared.Previous.the-variants.{NoFailure, Failur
 use Rattle.rules.specs.declared.Phase.{Phase}
 use Rattle.rules.specs.declared.Phase.the-variants.{Designated, StepThree}
 use Rattle.rules.specs.declared.State.{State}
-use Rattle.rules.specs.Words.{Table, worse}
+use Rattle.rules.specs.Words.{Table}
 use Rattle.rules.specs.StepThree.{pick, afterDesignated, endsStepThree, afterStepThree, phaseAfterUnit, phaseAfterRedesignation, phaseAfterBreak, unitEndsStepThree, opening, graded, phaseAfter, endsAt, stateWith, next}
-use Rattle.rules.specs.Sheet.{Sheet, before, gradedAt, stepThreeEnds, inFinishedRun}
+use Rattle.rules.specs.Sheet.{Sheet, before, stepThreeEnds, inFinishedRun}
 
 -- a phase is step 3 with this designated grade, lower grade and run
 unfoldable pub InStepThree : Phase → ℕ → ℕ → ℕ → Type 0

@@ -1,6 +1,6 @@
 -- Bounds of what is recorded: a CuSum is at most its L, and every grade at most 3, for designated grades of at most 2.
 -- The grades in a phase are bounded by induction on the records.
-use Prim.Native.Nat.{ℕ, zero, suc, _+_, _≤_, _<_, max}
+use Prim.Native.Nat.{ℕ, zero, suc, _+_, _≤_}
 use mathlib.Core.Path.{_≡_, refl}
 use mathlib.Core.Bool.{Bool, true, false, cond, _&&_}
 use mathlib.Core.List.{List}

@@ -2,15 +2,15 @@
 -- The trail keeps the anchor's kind and the counts since it; by induction on the records, the CuSum is reached from it by steps that meet.
 use Prim.Native.Nat.{ℕ, zero, suc, _<_}
 use mathlib.Core.Path.{_≡_, refl, sym, _∙_, ap, subst}
-use mathlib.Core.Bool.{Bool, true, false, not, cond, _&&_, _||_, true≢false}
+use mathlib.Core.Bool.{Bool, true, false, not, cond, _||_, true≢false}
 use mathlib.Core.List.{List, [], _∷_, _++_, map, append-nil}
 use native.Mathlib.Omega.{arith}
-use lib.Dec.{ltb, leb}
+use lib.Dec.{ltb}
 use lib.ListN.{length}
-use lib.IntN.{ℤ, pos}
+use lib.IntN.{pos}
 use Rattle.cusum.specs.declared.Cusum.{Cusum}
 use Rattle.cusum.specs.declared.Limits.{Limits}
-use Rattle.cusum.specs.Step.{startOf, fails, newCusum}
+use Rattle.cusum.specs.Step.{fails, newCusum}
 use Rattle.cusum.specs.LargestForm.{largestForm}
 use Rattle.cusum.proofs.Laws.{failed-at}
 use Rattle.cusum.proofs.Runs.{after, Meets, after-snoc, meets-snoc, run-largest}
@@ -23,7 +23,7 @@ use Rattle.rules.specs.declared.Previous.the-variants.{NoFailure, Failur
 use Rattle.rules.specs.declared.Phase.{Phase}
 use Rattle.rules.specs.declared.Phase.the-variants.{Designated, StepThree}
 use Rattle.rules.specs.declared.State.{State}
-use Rattle.rules.specs.Words.{hasPlan, classes, Table, rowOf, inClass, limitsOf, countsOf, countIn, tenthsIn}
+use Rattle.rules.specs.Words.{hasPlan, classes, Table, rowOf, limitsOf, countsOf, countIn, tenthsIn}
 use Rattle.rules.specs.Unit.{starting, classFails, classCusum, newCusums}
 use Rattle.rules.specs.StepThree.{inForce, pick, afterDesignated, endsStepThree, afterStepThree, phaseAfterUnit, phaseAfterRedesignation, unitEndsStepThree, unitStartsStepThree, unitRestarts, redesignationRestarts, opening, graded, phaseAfter, restarts, cusumsAfter, stateWith, next}
 use Rattle.rules.specs.Sheet.{Sheet, before, inForceAt}

@@ -1,19 +1,18 @@
 -- Fewer defects and no higher CuSums before a unit give no higher CuSum, no failure that was not there, and no lower grade.
 -- For any class, from the step's own laws.
-use Prim.Native.Nat.{ℕ, zero, suc, _+_, _*_, _≤_, _<_}
+use Prim.Native.Nat.{ℕ, zero, suc, _+_, _*_, _≤_}
 use mathlib.Core.Path.{_≡_, refl}
 use mathlib.Core.Bool.{Bool, true, false, cond, _&&_, false≢true}
 use mathlib.Core.List.{List, [], _∷_, map}
 use native.Mathlib.Omega.{arith}
 use lib.Dec.{ltb, leb}
-use lib.ListN.{getD}
 use borrow.Author.Tests.{leb-true, le-leb, le-ltb}
 use Rattle.cusum.specs.declared.Cusum.{Cusum}
 use Rattle.cusum.specs.declared.Limits.{Limits}
 use Rattle.cusum.specs.Step.{fails, newCusum}
 use Rattle.cusum.proofs.Laws.{new-cusum-mono, fails-mono}
 use Rattle.rules.specs.declared.Sample.{Sample}
-use Rattle.rules.specs.Words.{substandard, hasPlan, classes, any, all, Table, rowOf, inClass, limitsOf, countsOf, countIn, tenthsIn}
+use Rattle.rules.specs.Words.{substandard, hasPlan, classes, Table, rowOf, inClass, limitsOf, countsOf, countIn, tenthsIn}
 use Rattle.rules.specs.Unit.{classFails, classCusum, newCusums, unitFails, admits, bestLower, defectGrade}
 use Rattle.rules.proofs.Tests.{any-mono, all-mono}
 

@@ -1,8 +1,8 @@
 -- Demand 3's second half over records: two sheets with one plan, alike but for fewer counts in the first, graded side by side.
 -- While the second has not failed two in a row both stay under the designated plan; by induction on the records.
 use Prim.Native.Nat.{ℕ, zero, suc, _+_, _≤_, _<_}
-use mathlib.Core.Path.{_≡_, refl, sym, _∙_, ap, subst, subst⁻¹, subst₂}
-use mathlib.Core.Bool.{Bool, true, false, cond, _&&_, _||_, true≢false, false≢true}
+use mathlib.Core.Path.{_≡_, refl, _∙_, ap, subst, subst⁻¹, subst₂}
+use mathlib.Core.Bool.{Bool, true, false, cond, _&&_, true≢false, false≢true}
 use mathlib.Core.List.{List}
 use native.Mathlib.Omega.{arith}
 use lib.Dec.{eqb}
@@ -17,9 +17,9 @@ use Rattle.rules.specs.declared.Phase.{Phase}
 use Rattle.rules.specs.declared.Phase.the-variants.{Designated, StepThree}
 use Rattle.rules.specs.declared.State.{State}
 use Rattle.rules.specs.Words.{substandard, Table, rowOf, countsOf}
-use Rattle.rules.specs.Unit.{starting, classFails, classCusum, newCusums, unitFails, gradingOf}
+use Rattle.rules.specs.Unit.{starting, classCusum, gradingOf}
 use Rattle.rules.specs.StepThree.{designatedIn, inForce, pick, afterDesignated, phaseAfterUnit, phaseAfterBreak, unitEndsStepThree, unitStartsStepThree, unitRestarts, opening, graded, phaseAfter, endsAt, restarts, cusumsAfter, stateWith, next}
-use Rattle.rules.specs.Sheet.{Sheet, before, designatedBefore, inForceAt, gradedAt, stepThreeEnds, inFinishedRun, recovered, portionOf, portion, portionWith, worstBefore, codeGrade}
+use Rattle.rules.specs.Sheet.{Sheet, before, inForceAt, stepThreeEnds, inFinishedRun, recovered, portionOf, portion, portionWith, worstBefore, codeGrade}
 use Rattle.rules.specs.Anchor.{failsAt, failureAt}
 use Rattle.rules.specs.TwoInARow.{failsDesignated, failedUnit, failedBefore, secondInARow}
 use Rattle.rules.proofs.Tests.{and-false}

@@ -1,7 +1,7 @@
 -- The words of demand 3's first half: restarts, failures and anchors, told from the sheet by the rules and by their place.
 use Prim.Native.Nat.{ℕ, zero, suc, _+_, _<_, _≤_}
 use mathlib.Core.Path.{_≡_}
-use mathlib.Core.Bool.{Bool, true, false, cond}
+use mathlib.Core.Bool.{Bool, true, false}
 use mathlib.Core.List.{List, [], _∷_, _++_}
 use Rattle.cusum.specs.declared.Limits.{Limits}
 use Rattle.rules.specs.Words.{Table, countsOf, countIn}

@@ -2,7 +2,6 @@
 use Prim.Native.Nat.{ℕ, zero, suc, _+_}
 use mathlib.Core.Bool.{Bool, true, false, cond, _&&_, _||_}
 use lib.Dec.{eqb}
-use Rattle.cusum.specs.declared.Cusum.{Cusum}
 use Rattle.rules.specs.Words.{worse, Table}
 use Rattle.rules.specs.StepThree.{designatedIn, inForce, opening, graded, endsAt, next}
 use Rattle.rules.specs.declared.Sample.{Sample}

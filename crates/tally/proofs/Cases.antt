@@ -1,7 +1,7 @@
 -- The outcome of a sheet that passes refusals 1 to 12, case by case as the code takes them: 13, 14, accepted.
 -- Each case rewrites the outcome with the tests on the way; the accepted buffer comes from the passes over the records.
 use Prim.Native.Nat.{ℕ, _+_, _*_, _≤_, _<_}
-use mathlib.Core.Path.{_≡_, refl, sym, _∙_, ap, subst⁻¹}
+use mathlib.Core.Path.{_≡_, sym, _∙_, ap, subst⁻¹}
 use mathlib.Core.Bool.{true, true≢false}
 use mathlib.Core.List.{List, _++_}
 use native.Mathlib.Omega.{arith}

@@ -1,22 +1,19 @@
 -- Code grades over the written records are the code grades of the sheet: what the pass over the result buffer reads and stores.
 -- By induction on the records of the sheet, each unit's record read back where it stands.
-use Prim.Native.Nat.{ℕ, zero, suc, _+_, _*_, _≤_, _<_, max}
+use Prim.Native.Nat.{ℕ, zero, suc, _+_, _*_, _≤_, _<_}
 use mathlib.Core.Path.{_≡_, refl, sym, _∙_, ap, ap₂, subst}
 use mathlib.Core.Logic.{_⊎_, inl, inr}
 use mathlib.Core.Bool.{Bool, true, false, cond}
 use mathlib.Core.List.{List, [], _++_, append-assoc}
 use native.Mathlib.Numerals.{add-one}
-use native.Mathlib.Nat.{add-zero}
 use native.Mathlib.Omega.{arith}
 use lib.Dec.{eqb, leb}
-use lib.ListN.{length, set}
+use lib.ListN.{set}
 use borrow.Author.Tests.{leb-true, leb-false}
-use Rattle.encoding.specs.Bytes.{byte, number}
+use Rattle.encoding.specs.Bytes.{byte}
 use Rattle.rules.specs.Words.{worse, substandard}
 use Rattle.rules.specs.Sheet.{Sheet, portion, portionWith, worstBefore, codeGrade}
 use Rattle.rules.specs.declared.Sample.{Sample}
-use Rattle.rules.specs.declared.Entry.{Entry}
-use Rattle.rules.specs.declared.Entry.the-variants.{SampleUnit, Redesignation, Break}
 use Rattle.rules.proofs.Grades.{portion-at-most}
 use Rattle.sheet.specs.Layout.{sampleAt, entryOf, offset, mark, entryAt, unitOf, unitsBefore, sheetOf}
 use Rattle.sheet.specs.declared.Mark.{Mark}

@@ -1,24 +1,21 @@
 -- Number 14 never applies: every L of an accepted plan fits in two bytes, and a CuSum is at most its L.
 -- From the ranges of the plan, for any grade and any class, and by induction on the records.
-use Prim.Native.Nat.{ℕ, zero, suc, _+_, _≤_, _<_}
-use mathlib.Core.Path.{_≡_, refl, sym, _∙_, ap, subst}
-use mathlib.Core.Bool.{Bool, true, false, _||_}
+use Prim.Native.Nat.{ℕ, zero, suc, _≤_, _<_}
+use mathlib.Core.Path.{_≡_, refl}
+use mathlib.Core.Bool.{Bool, true, false}
 use mathlib.Core.List.{List, [], _∷_}
 use native.Mathlib.Omega.{arith}
 use lib.Dec.{leb}
 use borrow.Author.Tests.{le-ltb, leb-true, leb-false}
-use Rattle.cusum.specs.declared.Limits.{Limits}
-use Rattle.cusum.specs.declared.Cusum.{Cusum}
 use Rattle.cusum.specs.Step.{largestTenths}
-use Rattle.rules.specs.Words.{classes, any, rowOf, limitsOf, tableOf, tenthsIn, countsOf}
+use Rattle.rules.specs.Words.{classes, any, limitsOf, tableOf, countsOf}
 use Rattle.rules.specs.Unit.{classCusum, newCusums}
 use Rattle.rules.specs.StepThree.{graded}
-use Rattle.rules.specs.Sheet.{Sheet, before, inForceAt, gradedAt}
+use Rattle.rules.specs.Sheet.{before, inForceAt, gradedAt}
 use Rattle.rules.specs.declared.Plan.{Plan}
 use Rattle.rules.specs.declared.Sample.{Sample}
 use Rattle.rules.specs.declared.Entry.{Entry}
 use Rattle.rules.specs.declared.Entry.the-variants.{SampleUnit, Redesignation, Break}
-use Rattle.rules.proofs.LargestForm.{at-class}
 use Rattle.rules.proofs.Grades.{class-cusum-le}
 use Rattle.sheet.specs.Layout.{planOf, sheetOf}
 use Rattle.sheet.specs.Refusals.{largestLimit, anyClass, anyLimits}

@@ -4,11 +4,11 @@ use Prim.Native.Nat.{ℕ, zero, suc, _+_, _*_, _≤_, _<_}
 use mathlib.Core.Path.{_≡_, refl, sym, _∙_, ap, subst}
 use mathlib.Core.Logic.{_⊎_, inl, inr}
 use mathlib.Core.Bool.{Bool, true, false}
-use mathlib.Core.List.{List, _++_, append-assoc}
+use mathlib.Core.List.{List, _++_}
 use native.Mathlib.Nat.{eq-or-lt-of-le, le-of-suc-le-suc}
 use native.Mathlib.Omega.{arith}
 use lib.Dec.{ltb, leb}
-use lib.ListN.{length, drop}
+use lib.ListN.{length}
 use borrow.Author.Tests.{ltb-false, leb-true, leb-false}
 use Rattle.cusum.specs.declared.Cusum.{Cusum}
 use Rattle.cusum.specs.Step.{largestTenths}
@@ -18,7 +18,6 @@ use Rattle.rules.specs.Unit.{classCusum, newCusums}
 use Rattle.rules.specs.StepThree.{graded}
 use Rattle.rules.specs.Sheet.{Sheet, before, inForceAt, gradedAt, portion, codeGrade}
 use Rattle.rules.specs.declared.Sample.{Sample}
-use Rattle.rules.specs.declared.Entry.{Entry}
 use Rattle.rules.specs.declared.Entry.the-variants.{SampleUnit}
 use Rattle.rules.proofs.LargestForm.{at-class}
 use Rattle.rules.proofs.Grades.{class-cusum-le, NewGrade, portion-at-most, code-grade-at-most}

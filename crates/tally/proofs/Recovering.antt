@@ -1,23 +1,22 @@
 -- What the records done so far have written, and how it changes with one record more: where step 3 does not end nothing written
 -- changes, where it ends the two units right before are recovered. From the finished run, and by induction on the records.
-use Prim.Native.Nat.{ℕ, zero, suc, _+_, _*_, _-_, _≤_, _<_}
-use mathlib.Core.Path.{_≡_, refl, sym, _∙_, ap, ap₂, subst}
+use Prim.Native.Nat.{ℕ, zero, suc, _+_, _-_, _≤_, _<_}
+use mathlib.Core.Path.{_≡_, refl, sym, _∙_, ap, ap₂}
 use mathlib.Core.Bool.{Bool, true, false, _&&_, _||_}
-use mathlib.Core.List.{List, [], _++_, append-assoc}
-use native.Mathlib.Numerals.{add-one}
+use mathlib.Core.List.{List, _++_}
 use native.Mathlib.Omega.{arith}
-use lib.Dec.{ltb, leb}
-use lib.ListN.{length, set, length-append}
+use lib.Dec.{leb}
+use lib.ListN.{length, set}
 use borrow.Author.Tests.{lt-ltb, le-ltb, leb-true, leb-false}
 use Rattle.rules.specs.Words.{worse}
 use Rattle.rules.specs.StepThree.{designatedIn, pick}
-use Rattle.rules.specs.Sheet.{Sheet, before, designatedBefore, gradedAt, stepThreeEnds, inFinishedRun, recovered, portionOf, portion, standingOf, standing}
+use Rattle.rules.specs.Sheet.{Sheet, before, designatedBefore, stepThreeEnds, inFinishedRun, recovered, portionOf, portion, standingOf, standing}
 use Rattle.rules.specs.declared.Sample.{Sample}
 use Rattle.rules.specs.declared.Phase.{Phase}
 use Rattle.rules.specs.declared.Phase.the-variants.{Designated, StepThree}
 use Rattle.rules.specs.declared.Entry.{Entry}
 use Rattle.rules.specs.declared.Entry.the-variants.{SampleUnit, Redesignation, Break}
-use Rattle.rules.proofs.Tests.{and-true, and-false, or-false}
+use Rattle.rules.proofs.Tests.{and-true, or-false}
 use Rattle.rules.proofs.FinishedRun.{InStepThree, FinishedRun}
 use Rattle.results.specs.Record.{portionOffset, standingOffset, resultBytes}
 use Rattle.results.specs.Codes.{ungraded}

@@ -1,24 +1,22 @@
 -- A walk over the records of an accepted sheet: what stands at a position, and that the position past a record is the next one.
 -- From the facts of the check and the definition of a position.
-use Prim.Native.Nat.{ℕ, zero, suc, _+_, _*_, _≤_, _<_}
-use mathlib.Core.Path.{_≡_, refl, sym, _∙_, ap, ap₂, subst, subst⁻¹}
-use mathlib.Core.Bool.{Bool, true, false}
+use Prim.Native.Nat.{ℕ, _+_, _≤_, _<_}
+use mathlib.Core.Path.{_≡_, sym, _∙_, ap, ap₂, subst, subst⁻¹}
+use mathlib.Core.Bool.{false}
 use mathlib.Core.List.{List}
 use native.Mathlib.Numerals.{add-one}
 use native.Mathlib.Omega.{arith}
 use lib.ListN.{length}
 use Rattle.rules.specs.Words.{Table, tableOf}
 use Rattle.rules.specs.StepThree.{opening, graded, endsAt, next}
-use Rattle.rules.specs.Sheet.{before, gradedAt, stepThreeEnds, inFinishedRun}
+use Rattle.rules.specs.Sheet.{before, gradedAt, stepThreeEnds}
 use Rattle.rules.specs.declared.State.{State}
 use Rattle.rules.specs.declared.Sample.{Sample}
-use Rattle.rules.specs.declared.Entry.{Entry}
-use Rattle.rules.specs.declared.Entry.the-variants.{Break}
-use Rattle.sheet.specs.Layout.{planSize, planOf, markAt, sizeOf, entryOf, offset, mark, entryAt, unitOf, unitsBefore, sheetOf}
+use Rattle.sheet.specs.Layout.{planSize, planOf, markAt, sizeOf, entryOf, offset, entryAt, unitOf, unitsBefore, sheetOf}
 use Rattle.sheet.specs.Refusals.{verdict}
 use Rattle.sheet.specs.declared.Verdict.the-variants.{Accepted}
 use Rattle.sheet.proofs.Accepted.{Facts, facts}
-use Rattle.sheet.proofs.Offsets.{size-ge, unit-of-le, units-before-le, offset-ge}
+use Rattle.sheet.proofs.Offsets.{size-ge, units-before-le, offset-ge}
 use Rattle.sheet.proofs.Past.{past-entry}
 use Rattle.tally.specs.declared.Position.{Position}
 use Rattle.tally.specs.Position.{positionAt, Walk}

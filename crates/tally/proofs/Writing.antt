@@ -3,7 +3,7 @@
 use Prim.Native.Nat.{ℕ, zero, suc, _+_, _*_, _-_, _≤_, _<_}
 use mathlib.Core.Path.{_≡_, refl, sym, _∙_, ap, ap₂, subst, subst⁻¹}
 use mathlib.Core.Logic.{_⊎_, inl, inr}
-use mathlib.Core.Bool.{Bool, true, false, _&&_}
+use mathlib.Core.Bool.{true, false, _&&_}
 use mathlib.Core.List.{List, [], _++_, append-assoc, append-nil}
 use native.Mathlib.Nat.{eq-or-lt-of-le}
 use native.Mathlib.Numerals.{add-one}
@@ -19,11 +19,10 @@ use Rattle.rules.specs.declared.Sample.{Sample}
 use Rattle.rules.specs.declared.Entry.{Entry}
 use Rattle.rules.specs.declared.Entry.the-variants.{SampleUnit, Redesignation, Break}
 use Rattle.rules.proofs.FinishedRun.{FinishedRun, finished-run}
-use Rattle.sheet.specs.Layout.{planSize, unitSize, sizeOf, sampleAt, offset, mark, entryOf, entryAt, unitOf, unitsBefore, sheetOf}
+use Rattle.sheet.specs.Layout.{unitSize, sizeOf, sampleAt, offset, mark, entryOf, entryAt, unitOf, unitsBefore, sheetOf}
 use Rattle.sheet.specs.declared.Mark.{Mark}
 use Rattle.sheet.specs.declared.Mark.the-variants.{UnitMark, RedesignationMark, BreakMark, NoMark}
 use Rattle.sheet.proofs.Accepted.{Facts}
-use Rattle.sheet.proofs.Offsets.{offset-ge}
 use Rattle.sheet.proofs.Ranges.{units-most}
 use Rattle.results.specs.Record.{resultSize, resultBytes}
 use Rattle.results.specs.Codes.{ungraded}
@@ -31,7 +30,7 @@ use Rattle.results.specs.declared.ResultRecord.{ResultRecord}
 use Rattle.results.proofs.Fields.{length-result}
 use Rattle.results.proofs.Stores.{appended}
 use Rattle.tally.specs.declared.Position.{Position}
-use Rattle.tally.specs.Position.{positionAt, Walk}
+use Rattle.tally.specs.Position.{Walk}
 use Rattle.tally.specs.Outcome.{written}
 use Rattle.tally.specs.Writing.{resultIf, recoveredSoFar, bytesSoFar, recordsSoFar, writtenSoFar, recoveredIn, TwoBefore, twoRecovered}
 use Rattle.tally.proofs.Recorded.{entry-unit}

@@ -1,6 +1,6 @@
 -- The result records lie one after the other: how long they are, and where the record of a unit stands among them.
 -- By induction on the records of the sheet.
-use Prim.Native.Nat.{ℕ, zero, suc, _+_, _*_, _≤_, _<_}
+use Prim.Native.Nat.{ℕ, zero, suc, _+_, _*_, _<_}
 use mathlib.Core.Path.{_≡_, refl, sym, _∙_, ap, ap₂}
 use mathlib.Core.Logic.{_⊎_, inl, inr}
 use mathlib.Core.List.{List, [], _++_, append-assoc, append-nil}

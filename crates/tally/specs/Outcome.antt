@@ -9,7 +9,7 @@ use Rattle.cusum.specs.declared.Cusum.{Cusum}
 use Rattle.cusum.specs.Step.{largestTenths}
 use Rattle.rules.specs.Words.{classes, any, tenthsIn}
 use Rattle.rules.specs.StepThree.{pick}
-use Rattle.rules.specs.Sheet.{Sheet, before, inForceAt, gradedAt, portion, standing, codeGrade}
+use Rattle.rules.specs.Sheet.{Sheet, inForceAt, gradedAt, portion, standing, codeGrade}
 use Rattle.rules.specs.declared.Sample.{Sample}
 use Rattle.rules.specs.declared.Entry.{Entry}
 use Rattle.rules.specs.declared.Entry.the-variants.{SampleUnit, Redesignation, Break}

@@ -1,40 +1,32 @@
+-- `encoding::number_at` meets its contract.
+-- The return follows from what the callees promise.
 use Prim.Native.Nat.{_+_}
 use native.Mathlib.Omega.{arith}
 use borrow.Author.Needs.{needs}
 use Rattle.encoding.proofs.number_at.Statement.{statement}
 use Rattle.encoding.proofs.number_at.Tie as tie
-use Rattle.encoding.proofs.number_at.Reads as reads
-use Rattle.encoding.proofs.number_at.Lts as lts
 
--- src/lib.rt:12:11
 shared-slice-read-result : tie.Need-shared-slice-read-result
 shared-slice-read-result c = search needs
 
--- src/lib.rt:12:11
 cast-result : tie.Need-cast-result
 cast-result c = omega (arith, c .shared-slice-known .given (c .before .args .at))
 
--- src/lib.rt:12:5
 mul-result : tie.Need-mul-result
 mul-result c = omega (arith, c .shared-slice-known .given (c .before .args .at))
 
--- src/lib.rt:12:36
 add-result : tie.Need-add-result
 add-result c = search needs
 
--- src/lib.rt:12:30
 shared-slice-read-result-2 : tie.Need-shared-slice-read-result-2
 shared-slice-read-result-2 c = search needs
 
--- src/lib.rt:12:30
 cast-result-2 : tie.Need-cast-result-2
 cast-result-2 c = omega (arith, c .shared-slice-known2 .given (c .before .before .args .at + 1))
 
--- src/lib.rt:12:5
 add-result-2 : tie.Need-add-result-2
 add-result-2 c = omega (arith, c .shared-slice-known2 .given (c .before .before .args .at + 1), c .before .shared-slice-known .given (c .before .before .args .at))
 
--- src/lib.rt:8:1
 returns : tie.Need-returns
 returns c = search needs
 

@@ -1,25 +1,20 @@
+-- `rules::portion` meets its contract.
+-- Each return follows from the tests on the way and what the callees promise.
 use Rattle.rules.specs.Sheet.{portionOf}
 use borrow.Author.Needs.{needs}
 use Rattle.rules.proofs.portion.Statement.{statement}
 use Rattle.rules.proofs.portion.Tie as tie
-use Rattle.rules.proofs.portion.Reads as reads
-use Rattle.rules.proofs.portion.Lts as lts
-use Rattle.rules.proofs.worse_of.Reads as worse-of-reads
 
--- src/lib.rt:474:9
 worse-of-requires : tie.Need-worse-of-requires
 worse-of-requires c κs = search needs
 
--- src/lib.rt:474:9
 returns : tie.Need-returns
 unfolding portionOf
 returns c = rw (c .before .if1 .taken) (c .worse-of .ensures)
 
--- src/lib.rt:476:5
 worse-of-requires-2 : tie.Need-worse-of-requires-2
 worse-of-requires-2 c κs = search needs
 
--- src/lib.rt:470:1
 returns-2 : tie.Need-returns-2
 unfolding portionOf
 returns-2 c = rw (c .before .if1 .left) (c .worse-of2 .ensures)

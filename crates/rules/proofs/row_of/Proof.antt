@@ -1,3 +1,5 @@
+-- `rules::row_of` meets its contract.
+-- Each return follows from the tests on the way and what the callees promise.
 use mathlib.Core.List.{[]}
 use Rattle.rules.proofs.Lists.{any-default}
 use Rattle.rules.specs.Words.{noRow}
@@ -7,22 +9,16 @@ use mathlib.Core.Path.{sym}
 use borrow.Author.Needs.{needs}
 use Rattle.rules.proofs.row_of.Statement.{statement}
 use Rattle.rules.proofs.row_of.Tie as tie
-use Rattle.rules.proofs.row_of.Reads as reads
-use Rattle.rules.proofs.row_of.Lts as lts
 
--- src/lib.rt:100:16
 mul-result : tie.Need-mul-result
 mul-result c = search needs
 
--- src/lib.rt:100:16
 array-copy-out-result : tie.Need-array-copy-out-result
 array-copy-out-result c = search needs
 
--- src/lib.rt:100:9
 returns : tie.Need-returns
 returns c = any-default (c .before .before .args .t1) (c .before .before .args .grade) [] noRow (omega arith)
 
--- src/lib.rt:96:1
 returns-2 : tie.Need-returns-2
 returns-2 c = sym (List·getD-eq-default (c .before .args .t1) noRow {n = c .before .args .grade} (omega arith))
 

@@ -1,44 +1,34 @@
+-- `rules::starts` meets its contract.
+-- The return follows from what the callees promise.
 use Rattle.rules.specs.Unit.{starting}
 use borrow.Author.Needs.{needs}
 use Rattle.rules.proofs.starts.Statement.{statement}
 use Rattle.rules.proofs.starts.Tie as tie
-use Rattle.rules.proofs.starts.Reads as reads
-use Rattle.rules.proofs.starts.Lts as lts
-use Rattle.cusum.proofs.Cusum.starting.Reads as starting-reads
 
--- src/lib.rt:130:25
 array-copy-out-starting : tie.Need-array-copy-out-starting
 array-copy-out-starting c = search needs
 
--- src/lib.rt:130:9
 starting-requires : tie.Need-starting-requires
 starting-requires c κs = search needs
 
--- src/lib.rt:131:25
 array-copy-out-starting-2 : tie.Need-array-copy-out-starting-2
 array-copy-out-starting-2 c = search needs
 
--- src/lib.rt:131:9
 starting-requires-2 : tie.Need-starting-requires-2
 starting-requires-2 c κs = search needs
 
--- src/lib.rt:132:25
 array-copy-out-starting-3 : tie.Need-array-copy-out-starting-3
 array-copy-out-starting-3 c = search needs
 
--- src/lib.rt:132:9
 starting-requires-3 : tie.Need-starting-requires-3
 starting-requires-3 c κs = search needs
 
--- src/lib.rt:133:25
 array-copy-out-starting-4 : tie.Need-array-copy-out-starting-4
 array-copy-out-starting-4 c = search needs
 
--- src/lib.rt:133:9
 starting-requires-4 : tie.Need-starting-requires-4
 starting-requires-4 c κs = search needs
 
--- src/lib.rt:126:1
 returns : tie.Need-returns
 unfolding starting
 returns c = rw (c .before .before .before .before .before .before .starting .ensures, c .before .before .before .before .starting2 .ensures, c .before .before .starting3 .ensures, c .starting4 .ensures)

@@ -1,78 +1,60 @@
+-- `rules::step_classes` meets its contract.
+-- The return follows from what the callees promise.
 use Rattle.rules.specs.Words.{any}
 use Rattle.rules.specs.Unit.{steppedIn}
 use Rattle.rules.proofs.Tests.{or-false}
 use borrow.Author.Needs.{needs}
 use Rattle.rules.proofs.step_classes.Statement.{statement}
 use Rattle.rules.proofs.step_classes.Tie as tie
-use Rattle.rules.proofs.step_classes.Reads as reads
-use Rattle.rules.proofs.step_classes.Lts as lts
-use Rattle.cusum.proofs.Cusum.step.Reads as step-reads
 
--- src/lib.rt:140:20
 array-copy-out-step : tie.Need-array-copy-out-step
 array-copy-out-step c = search needs
 
--- src/lib.rt:140:35
 array-copy-out-step-2 : tie.Need-array-copy-out-step-2
 array-copy-out-step-2 c = search needs
 
--- src/lib.rt:140:43
 array-read-step : tie.Need-array-read-step
 array-read-step c = search needs
 
--- src/lib.rt:140:9
 step-requires : tie.Need-step-requires
 step-requires c κs = search needs
 
--- src/lib.rt:141:18
 array-copy-out-step-3 : tie.Need-array-copy-out-step-3
 array-copy-out-step-3 c = search needs
 
--- src/lib.rt:141:33
 array-copy-out-step-4 : tie.Need-array-copy-out-step-4
 array-copy-out-step-4 c = search needs
 
--- src/lib.rt:141:41
 array-read-step-2 : tie.Need-array-read-step-2
 array-read-step-2 c = search needs
 
--- src/lib.rt:141:9
 step-requires-2 : tie.Need-step-requires-2
 step-requires-2 c κs = search needs
 
--- src/lib.rt:142:17
 array-copy-out-step-5 : tie.Need-array-copy-out-step-5
 array-copy-out-step-5 c = search needs
 
--- src/lib.rt:142:32
 array-copy-out-step-6 : tie.Need-array-copy-out-step-6
 array-copy-out-step-6 c = search needs
 
--- src/lib.rt:142:40
 array-read-step-3 : tie.Need-array-read-step-3
 array-read-step-3 c = search needs
 
--- src/lib.rt:142:9
 step-requires-3 : tie.Need-step-requires-3
 step-requires-3 c κs = search needs
 
--- src/lib.rt:143:17
 array-copy-out-step-7 : tie.Need-array-copy-out-step-7
 array-copy-out-step-7 c = search needs
 
--- src/lib.rt:143:32
 array-copy-out-step-8 : tie.Need-array-copy-out-step-8
 array-copy-out-step-8 c = search needs
 
--- src/lib.rt:143:40
 array-read-step-4 : tie.Need-array-read-step-4
 array-read-step-4 c = search needs
 
--- src/lib.rt:143:9
 step-requires-4 : tie.Need-step-requires-4
 step-requires-4 c κs = search needs
 
--- src/lib.rt:137:1
 returns : tie.Need-returns
 unfolding steppedIn any
 returns c = rw (or-false, c .before .before .before .before .before .before .before .before .before .before .before .before .before .before .before .before .before .step .ensures, c .before .before .before .before .before .before .before .before .before .before .before .before .before .before .step2 .ensures, c .before .before .before .before .before .before .before .before .before .before .before .step3 .ensures, c .before .before .before .before .before .before .before .before .step4 .ensures)

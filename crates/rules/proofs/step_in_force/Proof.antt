@@ -1,29 +1,23 @@
-use mathlib.Core.Path.{_∙_, sym, ap}
+-- `rules::step_in_force` meets its contract.
+-- Each return follows from the tests on the way and what the callees promise.
+use mathlib.Core.Path.{_∙_}
 use borrow.Author.Tests.{lt-ltb, le-ltb}
 use Rattle.rules.specs.Words.{any, hasPlan}
 use Rattle.rules.specs.Unit.{steppedIn, newCusums, unitFails, classFails, classCusum}
 use borrow.Author.Needs.{needs}
 use Rattle.rules.proofs.step_in_force.Statement.{statement}
 use Rattle.rules.proofs.step_in_force.Tie as tie
-use Rattle.rules.proofs.step_in_force.Reads as reads
-use Rattle.rules.proofs.step_in_force.Lts as lts
-use Rattle.rules.proofs.row_of.Reads as row-of-reads
-use Rattle.rules.proofs.step_classes.Reads as step-classes-reads
 
--- src/lib.rt:159:29
 row-of-requires : tie.Need-row-of-requires
 row-of-requires c κs = search needs
 
--- src/lib.rt:159:9
 step-classes-requires : tie.Need-step-classes-requires
 step-classes-requires c κs = search needs
 
--- src/lib.rt:159:9
 returns : tie.Need-returns
 unfolding steppedIn newCusums unitFails classFails classCusum hasPlan any
 returns c = rw (lt-ltb _ _ (c .before .before .if1 .taken)) (c .step-classes .ensures ∙ rw (c .before .row-of .ensures))
 
--- src/lib.rt:155:1
 returns-2 : tie.Need-returns-2
 unfolding steppedIn newCusums unitFails classFails classCusum hasPlan any
 returns-2 c = rw (le-ltb _ _ (c .if1 .left))

@@ -1,62 +1,48 @@
+-- `rules::within_all` meets its contract.
+-- The return follows from what the callees promise.
 use Rattle.rules.specs.Words.{all}
 use Rattle.rules.specs.Unit.{withinTolerance}
 use Rattle.rules.proofs.Tests.{and-true}
 use borrow.Author.Needs.{needs}
 use Rattle.rules.proofs.within_all.Statement.{statement}
 use Rattle.rules.proofs.within_all.Tie as tie
-use Rattle.rules.proofs.within_all.Reads as reads
-use Rattle.rules.proofs.within_all.Lts as lts
-use Rattle.rules.proofs.within_class.Reads as within-class-reads
 
--- src/lib.rt:189:18
 array-copy-out-within-class : tie.Need-array-copy-out-within-class
 array-copy-out-within-class c = search needs
 
--- src/lib.rt:189:26
 array-read-within-class : tie.Need-array-read-within-class
 array-read-within-class c = search needs
 
--- src/lib.rt:189:5
 within-class-requires : tie.Need-within-class-requires
 within-class-requires c κs = search needs
 
--- src/lib.rt:190:25
 array-copy-out-within-class-2 : tie.Need-array-copy-out-within-class-2
 array-copy-out-within-class-2 c = search needs
 
--- src/lib.rt:190:33
 array-read-within-class-2 : tie.Need-array-read-within-class-2
 array-read-within-class-2 c = search needs
 
--- src/lib.rt:190:12
 within-class-requires-2 : tie.Need-within-class-requires-2
 within-class-requires-2 c κs = search needs
 
--- src/lib.rt:190:60
 array-copy-out-within-class-3 : tie.Need-array-copy-out-within-class-3
 array-copy-out-within-class-3 c = search needs
 
--- src/lib.rt:190:68
 array-read-within-class-3 : tie.Need-array-read-within-class-3
 array-read-within-class-3 c = search needs
 
--- src/lib.rt:190:47
 within-class-requires-3 : tie.Need-within-class-requires-3
 within-class-requires-3 c κs = search needs
 
--- src/lib.rt:190:94
 array-copy-out-within-class-4 : tie.Need-array-copy-out-within-class-4
 array-copy-out-within-class-4 c = search needs
 
--- src/lib.rt:190:102
 array-read-within-class-4 : tie.Need-array-read-within-class-4
 array-read-within-class-4 c = search needs
 
--- src/lib.rt:190:81
 within-class-requires-4 : tie.Need-within-class-requires-4
 within-class-requires-4 c κs = search needs
 
--- src/lib.rt:186:1
 returns : tie.Need-returns
 unfolding withinTolerance all
 returns c = rw (and-true, c .before .before .before .before .before .before .within-class .ensures, c .before .before .before .before .within-class2 .ensures, c .before .before .within-class3 .ensures, c .within-class4 .ensures)

@@ -1,44 +1,32 @@
-use mathlib.Core.Path.{_≡_, sym, _∙_, ap}
-use Prim.Native.Nat.{_+_, _≤_}
+-- `tally::past` meets its contract.
+-- The return follows from what the callees promise.
+use mathlib.Core.Path.{ap}
 use native.Mathlib.Omega.{arith}
-use lib.ListN.{length}
 use Rattle.sheet.specs.Layout.{sizeOf, unitOf, markAt}
 use Rattle.sheet.proofs.Offsets.{unit-of-le}
 use Rattle.tally.proofs.Walking.{mark-here, whole-here, entry-is, units-small, advanced}
 use borrow.Author.Needs.{needs}
 use Rattle.tally.proofs.past.Statement.{statement}
 use Rattle.tally.proofs.past.Tie as tie
-use Rattle.tally.proofs.past.Reads as reads
-use Rattle.tally.proofs.past.Lts as lts
-use Rattle.sheet.proofs.mark_at.Reads as mark-at-reads
-use Rattle.sheet.proofs.size_of.Reads as size-of-reads
-use Rattle.sheet.proofs.unit_of.Reads as unit-of-reads
 
--- src/lib.rt:81:9
 mark-at-requires : tie.Need-mark-at-requires
 mark-at-requires c κs = mark-here _ _ _ _ (c .before .pre .0) (c .before .pre .1)
 
--- src/lib.rt:83:16
 add-t8 : tie.Need-add-t8
 add-t8 c = search needs
 
--- src/lib.rt:84:18
 size-of-requires : tie.Need-size-of-requires
 size-of-requires c κs = search needs
 
--- src/lib.rt:84:13
 add-t10 : tie.Need-add-t10
 add-t10 c = omega (arith, c .size-of .ensures, ap sizeOf (c .before .before .mark-at .ensures), whole-here _ _ _ _ (c .before .before .before .before .pre .0) (c .before .before .before .before .pre .1))
 
--- src/lib.rt:85:33
 unit-of-requires : tie.Need-unit-of-requires
 unit-of-requires c κs = search needs
 
--- src/lib.rt:85:16
 add-t12 : tie.Need-add-t12
 add-t12 c = omega (arith, c .before .unit-of .ensures, ap unitOf (c .before .before .before .before .mark-at .ensures), unit-of-le (markAt (c .before .before .before .before .before .before .args .bytes .now) (c .before .before .before .before .before .before .args .position .at)), units-small _ _ _ _ (c .before .before .before .before .before .before .pre .0) (c .before .before .before .before .before .before .pre .1))
 
--- src/lib.rt:76:1
 returns : tie.Need-returns
 returns c = rw (c .before .before .size-of .ensures, c .before .unit-of .ensures, c .before .before .before .before .mark-at .ensures, c .before .before .before .before .before .before .pre .2, ← entry-is _ _ _ _ (c .before .before .before .before .before .before .pre .0) (c .before .before .before .before .before .before .pre .1)) (advanced _ _ _ _ (c .before .before .before .before .before .before .pre .0) (c .before .before .before .before .before .before .pre .1))
 

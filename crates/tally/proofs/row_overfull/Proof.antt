@@ -1,46 +1,36 @@
+-- `tally::row_overfull` meets its contract.
+-- The return follows from what the callees promise.
 use Rattle.rules.specs.Words.{any}
 use Rattle.rules.proofs.Tests.{or-false}
 use Rattle.sheet.specs.Refusals.{anyClass}
 use borrow.Author.Needs.{needs}
 use Rattle.tally.proofs.row_overfull.Statement.{statement}
 use Rattle.tally.proofs.row_overfull.Tie as tie
-use Rattle.tally.proofs.row_overfull.Reads as reads
-use Rattle.tally.proofs.row_overfull.Lts as lts
-use Rattle.tally.proofs.limit_too_large.Reads as limit-too-large-reads
 
--- src/lib.rt:254:21
 array-copy-out-limit-too-large : tie.Need-array-copy-out-limit-too-large
 array-copy-out-limit-too-large c = search needs
 
--- src/lib.rt:254:5
 limit-too-large-requires : tie.Need-limit-too-large-requires
 limit-too-large-requires c κs = search needs
 
--- src/lib.rt:254:48
 array-copy-out-limit-too-large-2 : tie.Need-array-copy-out-limit-too-large-2
 array-copy-out-limit-too-large-2 c = search needs
 
--- src/lib.rt:254:32
 limit-too-large-requires-2 : tie.Need-limit-too-large-requires-2
 limit-too-large-requires-2 c κs = search needs
 
--- src/lib.rt:254:75
 array-copy-out-limit-too-large-3 : tie.Need-array-copy-out-limit-too-large-3
 array-copy-out-limit-too-large-3 c = search needs
 
--- src/lib.rt:254:59
 limit-too-large-requires-3 : tie.Need-limit-too-large-requires-3
 limit-too-large-requires-3 c κs = search needs
 
--- src/lib.rt:254:101
 array-copy-out-limit-too-large-4 : tie.Need-array-copy-out-limit-too-large-4
 array-copy-out-limit-too-large-4 c = search needs
 
--- src/lib.rt:254:85
 limit-too-large-requires-4 : tie.Need-limit-too-large-requires-4
 limit-too-large-requires-4 c κs = search needs
 
--- src/lib.rt:251:1
 returns : tie.Need-returns
 unfolding anyClass any
 returns c = rw (or-false, c .before .before .before .before .before .before .limit-too-large .ensures, c .before .before .before .before .limit-too-large2 .ensures, c .before .before .limit-too-large3 .ensures, c .limit-too-large4 .ensures)

@@ -1,39 +1,30 @@
+-- `tally::table_overfull` meets its contract.
+-- The return follows from what the callees promise.
 use Rattle.rules.specs.Words.{any}
 use Rattle.rules.proofs.Tests.{or-false}
 use Rattle.sheet.specs.Refusals.{anyLimits}
 use borrow.Author.Needs.{needs}
 use Rattle.tally.proofs.table_overfull.Statement.{statement}
 use Rattle.tally.proofs.table_overfull.Tie as tie
-use Rattle.tally.proofs.table_overfull.Reads as reads
-use Rattle.tally.proofs.table_overfull.Lts as lts
-use Rattle.rules.proofs.row_of.Reads as row-of-reads
-use Rattle.tally.proofs.row_overfull.Reads as row-overfull-reads
 
--- src/lib.rt:260:18
 row-of-requires : tie.Need-row-of-requires
 row-of-requires c κs = search needs
 
--- src/lib.rt:260:5
 row-overfull-requires : tie.Need-row-overfull-requires
 row-overfull-requires c κs = search needs
 
--- src/lib.rt:261:25
 row-of-requires-2 : tie.Need-row-of-requires-2
 row-of-requires-2 c κs = search needs
 
--- src/lib.rt:261:12
 row-overfull-requires-2 : tie.Need-row-overfull-requires-2
 row-overfull-requires-2 c κs = search needs
 
--- src/lib.rt:261:58
 row-of-requires-3 : tie.Need-row-of-requires-3
 row-of-requires-3 c κs = search needs
 
--- src/lib.rt:261:45
 row-overfull-requires-3 : tie.Need-row-overfull-requires-3
 row-overfull-requires-3 c κs = search needs
 
--- src/lib.rt:257:1
 returns : tie.Need-returns
 unfolding anyLimits any
 returns c = rw (or-false, c .before .before .before .before .row-overfull .ensures, c .before .before .row-overfull2 .ensures, c .row-overfull3 .ensures, c .before .before .before .before .before .row-of .ensures, c .before .before .before .row-of2 .ensures, c .before .row-of3 .ensures)

@@ -1,4 +1,6 @@
-use mathlib.Core.Path.{_≡_, _∙_, ap}
+-- `tally::write_at` meets its contract.
+-- The return follows from what the callees promise.
+use mathlib.Core.Path.{_∙_, ap}
 use mathlib.Core.List.{List, _++_}
 use native.Mathlib.Omega.{arith}
 use Prim.Native.Nat.{_-_}
@@ -9,31 +11,22 @@ use Rattle.results.proofs.Stores.{lent-back}
 use borrow.Author.Needs.{needs}
 use Rattle.tally.proofs.write_at.Statement.{statement}
 use Rattle.tally.proofs.write_at.Tie as tie
-use Rattle.tally.proofs.write_at.Reads as reads
-use Rattle.tally.proofs.write_at.Lts as lts
-use Rattle.results.proofs.write.Reads as write-reads
 
--- src/lib.rt:158:20
 sub-write : tie.Need-sub-write
 sub-write c = search needs
 
--- src/lib.rt:158:20
 part-write-start : tie.Need-part-write-start
 part-write-start c = search needs
 
--- src/lib.rt:158:20
 part-write-end : tie.Need-part-write-end
 part-write-end c = search needs
 
--- src/lib.rt:158:5
 write-requires : tie.Need-write-requires
 write-requires c κs = search needs
 
--- src/lib.rt:154:1
 same-length : tie.Need-same-length
 same-length c = search needs
 
--- src/lib.rt:154:1
 returns : tie.Need-returns
 returns c = ap (λ (ys : List _). take (c .before .before .before .before .before .args .at) (c .before .before .before .before .before .args .results .now) ++ (ys ++ drop (length (c .before .before .before .before .before .args .results .now) - c .before .before .before .before .before .args .at) (drop (c .before .before .before .before .before .args .at) (c .before .before .before .before .before .args .results .now)))) (c .before .before .write .ensures) ∙ lent-back (c .before .before .before .before .before .args .results .now) (resultBytes ungraded (c .before .before .before .before .before .args .result)) (c .before .before .before .before .before .args .at) (omega arith)
 

@@ -1,7 +1,8 @@
-use Prim.Native.Nat.{ℕ, _+_, _*_, _≤_}
-use mathlib.Core.Path.{_≡_, refl, sym, _∙_, ap}
-use mathlib.Core.Bool.{Bool, true, false, _&&_}
-use mathlib.Core.List.{List}
+-- `tally::write_unit` meets its contract.
+-- Each return follows from the tests on the way and what the callees promise.
+use Prim.Native.Nat.{_*_}
+use mathlib.Core.Path.{sym, _∙_, ap}
+use mathlib.Core.Bool.{Bool, _&&_}
 use native.Mathlib.Omega.{arith}
 use lib.ListN.{length}
 use lib.Seq.{length-sets}
@@ -14,53 +15,34 @@ use Rattle.tally.proofs.Writing.{units-few, room-for-unit, ends-is, two
 use borrow.Author.Needs.{needs}
 use Rattle.tally.proofs.write_unit.Statement.{statement}
 use Rattle.tally.proofs.write_unit.Tie as tie
-use Rattle.tally.proofs.write_unit.Reads as reads
-use Rattle.tally.proofs.write_unit.Lts as lts
-use Rattle.rules.proofs.Phase.designated.Reads as designated-reads
-use Rattle.rules.proofs.Phase.ends_step_three.Reads as ends-step-three-reads
-use Rattle.rules.proofs.State.after_unit.Reads as after-unit-reads
-use Rattle.rules.proofs.State.grade.Reads as grade-reads
-use Rattle.tally.proofs.recover_two.Reads as recover-two-reads
-use Rattle.tally.proofs.result_here.Reads as result-here-reads
-use Rattle.tally.proofs.write_at.Reads as write-at-reads
 
--- src/lib.rt:177:14
 mul-at : tie.Need-mul-at
 mul-at c = omega (arith, units-few _ _ _ _ (c .before .before .before .before .pre .0))
 
--- src/lib.rt:178:9
 grade-requires : tie.Need-grade-requires
 grade-requires c κs = search needs
 
--- src/lib.rt:179:9
 ends-step-three-requires : tie.Need-ends-step-three-requires
 ends-step-three-requires c κs = search needs
 
--- src/lib.rt:180:9
 result-here-requires : tie.Need-result-here-requires
 result-here-requires c κs = search needs
 
--- src/lib.rt:189:9
 after-unit-requires : tie.Need-after-unit-requires
 after-unit-requires c κs = search needs
 
--- src/lib.rt:190:5
 write-at-requires : tie.Need-write-at-requires
 write-at-requires c κs = room-for-unit _ _ _ _ (c .before .before .before .before .before .before .before .before .before .before .pre .0) _ (c .before .before .before .before .before .before .before .before .before .before .pre .2) _ (c .before .before .before .before .before .before .before .before .before .before .pre .3)
 
--- src/lib.rt:192:38
 designated-requires : tie.Need-designated-requires
 designated-requires c κs = search needs
 
--- src/lib.rt:192:9
 recover-two-requires : tie.Need-recover-two-requires
 recover-two-requires c κs = two-before _ _ _ _ (c .before .before .before .before .before .before .before .before .before .before .before .before .before .before .before .before .pre .0) _ (c .before .before .before .before .before .before .before .before .before .before .before .before .before .before .before .before .pre .2) (sym (ends-is _ _ _ _ (c .before .before .before .before .before .before .before .before .before .before .before .before .before .before .before .before .pre .0) _ (c .before .before .before .before .before .before .before .before .before .before .before .before .before .before .before .before .pre .2) _ (c .before .before .before .before .before .before .before .before .before .before .before .grade .ensures)) ∙ sym (c .before .before .before .before .before .before .before .before .before .before .ends-step-three .ensures) ∙ c .before .before .if1 .taken) _ (omega (arith, room-for-unit _ _ _ _ (c .before .before .before .before .before .before .before .before .before .before .before .before .before .before .before .before .pre .0) _ (c .before .before .before .before .before .before .before .before .before .before .before .before .before .before .before .before .pre .2) _ (c .before .before .before .before .before .before .before .before .before .before .before .before .before .before .before .before .pre .3), ap length (c .before .before .before .before .before .write-at .ensures), length-sets (c .before .before .before .before .before .before .before .before .before .before .before .before .before .before .before .before .args .results .now) (16 * c .before .before .before .before .before .before .before .before .before .before .before .before .before .before .before .before .args .position .units) (resultBytes ungraded (c .before .before .before .before .before .before .before .before .result-here .result))))
 
--- src/lib.rt:193:9
 same-length : tie.Need-same-length
 same-length c = search needs
 
--- src/lib.rt:193:9
 returns : tie.Need-returns
 unfolding next phaseAfter restarts cusumsAfter
 returns c = (
@@ -73,11 +55,9 @@ returns c = (
       ∙ ended _ _ _ _ (c .before .before .before .before .before .before .before .before .before .before .before .before .before .before .before .before .before .before .before .pre .0) _ (c .before .before .before .before .before .before .before .before .before .before .before .before .before .before .before .before .before .before .before .pre .2) old _ so-far same (c .before .before .before .before .before .before .before .before .before .before .before .before .before .before .before .before .before .before .before .pre .3) _ is-result (sym e ∙ sym (c .before .before .before .before .before .before .before .before .before .before .before .before .before .ends-step-three .ensures) ∙ c .before .before .before .before .before .if1 .taken) _ (c .before .before .before .before .designated .ensures),
 )
 
--- src/lib.rt:163:1
 same-length-2 : tie.Need-same-length-2
 same-length-2 c = search needs
 
--- src/lib.rt:163:1
 returns-2 : tie.Need-returns-2
 unfolding next phaseAfter restarts cusumsAfter
 returns-2 c = (

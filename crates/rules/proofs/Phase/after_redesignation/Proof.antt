@@ -1,30 +1,25 @@
+-- `rules::Phase::after_redesignation` meets its contract.
+-- Each return follows from the tests on the way and what the callees promise.
 use borrow.Author.Tests.{lt-ltb, le-ltb}
 use Rattle.rules.specs.StepThree.{phaseAfterRedesignation, pick}
 use borrow.Author.Needs.{needs}
 use Rattle.rules.proofs.Phase.after_redesignation.Statement.{statement}
 use Rattle.rules.proofs.Phase.after_redesignation.Tie as tie
-use Rattle.rules.proofs.Phase.after_redesignation.Reads as reads
-use Rattle.rules.proofs.Phase.after_redesignation.Lts as lts
 
--- src/lib.rt:341:27
 enum-told : tie.Need-enum-told
 enum-told c = search needs
 
--- src/lib.rt:345:17
 enum-known-self : tie.Need-enum-known-self
 enum-known-self c = search needs
 
--- src/lib.rt:349:21
 returns : tie.Need-returns
 unfolding phaseAfterRedesignation pick
 returns c = rw (c .before .before .self .given .1, lt-ltb _ _ (c .if1 .taken))
 
--- src/lib.rt:332:5
 returns-2 : tie.Need-returns-2
 unfolding phaseAfterRedesignation
 returns-2 c = rw (c .enum-told .given .1)
 
--- src/lib.rt:332:5
 returns-3 : tie.Need-returns-3
 unfolding phaseAfterRedesignation pick
 returns-3 c = rw (c .before .before .self .given .1, le-ltb _ _ (c .if1 .left))

@@ -1,24 +1,20 @@
+-- `rules::Phase::designated` meets its contract.
+-- Each return follows from the tests on the way and what the callees promise.
 use Rattle.rules.specs.StepThree.{designatedIn}
 use borrow.Author.Needs.{needs}
 use Rattle.rules.proofs.Phase.designated.Statement.{statement}
 use Rattle.rules.proofs.Phase.designated.Tie as tie
-use Rattle.rules.proofs.Phase.designated.Reads as reads
-use Rattle.rules.proofs.Phase.designated.Lts as lts
 
--- src/lib.rt:288:17
 enum-known-self : tie.Need-enum-known-self
 enum-known-self c = search needs
 
--- src/lib.rt:292:17
 enum-known-self-2 : tie.Need-enum-known-self-2
 enum-known-self-2 c = search needs
 
--- src/lib.rt:283:5
 returns : tie.Need-returns
 unfolding designatedIn
 returns c = rw (c .before .self .given .1)
 
--- src/lib.rt:283:5
 returns-2 : tie.Need-returns-2
 unfolding designatedIn
 returns-2 c = rw (c .before .self2 .given .1)

@@ -1,24 +1,20 @@
+-- `rules::Phase::ends_step_three` meets its contract.
+-- Each return follows from the tests on the way and what the callees promise.
 use Rattle.rules.specs.StepThree.{unitEndsStepThree, endsStepThree}
 use borrow.Author.Needs.{needs}
 use Rattle.rules.proofs.Phase.ends_step_three.Statement.{statement}
 use Rattle.rules.proofs.Phase.ends_step_three.Tie as tie
-use Rattle.rules.proofs.Phase.ends_step_three.Reads as reads
-use Rattle.rules.proofs.Phase.ends_step_three.Lts as lts
 
--- src/lib.rt:393:18
 enum-told : tie.Need-enum-told
 enum-told c = search needs
 
--- src/lib.rt:397:17
 enum-known-self : tie.Need-enum-known-self
 enum-known-self c = search needs
 
--- src/lib.rt:386:5
 returns : tie.Need-returns
 unfolding unitEndsStepThree
 returns c = rw (c .enum-told .given .1)
 
--- src/lib.rt:386:5
 returns-2 : tie.Need-returns-2
 unfolding unitEndsStepThree endsStepThree
 returns-2 c = rw (c .before .before .self .given .1)

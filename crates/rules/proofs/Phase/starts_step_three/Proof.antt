@@ -1,37 +1,30 @@
+-- `rules::Phase::starts_step_three` meets its contract.
+-- Each return follows from the tests on the way and what the callees promise.
 use Rattle.rules.specs.StepThree.{unitStartsStepThree}
 use borrow.Author.Needs.{needs}
 use Rattle.rules.proofs.Phase.starts_step_three.Statement.{statement}
 use Rattle.rules.proofs.Phase.starts_step_three.Tie as tie
-use Rattle.rules.proofs.Phase.starts_step_three.Reads as reads
-use Rattle.rules.proofs.Phase.starts_step_three.Lts as lts
 
--- src/lib.rt:408:17
 enum-known-self : tie.Need-enum-known-self
 enum-known-self c = search needs
 
--- src/lib.rt:410:40
 enum-told : tie.Need-enum-told
 enum-told c = search needs
 
--- src/lib.rt:411:41
 enum-told-2 : tie.Need-enum-told-2
 enum-told-2 c = search needs
 
--- src/lib.rt:417:18
 enum-told-3 : tie.Need-enum-told-3
 enum-told-3 c = search needs
 
--- src/lib.rt:402:5
 returns : tie.Need-returns
 unfolding unitStartsStepThree
 returns c = rw (c .before .before .before .self .given .1, c .enum-told .given .1)
 
--- src/lib.rt:402:5
 returns-2 : tie.Need-returns-2
 unfolding unitStartsStepThree
 returns-2 c = rw (c .before .before .before .self .given .1, c .enum-told2 .given .1)
 
--- src/lib.rt:402:5
 returns-3 : tie.Need-returns-3
 unfolding unitStartsStepThree
 returns-3 c = rw (c .enum-told3 .given .1)
