@@ -1,11 +1,14 @@
 //! The proved library, called over its boundary, against the independent grader: number, units,
 //! offset and every byte of the buffer with guard bytes before and behind it, on seeded random
-//! sheets; and both halves of demand 3 on the bytes that the library left.
+//! sheets, which must be kept; and both halves of demand 3 on the bytes that the library left.
 //!
-//! `differential [CASES [SEED]]`. A sheet on which the two differ is written to a file and named.
+//! `differential [CASES [SEED]]`. A sheet on which the two differ is written to a file and named. A
+//! run of 10,000 cases or more also fails if one of the things that it counts never came up.
 
-use grader::generate::{self, Counts};
-use grader::{check, rules, Answer};
+use grader::generate::{self, Counts, Dice};
+use grader::rules::{Graded, Row, What, RECOVERED};
+use grader::{check, sheet, Answer};
+use std::fmt::Debug;
 use std::time::Instant;
 
 #[repr(C)]
@@ -26,31 +29,41 @@ extern "C" {
 }
 
 const GUARD: usize = 32;
+/// From so many cases on, everything that is counted must come up.
+const WHOLE: u64 = 10_000;
 
-/// Grades by the library into a buffer of `room` bytes inside a larger one; the guards must stay.
-fn library(sheet: &[u8], room: usize, fill: u8) -> (Answer, Vec<u8>) {
+/// Grades by the library into a buffer of `room` bytes inside a larger one; the guard bytes around it
+/// and the sheet must stay as they were.
+fn library(seed: u64, sheet: &[u8], room: usize, fill: u8) -> (Answer, Vec<u8>) {
+    let lent = sheet.to_vec();
     let mut memory = vec![fill; GUARD + room + GUARD];
     let results = &mut memory[GUARD..GUARD + room];
     // Safety: both pointers are valid for their lengths, and the two buffers are apart.
-    let returned = unsafe {
-        hatmuyon_grade(sheet.as_ptr(), sheet.len(), results.as_mut_ptr(), results.len())
-    };
+    let returned =
+        unsafe { hatmuyon_grade(lent.as_ptr(), lent.len(), results.as_mut_ptr(), results.len()) };
     let (before, rest) = memory.split_at(GUARD);
     let (results, behind) = rest.split_at(room);
-    assert!(before.iter().chain(behind).all(|&byte| byte == fill), "a guard byte was changed");
+    if before.iter().chain(behind).any(|&byte| byte != fill) {
+        report("a guard byte", seed, sheet, &[before, behind], &fill);
+    }
+    if lent != sheet {
+        report("the sheet after grading", seed, sheet, &"changed", &"kept");
+    }
     let Returned { number, units, offset } = returned;
     (Answer { number, units, offset }, results.to_vec())
 }
 
 /// Writes the sheet to a file, says what differs and how to see it, and ends the run.
-fn report(what: &str, seed: u64, sheet: &[u8], ours: &dyn std::fmt::Debug, theirs: &dyn std::fmt::Debug) -> ! {
+fn report(what: &str, seed: u64, sheet: &[u8], ours: &dyn Debug, theirs: &dyn Debug) -> ! {
     let file = std::env::temp_dir().join(format!("hatmuyon-differs-{seed}.sheet"));
     std::fs::write(&file, sheet).expect("cannot write the sheet");
     println!("differential: {what} differs at seed {seed}");
     println!("  library: {ours:?}\n  grader:  {theirs:?}");
     println!("  the sheet: {}", file.display());
+    let grader = concat!(env!("CARGO_MANIFEST_DIR"), "/../grader/Cargo.toml");
+    println!("  see both: target/bin/print_tally < {}", file.display());
     println!(
-        "  see both: target/bin/print_tally < {0}; tests/grader/target/release/grader < {0}",
+        "            cargo run -q --release --offline --manifest-path {grader} < {}",
         file.display()
     );
     std::process::exit(1);
@@ -60,12 +73,43 @@ fn two(bytes: &[u8], at: usize) -> i64 {
     i64::from(u16::from_be_bytes([bytes[at], bytes[at + 1]]))
 }
 
+/// Counts what [`Counts::note`] does not see: how the buffer fits, and who shares a code or a recovery.
+fn note(counts: &mut Counts, sheet: &[u8], room: usize, answer: Answer, graded: Option<&Graded>) {
+    counts.note(answer.number, graded);
+    let mut add = |name: &str, times: usize| *counts.0.entry(name.into()).or_default() += times;
+    let needed = 16 * sheet::read(sheet).map_or(0, |sheet| sheet.units());
+    let accepted = answer.number == 0;
+    add("buffer longer than needed", usize::from(accepted && room > needed));
+    add("buffer exactly long enough", usize::from(accepted && room == needed && needed > 0));
+    add("buffer one byte too short", usize::from(answer.number == 13 && room + 1 == needed));
+    add("buffer without a byte and no unit", usize::from(accepted && room == 0));
+    add("sheet above 65,536 bytes, accepted", usize::from(accepted && sheet.len() > 65_536));
+    add("refused at an offset above 65,536", usize::from(!accepted && answer.offset > 65_536));
+
+    let rows: &[Row] = graded.map_or(&[], |graded| &graded.rows);
+    let mixed =
+        |last: &[Row]| last.iter().any(|row| row.unit.recoverable != last[0].unit.recoverable);
+    let ends = graded.iter().flat_map(|graded| &graded.events);
+    let ends = ends.filter(|event| event.what == What::StepThreeEnds);
+    let mixed_ends = ends.filter(|end| mixed(&rows[end.units_before - 3..end.units_before]));
+    add("recovery with mixed recoverable bytes", mixed_ends.count());
+    // For each code: does it have a recovered unit, and one that is not?
+    let mut codes = std::collections::BTreeMap::new();
+    for row in rows {
+        let [recovered, other]: &mut [bool; 2] = codes.entry(row.unit.code).or_default();
+        *(if row.standing == RECOVERED { recovered } else { other }) = true;
+    }
+    let with = |wanted: [bool; 2]| codes.values().filter(|has| **has == wanted).count();
+    add("code of a recovered and an unrecovered unit", with([true, true]));
+    add("code of recovered units only", with([true, false]));
+}
+
 /// Compares one sheet, and hands out the grader's trace and the library's result bytes.
-fn compare(seed: u64, sheet: &[u8], room: usize, counts: &mut Counts) -> (Option<rules::Graded>, Vec<u8>) {
+fn compare(seed: u64, sheet: &[u8], room: usize, counts: &mut Counts) -> (Option<Graded>, Vec<u8>) {
     let fill = (seed % 251) as u8;
     let mut expected = vec![fill; room];
     let (answer, graded) = grader::grade_traced(sheet, &mut expected, false);
-    let (returned, results) = library(sheet, room, fill);
+    let (returned, results) = library(seed, sheet, room, fill);
     if returned != answer {
         report("the answer", seed, sheet, &returned, &answer);
     }
@@ -73,19 +117,20 @@ fn compare(seed: u64, sheet: &[u8], room: usize, counts: &mut Counts) -> (Option
         let at = results.iter().zip(&expected).position(|(a, b)| a != b).unwrap_or(0);
         report(&format!("byte {at} of the buffer"), seed, sheet, &results[at], &expected[at]);
     }
-    counts.note(answer.number, graded.as_ref());
+    note(counts, sheet, room, answer, graded.as_ref());
     (graded, results)
 }
 
 /// Demand 3, first half, on recorded bytes: the grader's 'largest of' form, with the anchor found by
 /// its place, against the CuSums that the library recorded.
-fn largest_of(seed: u64, sheet: &[u8], graded: &mut rules::Graded, results: &[u8]) {
+fn largest_of(seed: u64, sheet: &[u8], graded: &mut Graded, results: &[u8]) {
     for (row, record) in graded.rows.iter_mut().zip(results.chunks_exact(16)) {
         for (class, cusum) in row.cusums.iter_mut().enumerate() {
             *cusum = two(record, 8 + 2 * class);
         }
     }
-    let held = std::panic::catch_unwind(std::panic::AssertUnwindSafe(|| check::cusums_twice(graded)));
+    let held =
+        std::panic::catch_unwind(std::panic::AssertUnwindSafe(|| check::cusums_twice(graded)));
     if held.is_err() {
         report("the 'largest of' form", seed, sheet, &"recorded", &"computed");
     }
@@ -109,7 +154,9 @@ fn monotone(seed: u64, first: &[u8], second: &[u8], counts: &mut Counts) -> bool
     }
     match check::monotone(&sides[0].0, &sides[1].0) {
         Ok(grades) => grades,
-        Err(what) => report(&format!("the monotone half: {what}"), seed, second, &"first", &"second"),
+        Err(what) => {
+            report(&format!("the monotone half: {what}"), seed, second, &"first", &"second")
+        }
     }
 }
 
@@ -122,7 +169,12 @@ fn main() {
     let (mut checked, mut pairs, mut graded_pairs) = (0, 0, 0);
     for case in 0..cases {
         let seed = seed.wrapping_mul(1_000_003).wrapping_add(case);
-        let made = generate::case(seed);
+        let mut made = generate::case(seed);
+        if case % 500 == 0 && made.sheet.len() > 75 {
+            // Breaks behind the plan take the records beyond 65,536 bytes.
+            let breaks = 32_000 + Dice(seed).below(50_000);
+            made.sheet.splice(75..75, [0x42, 0x4B].repeat(breaks));
+        }
         let (graded, results) = compare(seed, &made.sheet, made.room, &mut counts);
         if let Some(mut graded) = graded.filter(|graded| graded.rows.len() <= 60) {
             largest_of(seed, &made.sheet, &mut graded, &results);
@@ -139,9 +191,14 @@ fn main() {
     }
     println!("{checked:>9}  sheets whose recorded CuSums are the 'largest of' form");
     println!("{pairs:>9}  pairs alike but for fewer counts, {graded_pairs} with grades compared");
-    if let Some((name, _)) = counts.0.iter().find(|(_, times)| **times == 0) {
+    // A short run need not have everything.
+    let missing = counts.0.iter().find(|(_, &times)| times == 0 && cases >= WHOLE);
+    if let Some((name, _)) = missing {
         println!("differential: no case has: {name}");
         std::process::exit(1);
     }
-    println!("differential: {cases} sheets and {pairs} pairs agree, seed {seed}, {:.1} s", start.elapsed().as_secs_f64());
+    println!(
+        "differential: {cases} sheets and {pairs} pairs agree, seed {seed}, {:.1} s",
+        start.elapsed().as_secs_f64()
+    );
 }
