@@ -175,7 +175,7 @@ fn unit_line(results: &[u8], j: usize, out: &mut [u8], at: usize) -> usize
 }
 
 // A line for each of the units that a result buffer has records of.
-pub fn unit_lines(results: &[u8], units: usize, out: &mut [u8]) -> usize
+fn unit_lines(results: &[u8], units: usize, out: &mut [u8]) -> usize
     requires { ⌜ (resultSize * units ≤ length (now results)) × (lineSize * units ≤ length (now out)) ⌝ }
     ensures { λ r. ⌜ Wrote (now (out .entry)) 0 (linesOf (now (results .entry)) units) (now (out .exit)) r ⌝ }
 {
@@ -189,7 +189,7 @@ pub fn unit_lines(results: &[u8], units: usize, out: &mut [u8]) -> usize
 }
 
 // "refused", number and offset.
-pub fn refusal_line(number: u32, offset: usize, out: &mut [u8]) -> usize
+fn refusal_line(number: u32, offset: usize, out: &mut [u8]) -> usize
     requires { ⌜ lineSize ≤ length (now out) ⌝ }
     ensures { λ r. ⌜ Wrote (now (out .entry)) 0 (refusedLine number offset) (now (out .exit)) r ⌝ }
 {

@@ -57,7 +57,8 @@ unfoldable pub recoveredIn : List ℕ → ℕ → ℕ → Sample → List ℕ
 recoveredIn results start designated unit =
     pick (unit .recoverable) (set (set results (start + portionOffset) (worse designated (unit .prerequisite))) (start + standingOffset) 3) results
 
--- the two records right before a position are units, with their result records in the buffer
+-- before a position there is room for two units in the sheet, and for their result records in the buffer: the differences below
+-- are no less than zero
 pub record TwoBefore (bytes : List ℕ) (position : Position) (size : ℕ) : Type 0 where
   pub two-units : 2 * unitSize ≤ position .at
   pub inside : position .at ≤ length bytes
@@ -65,6 +66,7 @@ pub record TwoBefore (bytes : List ℕ) (position : Position) (size : ℕ) : Typ
   pub few : position .units ≤ 1000
   pub room : resultSize * position .units ≤ size
 
+-- the two units right before a position recovered
 unfoldable pub twoRecovered : List ℕ → Position → ℕ → List ℕ → List ℕ
 twoRecovered bytes position designated results =
     let start = resultSize * position .units in
