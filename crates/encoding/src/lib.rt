@@ -1,6 +1,7 @@
 // Numbers of two bytes, with the high byte first.
 ghost use mathlib.Core.Path.{_≡_};
 ghost use Prim.Native.Nat.{_+_, _≤_};
+ghost use lib.Dec.{eqb};
 ghost use lib.ListN.{length};
 ghost use Rattle.encoding.specs.Bytes.{number};
 
@@ -10,4 +11,13 @@ pub fn number_at(bytes: &[u8], at: usize) -> u16
     ensures { λ r. ⌜ r ≡ number (now (bytes .entry)) at ⌝ }
 {
     256 * bytes[at] as u16 + bytes[at + 1] as u16
+}
+
+// Whether this number stands at an offset. The two bytes are compared as they lie, with the low byte first.
+pub fn holds_at(bytes: &[u8], at: usize, value: u16) -> bool
+    requires { ⌜ at + 2 ≤ length (now bytes) ⌝ }
+    ensures { λ r. ⌜ r ≡ eqb (number (now (bytes .entry)) at) value ⌝ }
+{
+    let low_first = bytes[at] as u16 + 256 * bytes[at + 1] as u16;
+    low_first == value % 256 * 256 + value / 256
 }

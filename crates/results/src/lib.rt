@@ -90,7 +90,7 @@ fn portion_if(results: &[u8], code: u16, j: usize) -> u8
     requires { ⌜ resultSize * j + resultSize ≤ length (now results) ⌝ }
     ensures { λ r. ⌜ r ≡ portionIf (now (results .entry)) code j ⌝ }
 {
-    if encoding::number_at(results, RESULT_SIZE * j + CODE_OFFSET) == code {
+    if encoding::holds_at(results, RESULT_SIZE * j + CODE_OFFSET, code) {
         return results[RESULT_SIZE * j + PORTION_OFFSET];
     }
     0
@@ -115,7 +115,7 @@ fn write_if(results: &mut [u8], code: u16, grade: u8, j: usize)
     requires { ⌜ resultSize * j + resultSize ≤ length (now results) ⌝ }
     ensures { λ _. ⌜ now (results .exit) ≡ set (now (results .entry)) (resultSize * j + codeGradeOffset) (gradeWith (now (results .entry)) code grade j) ⌝ }
 {
-    if encoding::number_at(&results[..], RESULT_SIZE * j + CODE_OFFSET) == code {
+    if encoding::holds_at(&results[..], RESULT_SIZE * j + CODE_OFFSET, code) {
         results[RESULT_SIZE * j + CODE_GRADE_OFFSET] = grade;
     }
 }

@@ -2,19 +2,18 @@
 -- Assumes nothing.
 use mathlib.Core.Path.{sym, _∙_}
 use borrow.Author.Needs.{needs}
-use borrow.Author.Tests.{eq-eqb, ne-eqb}
 use Rattle.results.specs.Codes.{portionIf}
 use Rattle.results.proofs.portion_if.Statement.{statement}
 use Rattle.results.proofs.portion_if.Tie as tie
 
-mul-number-at : tie.Need-mul-number-at
-mul-number-at c = search needs
+mul-holds-at : tie.Need-mul-holds-at
+mul-holds-at c = search needs
 
-add-number-at : tie.Need-add-number-at
-add-number-at c = search needs
+add-holds-at : tie.Need-add-holds-at
+add-holds-at c = search needs
 
-number-at-requires : tie.Need-number-at-requires
-number-at-requires c κs = search needs
+holds-at-requires : tie.Need-holds-at-requires
+holds-at-requires c κs = search needs
 
 mul-result : tie.Need-mul-result
 mul-result c = search needs
@@ -27,19 +26,19 @@ shared-slice-read-result c = search needs
 
 returns : tie.Need-returns
 unfolding portionIf
-returns c = rw (eq-eqb _ _ (sym (c .before .before .number-at .ensures) ∙ c .before .if1 .taken))
+returns c = rw (sym (c .before .before .holds-at .ensures) ∙ c .before .if1 .taken)
 
 returns-2 : tie.Need-returns-2
 unfolding portionIf
-returns-2 c = rw (ne-eqb _ _ (λ e. c .if1 .left (c .before .number-at .ensures ∙ e)))
+returns-2 c = rw (sym (c .before .holds-at .ensures) ∙ c .if1 .left)
 
 pub portion-if-spec : {M : Type 1} → statement M
 portion-if-spec =
     tie.close
     (tie.spec
-    mul-number-at
-    add-number-at
-    number-at-requires
+    mul-holds-at
+    add-holds-at
+    holds-at-requires
     mul-result
     add-result
     shared-slice-read-result

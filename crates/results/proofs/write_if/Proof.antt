@@ -3,21 +3,20 @@
 use Prim.Native.Nat.{_+_, _*_}
 use mathlib.Core.Path.{sym, _∙_}
 use borrow.Author.Needs.{needs}
-use borrow.Author.Tests.{eq-eqb, ne-eqb}
 use lib.Seq.{set-getD}
 use Rattle.results.specs.Record.{resultSize, codeGradeOffset}
 use Rattle.results.specs.Codes.{gradeWith}
 use Rattle.results.proofs.write_if.Statement.{statement}
 use Rattle.results.proofs.write_if.Tie as tie
 
-mul-number-at : tie.Need-mul-number-at
-mul-number-at c = search needs
+mul-holds-at : tie.Need-mul-holds-at
+mul-holds-at c = search needs
 
-add-number-at : tie.Need-add-number-at
-add-number-at c = search needs
+add-holds-at : tie.Need-add-holds-at
+add-holds-at c = search needs
 
-number-at-requires : tie.Need-number-at-requires
-number-at-requires c κs = search needs
+holds-at-requires : tie.Need-holds-at-requires
+holds-at-requires c κs = search needs
 
 mul-results : tie.Need-mul-results
 mul-results c = search needs
@@ -33,7 +32,7 @@ same-length c = search needs
 
 returns : tie.Need-returns
 unfolding gradeWith
-returns c = rw (eq-eqb _ _ (sym (c .before .number-at .ensures) ∙ c .if1 .taken))
+returns c = rw (sym (c .before .holds-at .ensures) ∙ c .if1 .taken)
 
 same-length-2 : tie.Need-same-length-2
 same-length-2 c = search needs
@@ -42,16 +41,16 @@ returns-2 : tie.Need-returns-2
 unfolding gradeWith
 returns-2 c =
     let args = c .before .before .before .before .args in
-    rw (ne-eqb _ _ (λ e. c .if1 .left (c .before .number-at .ensures ∙ e)))
+    rw (sym (c .before .holds-at .ensures) ∙ c .if1 .left)
     (sym (set-getD (args .results .now) (resultSize * args .j + codeGradeOffset) 0))
 
 pub write-if-spec : {M : Type 1} → statement M
 write-if-spec =
     tie.close
     (tie.spec
-    mul-number-at
-    add-number-at
-    number-at-requires
+    mul-holds-at
+    add-holds-at
+    holds-at-requires
     mul-results
     add-results
     slice-write-results
