@@ -8,8 +8,7 @@
 use grader::generate::{table, PEACH};
 use grader::sheet::{Record, Sheet, Unit};
 use hatmuyon::ffi::{RESULT_CODE, RESULT_CODE_GRADE, RESULT_PORTION, RESULT_STANDING};
-use hatmuyon::{PLAN_SIZE, RESULT_SIZE, UNIT_SIZE};
-use std::collections::HashMap;
+use hatmuyon::RESULT_SIZE;
 use std::hint::black_box;
 use std::time::Instant;
 
@@ -30,11 +29,11 @@ fn grader(sheet: &[u8], results: &mut [u8]) -> Answer {
     (answer.number, answer.units, answer.offset)
 }
 
-/// The grader, and then the code grades once more in the library's way.
+/// The grader without its map: the code grades are found with the library's scheme of reading.
 fn grader_reads_alike(sheet: &[u8], results: &mut [u8]) -> Answer {
-    let answer = grader(sheet, results);
-    grade_codes(&mut results[..RESULT_SIZE * answer.1]);
-    answer
+    let answer = grader::grade_but_codes(sheet, results);
+    grade_codes(&mut results[..RESULT_SIZE * answer.units]);
+    (answer.number, answer.units, answer.offset)
 }
 
 const RECOVERED: u8 = 3;
@@ -67,21 +66,6 @@ fn grade_codes(results: &mut [u8]) {
             }
         }
     }
-}
-
-/// What the grader's map does for a sheet of units alone: each code is stored, then looked up.
-fn map_alone(sheet: &[u8], results: &mut [u8]) -> Answer {
-    let units = || sheet[PLAN_SIZE..].chunks_exact(UNIT_SIZE);
-    let code = |unit: &[u8]| u16::from_be_bytes([unit[2], unit[3]]);
-    let mut worst = HashMap::new();
-    for unit in units() {
-        let grade = worst.entry(code(unit)).or_insert(unit[12]);
-        *grade = unit[12].max(*grade);
-    }
-    for (unit, record) in units().zip(results.chunks_exact_mut(RESULT_SIZE)) {
-        record[RESULT_CODE_GRADE] = worst[&code(unit)];
-    }
-    (0, units().len(), sheet.len())
 }
 
 /// The time of one grading.
@@ -214,18 +198,13 @@ fn main() {
     }
     let sheet = bytes(plain(1000, 1000));
     let (alike, ..) = times([library, grader_reads_alike], &sheet, 1000, rounds);
-    let ([map], ..) = times([map_alone], &sheet, 1000, rounds);
-    let ([library, reads_alike], map) = (alike.map(|time| time.per(1000.0)), map.per(1000.0));
+    let [library, reads_alike] = alike.map(|time| time.per(1000.0));
     row("1,000 units, 1,000 codes; the grader reads alike (*)", library, reads_alike);
     println!();
     println!(
-        "(*) The grader, and then the code grades again over the result records with the library's"
+        "(*) The grader's map is left out. The code grades are found over the result records, in the"
     );
-    println!("    scheme of reading. The grader's map is still in it, {:.2} us when timed alone (least).", map.least);
-    println!(
-        "    Less that, the ratio of the least times is {:.2}.",
-        library.least / (reads_alike.least - map.least)
-    );
+    println!("    library's scheme: from each code's first record on, all records are read twice.");
 
     for (name, codes) in [("growth, one code", 1), ("growth, a code for each unit", 1000)] {
         println!();

@@ -1,7 +1,7 @@
 -- Laws of `withCodeGrades`: which bytes it keeps and which it writes, what it leaves of codes, portion grades and worst grades,
 -- and when it gives equal buffers. By induction on the number of records.
 use Prim.Native.Nat.{ℕ, zero, suc, _+_, _*_, _<_, _≤_}
-use mathlib.Core.Path.{_≡_, refl, _∙_}
+use mathlib.Core.Path.{_≡_, refl, sym, _∙_, ap}
 use mathlib.Core.Bool.{Bool, true, false}
 use mathlib.Core.List.{List}
 use native.Mathlib.Omega.{arith}
@@ -67,14 +67,34 @@ grade-written grade results (suc n) j inside below = go (ltb j n) refl (grade-wr
 
 -- ---- equal buffers
 
+-- what does not change from one number to the next
+pub unchanged : {A : Type 0} (value : ℕ → A) (from n : ℕ) → from ≤ n → ((j : ℕ) → from ≤ j → j < n → value (suc j) ≡ value j)
+    → value n ≡ value from
+unchanged value from zero behind same = let none : zero ≡ from = omega arith in ap value none
+unchanged value from (suc n) behind same = go (ltb n from) refl (unchanged value from n)
+  where
+    go : (last : Bool) → ltb n from ≡ last
+        → (from ≤ n → ((j : ℕ) → from ≤ j → j < n → value (suc j) ≡ value j) → value n ≡ value from) → value (suc n) ≡ value from
+    go true test before = let end : suc n ≡ from = omega (arith, ltb-true n from test) in ap value end
+    go false test before =
+        let inside : from ≤ n = ltb-false n from test in
+        same n inside (omega arith) ∙ before inside (λ j later below. same j later (omega arith))
+
 -- grades that are there already
+pub nothing-between : (grade : ℕ → ℕ) (results : List ℕ) (from n : ℕ) → from ≤ n
+    → ((j : ℕ) → from ≤ j → j < n → grade j ≡ codeGradeIn results j) → withCodeGrades grade results n ≡ withCodeGrades grade results from
+unfolding withCodeGrades
+nothing-between grade results from n behind same =
+    unchanged (withCodeGrades grade results) from n behind
+    (λ j later below.
+    ap (set (withCodeGrades grade results j) (resultSize * j + codeGradeOffset))
+    (same j later below ∙ sym (grade-kept grade results j j (omega arith)))
+    ∙ set-getD (withCodeGrades grade results j) (resultSize * j + codeGradeOffset) 0)
+
 pub nothing-written : (grade : ℕ → ℕ) (results : List ℕ) (n : ℕ) → ((j : ℕ) → j < n → grade j ≡ codeGradeIn results j)
     → withCodeGrades grade results n ≡ results
 unfolding withCodeGrades
-nothing-written grade results zero same = refl
-nothing-written grade results (suc n) same =
-    rw (nothing-written grade results n (λ j below. same j (omega arith)), same n (omega arith))
-    (set-getD results (resultSize * n + codeGradeOffset) 0)
+nothing-written grade results n same = nothing-between grade results 0 n (omega arith) (λ j _ below. same j below)
 
 -- grades that agree
 pub same-written : (grade other : ℕ → ℕ) (results : List ℕ) (n : ℕ) → ((j : ℕ) → j < n → grade j ≡ other j)

@@ -141,7 +141,8 @@ module _ {old : List ℕ} {n i : ℕ} {results : List ℕ} (start : (resultSize 
         (sym own-byte ∙ not-graded) in
         record {
           inside = omega (arith, start .0);
-          before-end = omega arith;
+          before-end = below;
+          has-code = sym own-code;
           none-before = λ j earlier e. none-met old (codeIn old i) i not-met j earlier (sym (code-same j) ∙ e ∙ own-code ∙ code-same i);
         }
 

@@ -5,66 +5,92 @@ use mathlib.Core.Path.{_≡_, refl, sym, _∙_, ap}
 use mathlib.Core.List.{List}
 use native.Mathlib.Numerals.{add-one}
 use native.Mathlib.Omega.{arith}
-use borrow.Author.Tests.{ne-eqb}
+use borrow.Author.Tests.{eq-eqb, ne-eqb}
 use lib.ListN.{length, set}
 use Rattle.rules.specs.Words.{worse}
-use Rattle.results.specs.Record.{resultSize, codeGradeOffset, codeIn}
-use Rattle.results.specs.Codes.{portionIf, worstIn, withCodeGrades, FirstMet, gradeWith}
+use Rattle.results.specs.Record.{resultSize, codeGradeOffset, codeIn, portionIn, codeGradeIn}
+use Rattle.results.specs.Codes.{portionIf, worstIn, withCodeGrades, FirstMet, NextWith, gradeWith}
 use Rattle.results.proofs.Graded.{length-graded}
-use Rattle.results.proofs.CodeGrades.{code-kept, grade-kept, nothing-written}
+use Rattle.results.proofs.CodeGrades.{code-kept, unchanged, nothing-between, nothing-written}
 
 -- ---- its worst portion grade
 
-worst-none : (results : List ℕ) (code first : ℕ) → ((j : ℕ) → j < first → codeIn results j ≡ code → ⊥) → worstIn results code first ≡ 0
+-- records of other codes
+worst-between : (results : List ℕ) (code from n : ℕ) → from ≤ n → ((j : ℕ) → from ≤ j → j < n → codeIn results j ≡ code → ⊥)
+    → worstIn results code n ≡ worstIn results code from
 unfolding worstIn portionIf
-worst-none results code zero none = refl
-worst-none results code (suc n) none =
-    rw (worst-none results code n (λ j below. none j (omega arith)), ne-eqb (codeIn results n) code (none n (omega arith)))
+worst-between results code from n behind none =
+    unchanged (worstIn results code) from n behind (λ j later below. rw (ne-eqb (codeIn results j) code (none j later below)) (omega arith))
 
 pub worst-start : {results : List ℕ} {code first n : ℕ} → FirstMet results code first n → 0 ≡ worstIn results code first
-worst-start {results} {code} {first} met = sym (worst-none results code first (met .none-before))
-
-pub worst-next : (results : List ℕ) (code j : ℕ) → worse (worstIn results code j) (portionIf results code j) ≡ worstIn results code (j + 1)
 unfolding worstIn
-worst-next results code j = rw (add-one j)
+worst-start {results} {code} {first} met = sym (worst-between results code 0 first (omega arith) (λ j _ below. met .none-before j below))
 
--- ---- its grade, written in the records before j
+-- a record of the code, and then the next
+pub worst-next : {results : List ℕ} {code n next : ℕ} (j : ℕ) → codeIn results j ≡ code → NextWith results code (j + 1) n next
+    → worse (worstIn results code j) (portionIn results j) ≡ worstIn results code next
+unfolding worstIn portionIf
+worst-next {results} {code} {n} {next} j own found =
+    here ∙ sym (worst-between results code (j + 1) next (found .from-on) (found .none-between))
+  where
+    here : worse (worstIn results code j) (portionIn results j) ≡ worstIn results code (j + 1)
+    here = rw (add-one j, eq-eqb (codeIn results j) code own)
+
+-- ---- its grade, written in the records before j, which has the code or is behind the last
 
 pub record Written (old : List ℕ) (code grade n j : ℕ) (results : List ℕ) : Type 0 where
   pub within : j ≤ n
   pub same-size : length results ≡ length old
+  pub has-code : j < n → codeIn results j ≡ code
   pub graded : results ≡ withCodeGrades (gradeWith old code grade) old j
 
-written-from : {old : List ℕ} {code grade n j : ℕ} {results : List ℕ} → j ≤ n
-    → results ≡ withCodeGrades (gradeWith old code grade) old j → Written old code grade n j results
-written-from {old} {code} {grade} {n} {j} within graded =
-    record { within = within; same-size = ap length graded ∙ length-graded (gradeWith old code grade) old j; graded = graded }
-
-pub written-start : {old : List ℕ} {code first n : ℕ} (grade : ℕ) → FirstMet old code first n → Written old code grade n first old
+other-kept : (old : List ℕ) (code grade j : ℕ) → (codeIn old j ≡ code → ⊥) → gradeWith old code grade j ≡ codeGradeIn old j
 unfolding gradeWith
-written-start {old} {code} {first} grade met =
-    written-from (met .before-end)
-    (sym (nothing-written (gradeWith old code grade) old first (λ j below. rw (ne-eqb (codeIn old j) code (met .none-before j below)))))
+other-kept old code grade j other = rw (ne-eqb (codeIn old j) code other)
 
-grade-same : (old : List ℕ) (code grade j : ℕ)
-    → gradeWith (withCodeGrades (gradeWith old code grade) old j) code grade j ≡ gradeWith old code grade j
+own-given : (old : List ℕ) (code grade j : ℕ) → codeIn old j ≡ code → grade ≡ gradeWith old code grade j
 unfolding gradeWith
-grade-same old code grade j =
-    rw (code-kept (gradeWith old code grade) old j j, grade-kept (gradeWith old code grade) old j j (omega arith))
+own-given old code grade j own = rw (eq-eqb (codeIn old j) code own)
 
-stored-next : (old : List ℕ) (code grade j : ℕ) (results new : List ℕ) → results ≡ withCodeGrades (gradeWith old code grade) old j
-    → new ≡ set results (resultSize * j + codeGradeOffset) (gradeWith results code grade j)
-    → new ≡ withCodeGrades (gradeWith old code grade) old (j + 1)
-unfolding withCodeGrades
-stored-next old code grade j results new graded stored = rw (stored, graded, add-one j, grade-same old code grade j)
+module _ {old : List ℕ} {code n : ℕ} where
+  pub written-start : {first : ℕ} (grade : ℕ) → FirstMet old code first n → Written old code grade n first old
+  written-start {first} grade met =
+      record {
+        within = omega (arith, met .before-end);
+        same-size = refl;
+        has-code = λ _. met .has-code;
+        graded = sym (nothing-written (gradeWith old code grade) old first (λ j below. other-kept old code grade j (met .none-before j below)));
+      }
 
-pub written-next : {old : List ℕ} {code grade n j : ℕ} {results new : List ℕ} → Written old code grade n j results → j < n
-    → new ≡ set results (resultSize * j + codeGradeOffset) (gradeWith results code grade j) → Written old code grade n (j + 1) new
-written-next {old} {code} {grade} {n} {j} {results} {new} written below stored =
-    written-from (omega arith) (stored-next old code grade j results new (written .graded) stored)
+  module _ {grade j : ℕ} {results : List ℕ} (written : Written old code grade n j results) where
+    code-same : (k : ℕ) → codeIn results k ≡ codeIn old k
+    code-same k = rw (written .graded) (code-kept (gradeWith old code grade) old j k)
 
-pub written-end : {old : List ℕ} {code grade n j : ℕ} {results : List ℕ} → Written old code grade n j results → n ≤ j
-    → results ≡ withCodeGrades (gradeWith old code grade) old n
-written-end {old} {code} {grade} {n} {j} written past =
-    let end : j ≡ n = omega arith in
-    written .graded ∙ ap (withCodeGrades (gradeWith old code grade) old) end
+    stored-next : {new : List ℕ} → j < n → new ≡ set results (resultSize * j + codeGradeOffset) grade
+        → new ≡ withCodeGrades (gradeWith old code grade) old (j + 1)
+    unfolding withCodeGrades
+    stored-next below stored =
+        stored
+        ∙ rw (written .graded, add-one j)
+        (ap (set (withCodeGrades (gradeWith old code grade) old j) (resultSize * j + codeGradeOffset))
+        (own-given old code grade j (sym (code-same j) ∙ written .has-code below)))
+
+    pub written-next : {new : List ℕ} {next : ℕ} → j < n → new ≡ set results (resultSize * j + codeGradeOffset) grade
+        → NextWith new code (j + 1) n next → Written old code grade n next new
+    written-next {new} {next} below stored found =
+        let graded : new ≡ withCodeGrades (gradeWith old code grade) old (j + 1) = stored-next below stored in
+        let kept : (k : ℕ) → codeIn new k ≡ codeIn old k = λ k. rw graded (code-kept (gradeWith old code grade) old (j + 1) k) in
+        record {
+          within = found .at-most;
+          same-size = ap length graded ∙ length-graded (gradeWith old code grade) old (j + 1);
+          has-code = found .has-code;
+          graded =
+              graded
+              ∙ sym (nothing-between (gradeWith old code grade) old (j + 1) next (found .from-on)
+              (λ k behind before. other-kept old code grade k (λ own. found .none-between k behind before (kept k ∙ own))));
+        }
+
+    pub written-end : n ≤ j → results ≡ withCodeGrades (gradeWith old code grade) old n
+    written-end past =
+        let end : j ≡ n = omega (arith, written .within, past) in
+        written .graded ∙ ap (withCodeGrades (gradeWith old code grade) old) end

@@ -35,11 +35,19 @@ pub record Ungraded (results : List ℕ) (n : ℕ) : Type 0 where
   pub no-code-grade : (j : ℕ) → j < n → codeGradeIn results j ≡ ungraded
   pub portion-grade : (j : ℕ) → j < n → portionIn results j ≤ substandard
 
--- n records inside the buffer, of which none before this one has this code
+-- n records inside the buffer, of which this one is the first that has this code
 pub record FirstMet (results : List ℕ) (code first n : ℕ) : Type 0 where
   pub inside : resultSize * n ≤ length results
-  pub before-end : first ≤ n
+  pub before-end : first < n
+  pub has-code : codeIn results first ≡ code
   pub none-before : (j : ℕ) → j < first → codeIn results j ≡ code → ⊥
+
+-- the first record from this one on that has this code, or n if none before n has
+pub record NextWith (results : List ℕ) (code from n next : ℕ) : Type 0 where
+  pub from-on : from ≤ next
+  pub at-most : next ≤ n
+  pub has-code : next < n → codeIn results next ≡ code
+  pub none-between : (j : ℕ) → from ≤ j → j < next → codeIn results j ≡ code → ⊥
 
 -- the code grade of record j once this code has a grade
 unfoldable pub gradeWith : List ℕ → ℕ → ℕ → ℕ → ℕ

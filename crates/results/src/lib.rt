@@ -1,11 +1,11 @@
 // The result records: one is written into the rest of the buffer, and at last the code grades over all of them.
 ghost use mathlib.Core.Path.{_≡_};
 ghost use Prim.Native.Nat.{_+_, _*_, _≤_};
-ghost use lib.ListN.{length, set};
+ghost use lib.ListN.{length};
 ghost use lib.Seq.{sets};
 ghost use Rattle.rules.specs.Words.{worse};
 ghost use Rattle.results.specs.Record.{resultSize, codeGradeOffset, resultBytes};
-ghost use Rattle.results.specs.Codes.{ungraded, portionIf, worstIn, withCodeGrades, codesGraded, Ungraded, FirstMet, gradeWith};
+ghost use Rattle.results.specs.Codes.{ungraded, worstIn, withCodeGrades, codesGraded, Ungraded, FirstMet, NextWith, gradeWith};
 use rules::Cusums;
 use rules::worse_of;
 
@@ -85,18 +85,70 @@ pub fn write(rest: &mut [u8], result: ResultRecord)
     put(rest, bytes_of(result));
 }
 
-// The portion grade of record j if it has this code, else the best.
-fn portion_if(results: &[u8], code: u16, j: usize) -> u8
-    requires { ⌜ resultSize * j + resultSize ≤ length (now results) ⌝ }
-    ensures { λ r. ⌜ r ≡ portionIf (now (results .entry)) code j ⌝ }
+// The first of four records that has this code, or the record behind them.
+fn next_of_four(results: &[u8], code: u16, from: usize) -> usize
+    requires { ⌜ resultSize * (from + 4) ≤ length (now results) ⌝ }
+    ensures { λ r. ⌜ NextWith (now (results .entry)) code from (from + 4) r ⌝ }
 {
-    if encoding::holds_at(results, RESULT_SIZE * j + CODE_OFFSET, code) {
-        return results[RESULT_SIZE * j + PORTION_OFFSET];
+    if encoding::holds_at(results, RESULT_SIZE * from + CODE_OFFSET, code) {
+        return from;
     }
-    0
+    if encoding::holds_at(results, RESULT_SIZE * (from + 1) + CODE_OFFSET, code) {
+        return from + 1;
+    }
+    if encoding::holds_at(results, RESULT_SIZE * (from + 2) + CODE_OFFSET, code) {
+        return from + 2;
+    }
+    if encoding::holds_at(results, RESULT_SIZE * (from + 3) + CODE_OFFSET, code) {
+        return from + 3;
+    }
+    from + 4
 }
 
-// The worst portion grade of a code that no record before `first` has.
+// The same for eight records: a loop over eights is the fastest.
+fn next_of_eight(results: &[u8], code: u16, from: usize) -> usize
+    requires { ⌜ resultSize * (from + 8) ≤ length (now results) ⌝ }
+    ensures { λ r. ⌜ NextWith (now (results .entry)) code from (from + 8) r ⌝ }
+{
+    let next = next_of_four(results, code, from);
+    if next != from + 4 {
+        return next;
+    }
+    next_of_four(results, code, from + 4)
+}
+
+// The same for few records, one by one.
+fn next_of_few(results: &[u8], code: u16, from: usize, units: usize) -> usize
+    requires { ⌜ (resultSize * units ≤ length (now results)) × (from ≤ units) ⌝ }
+    ensures { λ r. ⌜ NextWith (now (results .entry)) code from units r ⌝ }
+{
+    let mut j = from;
+    while j < units {
+        if encoding::holds_at(results, RESULT_SIZE * j + CODE_OFFSET, code) {
+            return j;
+        }
+        j += 1;
+    }
+    j
+}
+
+// The first record from this one on that has this code, or the number of units if none has.
+fn next_with(results: &[u8], code: u16, from: usize, units: usize) -> usize
+    requires { ⌜ (resultSize * units ≤ length (now results)) × (from ≤ units) ⌝ }
+    ensures { λ r. ⌜ NextWith (now (results .entry)) code from units r ⌝ }
+{
+    let mut j = from;
+    while units - j >= 8 {
+        let next = next_of_eight(results, code, j);
+        if next != j + 8 {
+            return next;
+        }
+        j += 8;
+    }
+    next_of_few(results, code, j, units)
+}
+
+// The worst portion grade of a code that is first met in this record.
 fn worst_from(results: &[u8], code: u16, first: usize, units: usize) -> u8
     requires { ⌜ FirstMet (now results) code first units ⌝ }
     ensures { λ r. ⌜ r ≡ worstIn (now (results .entry)) code units ⌝ }
@@ -104,31 +156,21 @@ fn worst_from(results: &[u8], code: u16, first: usize, units: usize) -> u8
     let mut worst: u8 = 0;
     let mut j = first;
     while j < units {
-        worst = worse_of(worst, portion_if(results, code, j));
-        j += 1;
+        worst = worse_of(worst, results[RESULT_SIZE * j + PORTION_OFFSET]);
+        j = next_with(results, code, j + 1, units);
     }
     worst
 }
 
-// Stores the grade in record j if it has this code.
-fn write_if(results: &mut [u8], code: u16, grade: u8, j: usize)
-    requires { ⌜ resultSize * j + resultSize ≤ length (now results) ⌝ }
-    ensures { λ _. ⌜ now (results .exit) ≡ set (now (results .entry)) (resultSize * j + codeGradeOffset) (gradeWith (now (results .entry)) code grade j) ⌝ }
-{
-    if encoding::holds_at(&results[..], RESULT_SIZE * j + CODE_OFFSET, code) {
-        results[RESULT_SIZE * j + CODE_GRADE_OFFSET] = grade;
-    }
-}
-
-// Stores the grade of a code that no record before `first` has.
+// Stores the grade of a code that is first met in this record.
 fn write_code(results: &mut [u8], code: u16, grade: u8, first: usize, units: usize)
     requires { ⌜ FirstMet (now results) code first units ⌝ }
     ensures { λ _. ⌜ now (results .exit) ≡ withCodeGrades (gradeWith (now (results .entry)) code grade) (now (results .entry)) units ⌝ }
 {
     let mut j = first;
     while j < units {
-        write_if(results, code, grade, j);
-        j += 1;
+        results[RESULT_SIZE * j + CODE_GRADE_OFFSET] = grade;
+        j = next_with(&results[..], code, j + 1, units);
     }
 }
 

@@ -22,9 +22,24 @@ pub fn grade(sheet: &[u8], results: &mut [u8]) -> Answer {
     grade_traced(sheet, results, false).0
 }
 
+/// As [`grade`], but the code grades in the records mean nothing: for a caller that finds them in a
+/// way of its own.
+pub fn grade_but_codes(sheet: &[u8], results: &mut [u8]) -> Answer {
+    grade_by(rules::grade_portions, sheet, results, false).0
+}
+
 /// As [`grade`], and hands out the trace of an accepted sheet. With `check`, every CuSum is also
 /// computed by the 'largest of' formula of demand 3, and a difference panics.
 pub fn grade_traced(
+    sheet: &[u8],
+    results: &mut [u8],
+    check: bool,
+) -> (Answer, Option<rules::Graded>) {
+    grade_by(rules::grade_sheet, sheet, results, check)
+}
+
+fn grade_by(
+    grade_sheet: fn(&sheet::Sheet) -> rules::Graded,
     sheet: &[u8],
     results: &mut [u8],
     check: bool,
@@ -35,7 +50,7 @@ pub fn grade_traced(
         Ok(tally) => tally,
         Err((number, offset)) => return refuse(number, offset),
     };
-    let graded = rules::grade_sheet(&tally);
+    let graded = grade_sheet(&tally);
     if check {
         check::cusums_twice(&graded);
     }

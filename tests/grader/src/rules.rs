@@ -90,6 +90,13 @@ pub struct Graded {
 const FRESH: Stage = Stage::Designated { failure: None };
 
 pub fn grade_sheet(sheet: &Sheet) -> Graded {
+    let mut graded = grade_portions(sheet);
+    grade_codes(&mut graded.rows);
+    graded
+}
+
+/// All but the code grades.
+pub fn grade_portions(sheet: &Sheet) -> Graded {
     let table = &sheet.table;
     let mut designated = sheet.designated;
     let mut stage = FRESH;
@@ -141,17 +148,20 @@ pub fn grade_sheet(sheet: &Sheet) -> Graded {
             events.push(event);
         }
     }
-    // "Last, the code grade: the worst portion grade among all units of the sheet with that code,
-    // adjoining or not."
+    Graded { table: sheet.table, rows, events }
+}
+
+/// "Last, the code grade: the worst portion grade among all units of the sheet with that code,
+/// adjoining or not."
+fn grade_codes(rows: &mut [Row]) {
     let mut worst = std::collections::HashMap::new();
-    for row in &rows {
+    for row in &*rows {
         let grade = worst.entry(row.unit.code).or_insert(row.portion_grade);
         *grade = row.portion_grade.max(*grade);
     }
-    for row in &mut rows {
+    for row in rows {
         row.code_grade = worst[&row.unit.code];
     }
-    Graded { table: sheet.table, rows, events }
 }
 
 fn plan_in_force(stage: Stage, designated: Grade) -> Grade {
