@@ -10,18 +10,18 @@ use borrow.Author.Tests.{ltb-true, ltb-false, lt-ltb, le-ltb}
 use Rattle.cusum.specs.Integers.{maxℤ}
 use Rattle.cusum.specs.Step.{rawValue, aboveLimit, cusumOf, fails, newCusum, stepOf}
 use Rattle.cusum.specs.LargestForm.{defectsLessT}
-use Rattle.cusum.specs.declared.Limits.{Limits}
+use Rattle.cusum.specs.declared.PlanNumbers.{PlanNumbers}
 use Rattle.cusum.specs.declared.Cusum.{Cusum}
 use Rattle.cusum.proofs.Integers.{up, down, eq-of, plus-is, difference-is, up-max, down-max, one-side}
 
 -- ---- the same in natural numbers
 
-above-limit-is : (l : Limits) (r : ℤ) → aboveLimit l r ≡ ltb (l .limit) (up r)
+above-limit-is : (l : PlanNumbers) (r : ℤ) → aboveLimit l r ≡ ltb (l .limit) (up r)
 unfolding aboveLimit up
 above-limit-is l (pos r) = refl
 above-limit-is l (negsuc r) = sym (le-ltb (l .limit) 0 (omega arith))
 
-cusum-of-is : (l : Limits) (r : ℤ) → cusumOf l r ≡ min (l .limit) (up r)
+cusum-of-is : (l : PlanNumbers) (r : ℤ) → cusumOf l r ≡ min (l .limit) (up r)
 unfolding cusumOf up
 cusum-of-is l (pos r) = go (ltb (l .limit) r) refl
   where
@@ -30,20 +30,20 @@ cusum-of-is l (pos r) = go (ltb (l .limit) r) refl
     go false e = omega (arith, ltb-false (l .limit) r e)
 cusum-of-is l (negsuc r) = omega arith
 
-raw-value-up : (l : Limits) (old c : ℕ) → up (rawValue l old c) ≡ old + 10 * c - l .tolerance
+raw-value-up : (l : PlanNumbers) (old c : ℕ) → up (rawValue l old c) ≡ old + 10 * c - l .tolerance
 unfolding rawValue
 raw-value-up l old c = omega (arith, difference-is (old + 10 * c) (l .tolerance), one-side (pos (old + 10 * c) -ℤ pos (l .tolerance)))
 
-pub new-cusum-is : (l : Limits) (old c : ℕ) → newCusum l old c ≡ min (l .limit) (old + 10 * c - l .tolerance)
+pub new-cusum-is : (l : PlanNumbers) (old c : ℕ) → newCusum l old c ≡ min (l .limit) (old + 10 * c - l .tolerance)
 unfolding newCusum
 new-cusum-is l old c = cusum-of-is l (rawValue l old c) ∙ ap (min (l .limit)) (raw-value-up l old c)
 
-pub fails-is : (l : Limits) (old c : ℕ) → fails l old c ≡ ltb (l .limit) (old + 10 * c - l .tolerance)
+pub fails-is : (l : PlanNumbers) (old c : ℕ) → fails l old c ≡ ltb (l .limit) (old + 10 * c - l .tolerance)
 unfolding fails
 fails-is l old c = above-limit-is l (rawValue l old c) ∙ ap (ltb (l .limit)) (raw-value-up l old c)
 
 -- as code tests it: ten times the count and the old CuSum exceed T+L
-pub fails-sum : (l : Limits) (old c : ℕ) → fails l old c ≡ ltb (l .tolerance + l .limit) (old + 10 * c)
+pub fails-sum : (l : PlanNumbers) (old c : ℕ) → fails l old c ≡ ltb (l .tolerance + l .limit) (old + 10 * c)
 fails-sum l old c = fails-is l old c ∙ go (ltb (l .tolerance + l .limit) (old + 10 * c)) refl
   where
     go : (t : Bool) → ltb (l .tolerance + l .limit) (old + 10 * c) ≡ t → ltb (l .limit) (old + 10 * c - l .tolerance) ≡ t
@@ -52,27 +52,27 @@ fails-sum l old c = fails-is l old c ∙ go (ltb (l .tolerance + l .limit) (old 
 
 -- ---- laws of a step
 
-pub fails-true : (l : Limits) (old c : ℕ) → fails l old c ≡ true → l .limit < old + 10 * c - l .tolerance
+pub fails-true : (l : PlanNumbers) (old c : ℕ) → fails l old c ≡ true → l .limit < old + 10 * c - l .tolerance
 fails-true l old c e = ltb-true _ _ (sym (fails-is l old c) ∙ e)
 
-pub fails-false : (l : Limits) (old c : ℕ) → fails l old c ≡ false → old + 10 * c - l .tolerance ≤ l .limit
+pub fails-false : (l : PlanNumbers) (old c : ℕ) → fails l old c ≡ false → old + 10 * c - l .tolerance ≤ l .limit
 fails-false l old c e = ltb-false _ _ (sym (fails-is l old c) ∙ e)
 
-pub new-cusum-mono : (l : Limits) (o o' c c' : ℕ) → o ≤ o' → c ≤ c' → newCusum l o c ≤ newCusum l o' c'
+pub new-cusum-mono : (l : PlanNumbers) (o o' c c' : ℕ) → o ≤ o' → c ≤ c' → newCusum l o c ≤ newCusum l o' c'
 new-cusum-mono l o o' c c' h k = omega (arith, new-cusum-is l o c, new-cusum-is l o' c')
 
-pub fails-mono : (l : Limits) (o o' c c' : ℕ) → o ≤ o' → c ≤ c' → fails l o c ≡ true → fails l o' c' ≡ true
+pub fails-mono : (l : PlanNumbers) (o o' c c' : ℕ) → o ≤ o' → c ≤ c' → fails l o c ≡ true → fails l o' c' ≡ true
 fails-mono l o o' c c' h k e = fails-is l o' c' ∙ lt-ltb (l .limit) (o' + 10 * c' - l .tolerance) (omega (arith, fails-true l o c e))
 
-pub new-cusum-le-limit : (l : Limits) (o c : ℕ) → newCusum l o c ≤ l .limit
+pub new-cusum-le-limit : (l : PlanNumbers) (o c : ℕ) → newCusum l o c ≤ l .limit
 new-cusum-le-limit l o c = omega (arith, new-cusum-is l o c)
 
 -- a failing class stands at L
-pub failed-at : (l : Limits) (o c : ℕ) → fails l o c ≡ true → newCusum l o c ≡ l .limit
+pub failed-at : (l : PlanNumbers) (o c : ℕ) → fails l o c ≡ true → newCusum l o c ≡ l .limit
 failed-at l o c e = omega (arith, new-cusum-is l o c, fails-true l o c e)
 
 -- a class that meets: the larger of zero and the raw value
-pub met-at : (l : Limits) (o c : ℕ) → fails l o c ≡ false → pos (newCusum l o c) ≡ maxℤ (pos 0) (pos o +ℤ defectsLessT l c)
+pub met-at : (l : PlanNumbers) (o c : ℕ) → fails l o c ≡ false → pos (newCusum l o c) ≡ maxℤ (pos 0) (pos o +ℤ defectsLessT l c)
 unfolding defectsLessT up down
 met-at l o c e =
     let d = pos (10 * c) -ℤ pos (l .tolerance) in
@@ -81,7 +81,7 @@ met-at l o c e =
 
 -- ---- the step as code takes it: the old CuSum and the tenths of the count, against T+L and T
 
-module _ (l : Limits) (old : Cusum) (c : ℕ) where
+module _ (l : PlanNumbers) (old : Cusum) (c : ℕ) where
   pub step-above : l .tolerance + l .limit < old .tenths + 10 * c → record { cusum = record { tenths = l .limit }; fails = true } ≡ stepOf l old c
   step-above h =
       let e : fails l (old .tenths) c ≡ true = fails-sum l (old .tenths) c ∙ lt-ltb (l .tolerance + l .limit) (old .tenths + 10 * c) h in

@@ -9,21 +9,21 @@ use lib.IntN.{ℤ, pos, _+ℤ_}
 use Rattle.cusum.specs.Integers.{maxℤ, largest, sumℤ, runs}
 use Rattle.cusum.specs.Step.{fails, newCusum}
 use Rattle.cusum.specs.LargestForm.{defectsLessT, largestForm}
-use Rattle.cusum.specs.declared.Limits.{Limits}
+use Rattle.cusum.specs.declared.PlanNumbers.{PlanNumbers}
 use Rattle.cusum.proofs.Integers.{unroll}
 use Rattle.cusum.proofs.Laws.{met-at}
 
 -- the CuSum after a run of counts
-unfoldable pub after : Limits → ℕ → List ℕ → ℕ
+unfoldable pub after : PlanNumbers → ℕ → List ℕ → ℕ
 after l a [] = a
 after l a (c ∷ cs) = after l (newCusum l a c) cs
 
 -- no step of the run fails
-unfoldable pub Meets : Limits → ℕ → List ℕ → Type 0
+unfoldable pub Meets : PlanNumbers → ℕ → List ℕ → Type 0
 Meets l a [] = Unit {0}
 Meets l a (c ∷ cs) = (fails l a c ≡ false) × Meets l (newCusum l a c) cs
 
-pub run-largest : (l : Limits) (a : ℕ) (cs : List ℕ) → Meets l a cs → pos (after l a cs) ≡ largestForm l a cs
+pub run-largest : (l : PlanNumbers) (a : ℕ) (cs : List ℕ) → Meets l a cs → pos (after l a cs) ≡ largestForm l a cs
 unfolding after Meets largestForm sumℤ largest runs
 run-largest l a [] m = ap pos (omega arith)
 run-largest l a (c ∷ cs) m =
@@ -32,12 +32,12 @@ run-largest l a (c ∷ cs) m =
     ∙ unroll a (defectsLessT l c) (map (defectsLessT l) cs)
 
 -- one count more at the end
-pub after-snoc : (l : Limits) (a : ℕ) (cs : List ℕ) (c : ℕ) → after l a (cs ++ c ∷ []) ≡ newCusum l (after l a cs) c
+pub after-snoc : (l : PlanNumbers) (a : ℕ) (cs : List ℕ) (c : ℕ) → after l a (cs ++ c ∷ []) ≡ newCusum l (after l a cs) c
 unfolding after
 after-snoc l a [] c = refl
 after-snoc l a (x ∷ cs) c = after-snoc l (newCusum l a x) cs c
 
-pub meets-snoc : (l : Limits) (a : ℕ) (cs : List ℕ) (c : ℕ) → Meets l a cs → fails l (after l a cs) c ≡ false → Meets l a (cs ++ c ∷ [])
+pub meets-snoc : (l : PlanNumbers) (a : ℕ) (cs : List ℕ) (c : ℕ) → Meets l a cs → fails l (after l a cs) c ≡ false → Meets l a (cs ++ c ∷ [])
 unfolding after Meets
 meets-snoc l a [] c m e = (e, tt)
 meets-snoc l a (x ∷ cs) c m e = (m .0, meets-snoc l (newCusum l a x) cs c (m .1) e)

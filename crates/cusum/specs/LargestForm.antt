@@ -4,15 +4,15 @@ use mathlib.Core.List.{List, _∷_, map}
 use lib.IntN.{ℤ, pos, _+ℤ_, _-ℤ_}
 use Rattle.cusum.specs.Integers.{largest, sumℤ, runs}
 use Rattle.cusum.specs.Step.{tenthsOf}
-use Rattle.cusum.specs.declared.Limits.{Limits}
+use Rattle.cusum.specs.declared.PlanNumbers.{PlanNumbers}
 
 -- defects less T at a unit: ten times the class's count, minus T
-unfoldable pub defectsLessT : Limits → ℕ → ℤ
-defectsLessT limits count = pos (tenthsOf count) -ℤ pos (limits .tolerance)
+unfoldable pub defectsLessT : PlanNumbers → ℕ → ℤ
+defectsLessT numbers count = pos (tenthsOf count) -ℤ pos (numbers .tolerance)
 
 -- the largest of zero, the anchor plus the sum of defects less T since it, and every such sum, without the anchor, over a run of
 -- units that starts after the anchor and ends with the last
-unfoldable pub largestForm : Limits → ℕ → List ℕ → ℤ
-largestForm limits anchor counts =
-    let since = map (defectsLessT limits) counts in
+unfoldable pub largestForm : PlanNumbers → ℕ → List ℕ → ℤ
+largestForm numbers anchor counts =
+    let since = map (defectsLessT numbers) counts in
     largest ((pos anchor +ℤ sumℤ since) ∷ map sumℤ (runs since))

@@ -3,7 +3,7 @@ use Prim.Native.Nat.{ℕ, _+_, _*_}
 use mathlib.Core.Bool.{Bool, false, cond}
 use lib.Dec.{ltb}
 use lib.IntN.{ℤ, pos, negsuc, _-ℤ_}
-use Rattle.cusum.specs.declared.Limits.{Limits}
+use Rattle.cusum.specs.declared.PlanNumbers.{PlanNumbers}
 use Rattle.cusum.specs.declared.Cusum.{Cusum}
 use Rattle.cusum.specs.declared.Stepped.{Stepped}
 
@@ -16,30 +16,30 @@ abbrev pub largestTenths : ℕ
 largestTenths = 65535
 
 -- rule 1: every CuSum begins at the S of its own class and plan
-abbrev pub startOf : Limits → Cusum
-startOf limits = record { tenths = limits .start }
+abbrev pub startOf : PlanNumbers → Cusum
+startOf numbers = record { tenths = numbers .start }
 
 -- raw value = old CuSum + ten times the count - T
-unfoldable pub rawValue : Limits → ℕ → ℕ → ℤ
-rawValue limits old count = pos (old + tenthsOf count) -ℤ pos (limits .tolerance)
+unfoldable pub rawValue : PlanNumbers → ℕ → ℕ → ℤ
+rawValue numbers old count = pos (old + tenthsOf count) -ℤ pos (numbers .tolerance)
 
 -- if it is above L, the class fails
-unfoldable pub aboveLimit : Limits → ℤ → Bool
-aboveLimit limits (pos raw) = ltb (limits .limit) raw
-aboveLimit limits (negsuc raw) = false
+unfoldable pub aboveLimit : PlanNumbers → ℤ → Bool
+aboveLimit numbers (pos raw) = ltb (numbers .limit) raw
+aboveLimit numbers (negsuc raw) = false
 
 -- if it is above L, the CuSum becomes L; if it is below zero, 0; otherwise it is the CuSum
-unfoldable pub cusumOf : Limits → ℤ → ℕ
-cusumOf limits (pos raw) = cond (ltb (limits .limit) raw) (limits .limit) raw
-cusumOf limits (negsuc raw) = 0
+unfoldable pub cusumOf : PlanNumbers → ℤ → ℕ
+cusumOf numbers (pos raw) = cond (ltb (numbers .limit) raw) (numbers .limit) raw
+cusumOf numbers (negsuc raw) = 0
 
 -- rule 2: whether the class fails, and the new CuSum
-unfoldable pub fails : Limits → ℕ → ℕ → Bool
-fails limits old count = aboveLimit limits (rawValue limits old count)
+unfoldable pub fails : PlanNumbers → ℕ → ℕ → Bool
+fails numbers old count = aboveLimit numbers (rawValue numbers old count)
 
-unfoldable pub newCusum : Limits → ℕ → ℕ → ℕ
-newCusum limits old count = cusumOf limits (rawValue limits old count)
+unfoldable pub newCusum : PlanNumbers → ℕ → ℕ → ℕ
+newCusum numbers old count = cusumOf numbers (rawValue numbers old count)
 
-abbrev pub stepOf : Limits → Cusum → ℕ → Stepped
-stepOf limits old count =
-    record { cusum = record { tenths = newCusum limits (old .tenths) count }; fails = fails limits (old .tenths) count }
+abbrev pub stepOf : PlanNumbers → Cusum → ℕ → Stepped
+stepOf numbers old count =
+    record { cusum = record { tenths = newCusum numbers (old .tenths) count }; fails = fails numbers (old .tenths) count }

@@ -3,7 +3,7 @@ ghost use mathlib.Core.Path.{_≡_};
 ghost use Rattle.cusum.specs.Step.{tenthsOf, startOf, stepOf};
 
 // S (start), T (tolerance) and L (acceptance limit) of a class in a plan, in tenths.
-pub struct Limits {
+pub struct PlanNumbers {
     pub start: u16,
     pub tolerance: u16,
     pub limit: u16,
@@ -34,24 +34,24 @@ impl Cusum {
     pub const LARGEST_TENTHS: u32 = 65535;
 
     // Every CuSum begins at the S of its own class and plan.
-    pub fn starting(limits: Limits) -> Cusum
-        ensures { λ r. ⌜ r ≡ startOf limits ⌝ }
+    pub fn starting(numbers: PlanNumbers) -> Cusum
+        ensures { λ r. ⌜ r ≡ startOf numbers ⌝ }
     {
         Cusum {
-            tenths: limits.start as u32,
+            tenths: numbers.start as u32,
         }
     }
 
-    pub fn step(self, limits: Limits, count: u32) -> Stepped
-        ensures { λ r. ⌜ r ≡ stepOf limits self count ⌝ }
+    pub fn step(self, numbers: PlanNumbers, count: u32) -> Stepped
+        ensures { λ r. ⌜ r ≡ stepOf numbers self count ⌝ }
     {
         let sum = self.tenths as u64 + tenths(count);
-        let tolerance = limits.tolerance as u64;
-        let highest = tolerance + limits.limit as u64;
+        let tolerance = numbers.tolerance as u64;
+        let highest = tolerance + numbers.limit as u64;
         if highest < sum {
             return Stepped {
                 cusum: Cusum {
-                    tenths: limits.limit as u32,
+                    tenths: numbers.limit as u32,
                 },
                 fails: true,
             };

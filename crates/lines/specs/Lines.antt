@@ -7,7 +7,7 @@ use lib.Dec.{eqb, ltb}
 use lib.ListN.{length, getD, replicate}
 use Rattle.rules.specs.Words.{classes}
 use Rattle.sheet.specs.Refusals.{mostUnits}
-use Rattle.results.specs.Record.{resultSize, codeIn, portionIn, codeGradeIn, planIn, standingIn, cusumIn}
+use Rattle.results.specs.Record.{resultSize, codeIn, portionGradeIn, codeGradeIn, planGradeIn, standingIn, cusumIn}
 use Rattle.tally.specs.declared.Answer.{Answer}
 use Rattle.tally.specs.Outcome.{outcome}
 use Rattle.lines.specs.Ascii.{ascii}
@@ -61,10 +61,10 @@ lineOf results j =
     lineWith
     (decimal (j + 1)
     ∷ decimal (codeIn results j)
-    ∷ (gradeLetter (portionIn results j) ∷ [])
+    ∷ (gradeLetter (portionGradeIn results j) ∷ [])
     ∷ (gradeLetter (codeGradeIn results j) ∷ [])
     ∷ (standingLetter (standingIn results j) ∷ [])
-    ∷ (gradeLetter (planIn results j) ∷ [])
+    ∷ (gradeLetter (planGradeIn results j) ∷ [])
     ∷ map (λ class. oneDecimal (cusumIn results j class)) classes)
 
 -- a line for each of n units

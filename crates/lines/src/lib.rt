@@ -6,15 +6,15 @@ ghost use mathlib.Core.List.{[], _∷_, map};
 ghost use lib.ListN.{length};
 ghost use Rattle.encoding.specs.Bytes.{byte, number};
 ghost use Rattle.rules.specs.Words.{classes};
-ghost use Rattle.results.specs.Record.{resultSize, portionIn, codeGradeIn, planIn, standingIn, cusumIn};
+ghost use Rattle.results.specs.Record.{resultSize, portionGradeIn, codeGradeIn, planGradeIn, standingIn, cusumIn};
 ghost use Rattle.lines.specs.Lines.{space, decimal, oneDecimal, gradeLetter, standingLetter, lineWith, lineOf, linesOf, refusedLine, printed, lineSize, textSize};
 ghost use Rattle.lines.specs.Wrote.{Wrote};
 use encoding::number_at;
 use results::CODE_GRADE_OFFSET;
 use results::CODE_OFFSET;
 use results::CUSUMS_OFFSET;
-use results::PLAN_OFFSET;
-use results::PORTION_OFFSET;
+use results::PLAN_GRADE_OFFSET;
+use results::PORTION_GRADE_OFFSET;
 use results::RESULT_SIZE;
 use results::STANDING_OFFSET;
 use sheet::MOST_UNITS;
@@ -136,15 +136,15 @@ fn tenths_field(results: &[u8], offset: usize, out: &mut [u8], at: usize) -> usi
 fn letter_fields(results: &[u8], j: usize, out: &mut [u8], at: usize) -> usize
     requires { ⌜ (resultSize * j + resultSize ≤ length (now results)) × (at + 8 ≤ length (now out)) ⌝ }
     ensures { λ r. ⌜ Wrote (now (out .entry)) at
-        (space ∷ gradeLetter (portionIn (now (results .entry)) j) ∷ space ∷ gradeLetter (codeGradeIn (now (results .entry)) j)
-        ∷ space ∷ standingLetter (standingIn (now (results .entry)) j) ∷ space ∷ gradeLetter (planIn (now (results .entry)) j) ∷ [])
+        (space ∷ gradeLetter (portionGradeIn (now (results .entry)) j) ∷ space ∷ gradeLetter (codeGradeIn (now (results .entry)) j)
+        ∷ space ∷ standingLetter (standingIn (now (results .entry)) j) ∷ space ∷ gradeLetter (planGradeIn (now (results .entry)) j) ∷ [])
         (now (out .exit)) r ⌝ }
 {
     let record = RESULT_SIZE * j;
-    let after_portion = grade_field(results, record + PORTION_OFFSET, out, at);
+    let after_portion = grade_field(results, record + PORTION_GRADE_OFFSET, out, at);
     let after_code = grade_field(results, record + CODE_GRADE_OFFSET, out, after_portion);
     let after_standing = standing_field(results, record + STANDING_OFFSET, out, after_code);
-    grade_field(results, record + PLAN_OFFSET, out, after_standing)
+    grade_field(results, record + PLAN_GRADE_OFFSET, out, after_standing)
 }
 
 // The four CuSums of unit j, and the newline.

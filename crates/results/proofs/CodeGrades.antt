@@ -10,8 +10,8 @@ use lib.Dec.{ltb}
 use lib.ListN.{length, set}
 use lib.Seq.{getD-set-same, getD-set-other, set-getD, set-set, set-comm}
 use Rattle.encoding.specs.Bytes.{byte}
-use Rattle.results.specs.Record.{resultSize, codeOffset, portionOffset, codeGradeOffset, codeIn, portionIn, codeGradeIn}
-use Rattle.results.specs.Codes.{portionIf, worstIn, withCodeGrades}
+use Rattle.results.specs.Record.{resultSize, codeOffset, portionGradeOffset, codeGradeOffset, codeIn, portionGradeIn, codeGradeIn}
+use Rattle.results.specs.Codes.{portionGradeIf, worstIn, withCodeGrades}
 use Rattle.results.proofs.Graded.{length-graded}
 
 -- ---- what is kept
@@ -32,14 +32,14 @@ module _ (grade : ℕ → ℕ) (results : List ℕ) where
         byte-kept n (resultSize * k + codeOffset + 1) (λ j below e. omega arith),
       )
 
-  pub portion-kept : (n k : ℕ) → portionIn (withCodeGrades grade results n) k ≡ portionIn results k
-  portion-kept n k = byte-kept n (resultSize * k + portionOffset) (λ j below e. omega arith)
+  pub portion-kept : (n k : ℕ) → portionGradeIn (withCodeGrades grade results n) k ≡ portionGradeIn results k
+  portion-kept n k = byte-kept n (resultSize * k + portionGradeOffset) (λ j below e. omega arith)
 
   pub grade-kept : (n k : ℕ) → n ≤ k → codeGradeIn (withCodeGrades grade results n) k ≡ codeGradeIn results k
   grade-kept n k behind = byte-kept n (resultSize * k + codeGradeOffset) (λ j below e. omega arith)
 
   pub worst-kept : (n code m : ℕ) → worstIn (withCodeGrades grade results n) code m ≡ worstIn results code m
-  unfolding worstIn portionIf
+  unfolding worstIn portionGradeIf
   worst-kept n code zero = refl
   worst-kept n code (suc m) = rw (worst-kept n code m, code-kept n m, portion-kept n m)
 

@@ -10,7 +10,7 @@ use lib.Seq.{getD-append-add}
 use Rattle.encoding.specs.Bytes.{byte, number, high, low}
 use Rattle.rules.specs.Words.{tenthsIn}
 use Rattle.results.specs.declared.ResultRecord.{ResultRecord}
-use Rattle.results.specs.Record.{resultSize, codeOffset, portionOffset, codeGradeOffset, cusumsOffset, cusumBytes, resultBytes}
+use Rattle.results.specs.Record.{resultSize, codeOffset, portionGradeOffset, codeGradeOffset, cusumsOffset, cusumBytes, resultBytes}
 
 -- ---- numbers of two bytes
 
@@ -34,7 +34,7 @@ module _ (codeGrade : ℕ) (result : ResultRecord) where
   length-result = refl
 
   module _ (rest : List ℕ) where
-    pub portion-read : byte (resultBytes codeGrade result ++ rest) portionOffset ≡ result .portion
+    pub portion-read : byte (resultBytes codeGrade result ++ rest) portionGradeOffset ≡ result .portion
     unfolding resultBytes
     portion-read = refl
 

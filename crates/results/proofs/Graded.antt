@@ -10,8 +10,8 @@ use lib.Dec.{eqb}
 use lib.ListN.{length, set, length-set}
 use Rattle.rules.specs.Words.{substandard}
 use Rattle.results.specs.declared.ResultRecord.{ResultRecord}
-use Rattle.results.specs.Record.{codeGradeOffset, codeIn, portionIn, resultBytes}
-use Rattle.results.specs.Codes.{portionIf, worstIn, withCodeGrades, codesGraded}
+use Rattle.results.specs.Record.{codeGradeOffset, codeIn, portionGradeIn, resultBytes}
+use Rattle.results.specs.Codes.{portionGradeIf, worstIn, withCodeGrades, codesGraded}
 
 pub set-front : (codeGrade grade : ℕ) (result : ResultRecord) (rest : List ℕ)
     → set (resultBytes codeGrade result ++ rest) codeGradeOffset grade ≡ resultBytes grade result ++ rest
@@ -34,16 +34,16 @@ unfolding codesGraded
 length-codes-graded results n = length-graded _ results n
 
 -- what bounds a portion grade bounds what stands for it where the code is another
-portion-if-low : (same : Bool) (portion highest : ℕ) → portion ≤ highest → cond same portion 0 ≤ highest
-portion-if-low true portion highest low = low
-portion-if-low false portion highest low = omega arith
+portion-if-low : (same : Bool) (portionGrade highest : ℕ) → portionGrade ≤ highest → cond same portionGrade 0 ≤ highest
+portion-if-low true portionGrade highest low = low
+portion-if-low false portionGrade highest low = omega arith
 
-pub worst-is-grade : (results : List ℕ) (code n : ℕ) → ((j : ℕ) → j < n → portionIn results j ≤ substandard)
+pub worst-is-grade : (results : List ℕ) (code n : ℕ) → ((j : ℕ) → j < n → portionGradeIn results j ≤ substandard)
     → worstIn results code n ≤ substandard
-unfolding worstIn portionIf
+unfolding worstIn portionGradeIf
 worst-is-grade results code zero grades = omega arith
 worst-is-grade results code (suc n) grades =
     let before : worstIn results code n ≤ substandard = worst-is-grade results code n (λ j below. grades j (omega arith)) in
-    let here : cond (eqb (codeIn results n) code) (portionIn results n) 0 ≤ substandard =
-    portion-if-low (eqb (codeIn results n) code) (portionIn results n) substandard (grades n (omega arith)) in
+    let here : cond (eqb (codeIn results n) code) (portionGradeIn results n) 0 ≤ substandard =
+    portion-if-low (eqb (codeIn results n) code) (portionGradeIn results n) substandard (grades n (omega arith)) in
     omega arith

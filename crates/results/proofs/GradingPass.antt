@@ -12,7 +12,8 @@ use lib.ListN.{length}
 use Rattle.rules.specs.Words.{substandard}
 use Rattle.rules.proofs.Tests.{or-false}
 use Rattle.results.specs.Record.{resultSize, codeIn, codeGradeIn}
-use Rattle.results.specs.Codes.{ungraded, worstIn, withCodeGrades, codesGraded, Ungraded, FirstMet, gradeWith}
+use Rattle.results.specs.Codes.{ungraded, worstIn, withCodeGrades, codesGraded, Ungraded}
+use Rattle.results.specs.OneCode.{FirstWithCode, gradeWith}
 use Rattle.results.proofs.Graded.{worst-is-grade, length-graded}
 use Rattle.results.proofs.CodeGrades.{code-kept, worst-kept, grade-written, nothing-written, same-written, written-over}
 
@@ -134,7 +135,7 @@ module _ {old : List ℕ} {n i : ℕ} {results : List ℕ} (start : (resultSize 
 
   -- its code is not graded yet
   module _ {code : ℕ} (own-code : code ≡ codeIn results i) where
-    pub first-met : codeGradeIn results i ≡ ungraded → FirstMet results code i n
+    pub first-met : codeGradeIn results i ≡ ungraded → FirstWithCode results code i n
     first-met not-graded =
         let not-met : met old (codeIn old i) i ≡ false =
         tells-not-met (met old (codeIn old i) i) (worstIn old (codeIn old i) n) (worst-is-grade old (codeIn old i) n (start .1 .portion-grade))

@@ -8,7 +8,7 @@ use native.Mathlib.Omega.{arith}
 use borrow.Author.Tests.{ltb-true, ltb-false, eqb-true, eqb-false}
 use lib.Dec.{ltb, eqb}
 use Rattle.results.specs.Record.{codeIn}
-use Rattle.results.specs.Codes.{NextWith}
+use Rattle.results.specs.OneCode.{NextWith}
 
 module _ {results : List ℕ} {code : ℕ} where
   -- no record is left

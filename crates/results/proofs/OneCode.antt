@@ -8,8 +8,9 @@ use native.Mathlib.Omega.{arith}
 use borrow.Author.Tests.{eq-eqb, ne-eqb}
 use lib.ListN.{length, set}
 use Rattle.rules.specs.Words.{worse}
-use Rattle.results.specs.Record.{resultSize, codeGradeOffset, codeIn, portionIn, codeGradeIn}
-use Rattle.results.specs.Codes.{portionIf, worstIn, withCodeGrades, FirstMet, NextWith, gradeWith}
+use Rattle.results.specs.Record.{resultSize, codeGradeOffset, codeIn, portionGradeIn, codeGradeIn}
+use Rattle.results.specs.Codes.{portionGradeIf, worstIn, withCodeGrades}
+use Rattle.results.specs.OneCode.{FirstWithCode, NextWith, gradeWith}
 use Rattle.results.proofs.Graded.{length-graded}
 use Rattle.results.proofs.CodeGrades.{code-kept, unchanged, nothing-between, nothing-written}
 
@@ -18,22 +19,22 @@ use Rattle.results.proofs.CodeGrades.{code-kept, unchanged, nothing-bet
 -- records of other codes
 worst-between : (results : List ℕ) (code from n : ℕ) → from ≤ n → ((j : ℕ) → from ≤ j → j < n → codeIn results j ≡ code → ⊥)
     → worstIn results code n ≡ worstIn results code from
-unfolding worstIn portionIf
+unfolding worstIn portionGradeIf
 worst-between results code from n behind none =
     unchanged (worstIn results code) from n behind (λ j later below. rw (ne-eqb (codeIn results j) code (none j later below)) (omega arith))
 
-pub worst-start : {results : List ℕ} {code first n : ℕ} → FirstMet results code first n → 0 ≡ worstIn results code first
+pub worst-start : {results : List ℕ} {code first n : ℕ} → FirstWithCode results code first n → 0 ≡ worstIn results code first
 unfolding worstIn
 worst-start {results} {code} {first} met = sym (worst-between results code 0 first (omega arith) (λ j _ below. met .none-before j below))
 
 -- a record of the code, and then the next
 pub worst-next : {results : List ℕ} {code n next : ℕ} (j : ℕ) → codeIn results j ≡ code → NextWith results code (j + 1) n next
-    → worse (worstIn results code j) (portionIn results j) ≡ worstIn results code next
-unfolding worstIn portionIf
+    → worse (worstIn results code j) (portionGradeIn results j) ≡ worstIn results code next
+unfolding worstIn portionGradeIf
 worst-next {results} {code} {n} {next} j own found =
     here ∙ sym (worst-between results code (j + 1) next (found .from-on) (found .none-between))
   where
-    here : worse (worstIn results code j) (portionIn results j) ≡ worstIn results code (j + 1)
+    here : worse (worstIn results code j) (portionGradeIn results j) ≡ worstIn results code (j + 1)
     here = rw (add-one j, eq-eqb (codeIn results j) code own)
 
 -- ---- its grade, written in the records before j, which has the code or is behind the last
@@ -53,7 +54,7 @@ unfolding gradeWith
 own-given old code grade j own = rw (eq-eqb (codeIn old j) code own)
 
 module _ {old : List ℕ} {code n : ℕ} where
-  pub written-start : {first : ℕ} (grade : ℕ) → FirstMet old code first n → Written old code grade n first old
+  pub written-start : {first : ℕ} (grade : ℕ) → FirstWithCode old code first n → Written old code grade n first old
   written-start {first} grade met =
       record {
         within = omega (arith, met .before-end);

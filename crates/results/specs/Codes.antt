@@ -4,22 +4,22 @@ use mathlib.Core.Path.{_≡_}
 use mathlib.Core.Bool.{cond}
 use mathlib.Core.List.{List}
 use lib.Dec.{eqb}
-use lib.ListN.{length, set}
+use lib.ListN.{set}
 use Rattle.rules.specs.Words.{worse, substandard}
-use Rattle.results.specs.Record.{resultSize, codeGradeOffset, codeIn, portionIn, codeGradeIn}
+use Rattle.results.specs.Record.{resultSize, codeGradeOffset, codeIn, portionGradeIn, codeGradeIn}
 
 -- stands for the code grade in a record whose code is not graded yet; no grade
 abbrev pub ungraded : ℕ
 ungraded = 255
 
 -- the portion grade of record j if it has this code, else the best
-unfoldable pub portionIf : List ℕ → ℕ → ℕ → ℕ
-portionIf results code j = cond (eqb (codeIn results j) code) (portionIn results j) 0
+unfoldable pub portionGradeIf : List ℕ → ℕ → ℕ → ℕ
+portionGradeIf results code j = cond (eqb (codeIn results j) code) (portionGradeIn results j) 0
 
 -- the worst portion grade among those of the first n records that have this code
 unfoldable pub worstIn : List ℕ → ℕ → ℕ → ℕ
 worstIn results code zero = 0
-worstIn results code (suc n) = worse (worstIn results code n) (portionIf results code n)
+worstIn results code (suc n) = worse (worstIn results code n) (portionGradeIf results code n)
 
 -- the buffer with a code grade stored in each of the first n records
 unfoldable pub withCodeGrades : (ℕ → ℕ) → List ℕ → ℕ → List ℕ
@@ -33,22 +33,4 @@ codesGraded results n = withCodeGrades (λ j. worstIn results (codeIn results j)
 -- n records as the writer leaves them: no code is graded yet, and each portion has a grade
 pub record Ungraded (results : List ℕ) (n : ℕ) : Type 0 where
   pub no-code-grade : (j : ℕ) → j < n → codeGradeIn results j ≡ ungraded
-  pub portion-grade : (j : ℕ) → j < n → portionIn results j ≤ substandard
-
--- n records inside the buffer, of which this one is the first that has this code
-pub record FirstMet (results : List ℕ) (code first n : ℕ) : Type 0 where
-  pub inside : resultSize * n ≤ length results
-  pub before-end : first < n
-  pub has-code : codeIn results first ≡ code
-  pub none-before : (j : ℕ) → j < first → codeIn results j ≡ code → ⊥
-
--- the first record from this one on that has this code, or n if none before n has
-pub record NextWith (results : List ℕ) (code from n next : ℕ) : Type 0 where
-  pub from-on : from ≤ next
-  pub at-most : next ≤ n
-  pub has-code : next < n → codeIn results next ≡ code
-  pub none-between : (j : ℕ) → from ≤ j → j < next → codeIn results j ≡ code → ⊥
-
--- the code grade of record j once this code has a grade
-unfoldable pub gradeWith : List ℕ → ℕ → ℕ → ℕ → ℕ
-gradeWith results code grade j = cond (eqb (codeIn results j) code) grade (codeGradeIn results j)
+  pub portion-grade : (j : ℕ) → j < n → portionGradeIn results j ≤ substandard

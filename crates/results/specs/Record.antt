@@ -15,14 +15,14 @@ resultSize = 16
 abbrev pub codeOffset : ℕ
 codeOffset = 2
 
-abbrev pub portionOffset : ℕ
-portionOffset = 4
+abbrev pub portionGradeOffset : ℕ
+portionGradeOffset = 4
 
 abbrev pub codeGradeOffset : ℕ
 codeGradeOffset = 5
 
-abbrev pub planOffset : ℕ
-planOffset = 6
+abbrev pub planGradeOffset : ℕ
+planGradeOffset = 6
 
 abbrev pub standingOffset : ℕ
 standingOffset = 7
@@ -49,15 +49,15 @@ resultBytes codeGrade result =
 abbrev pub codeIn : List ℕ → ℕ → ℕ
 codeIn results j = number results (resultSize * j + codeOffset)
 
-abbrev pub portionIn : List ℕ → ℕ → ℕ
-portionIn results j = byte results (resultSize * j + portionOffset)
+abbrev pub portionGradeIn : List ℕ → ℕ → ℕ
+portionGradeIn results j = byte results (resultSize * j + portionGradeOffset)
 
 abbrev pub codeGradeIn : List ℕ → ℕ → ℕ
 codeGradeIn results j = byte results (resultSize * j + codeGradeOffset)
 
 -- the grade of the plan in force, and the standing
-abbrev pub planIn : List ℕ → ℕ → ℕ
-planIn results j = byte results (resultSize * j + planOffset)
+abbrev pub planGradeIn : List ℕ → ℕ → ℕ
+planGradeIn results j = byte results (resultSize * j + planGradeOffset)
 
 abbrev pub standingIn : List ℕ → ℕ → ℕ
 standingIn results j = byte results (resultSize * j + standingOffset)

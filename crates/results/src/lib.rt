@@ -5,7 +5,8 @@ ghost use lib.ListN.{length};
 ghost use lib.Seq.{sets};
 ghost use Rattle.rules.specs.Words.{worse};
 ghost use Rattle.results.specs.Record.{resultSize, codeGradeOffset, resultBytes};
-ghost use Rattle.results.specs.Codes.{ungraded, worstIn, withCodeGrades, codesGraded, Ungraded, FirstMet, NextWith, gradeWith};
+ghost use Rattle.results.specs.Codes.{ungraded, worstIn, withCodeGrades, codesGraded, Ungraded};
+ghost use Rattle.results.specs.OneCode.{FirstWithCode, NextWith, gradeWith};
 use rules::Cusums;
 use rules::worse_of;
 
@@ -14,11 +15,11 @@ pub const RESULT_SIZE: usize = 16;
 
 pub const CODE_OFFSET: usize = 2;
 
-pub const PORTION_OFFSET: usize = 4;
+pub const PORTION_GRADE_OFFSET: usize = 4;
 
 pub const CODE_GRADE_OFFSET: usize = 5;
 
-pub const PLAN_OFFSET: usize = 6;
+pub const PLAN_GRADE_OFFSET: usize = 6;
 
 pub const STANDING_OFFSET: usize = 7;
 
@@ -150,13 +151,13 @@ fn next_with(results: &[u8], code: u16, from: usize, units: usize) -> usize
 
 // The worst portion grade of a code that is first met in this record.
 fn worst_from(results: &[u8], code: u16, first: usize, units: usize) -> u8
-    requires { ⌜ FirstMet (now results) code first units ⌝ }
+    requires { ⌜ FirstWithCode (now results) code first units ⌝ }
     ensures { λ r. ⌜ r ≡ worstIn (now (results .entry)) code units ⌝ }
 {
     let mut worst: u8 = 0;
     let mut j = first;
     while j < units {
-        worst = worse_of(worst, results[RESULT_SIZE * j + PORTION_OFFSET]);
+        worst = worse_of(worst, results[RESULT_SIZE * j + PORTION_GRADE_OFFSET]);
         j = next_with(results, code, j + 1, units);
     }
     worst
@@ -164,7 +165,7 @@ fn worst_from(results: &[u8], code: u16, first: usize, units: usize) -> u8
 
 // Stores the grade of a code that is first met in this record.
 fn write_code(results: &mut [u8], code: u16, grade: u8, first: usize, units: usize)
-    requires { ⌜ FirstMet (now results) code first units ⌝ }
+    requires { ⌜ FirstWithCode (now results) code first units ⌝ }
     ensures { λ _. ⌜ now (results .exit) ≡ withCodeGrades (gradeWith (now (results .entry)) code grade) (now (results .entry)) units ⌝ }
 {
     let mut j = first;

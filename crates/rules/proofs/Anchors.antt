@@ -10,9 +10,9 @@ use native.Mathlib.Omega.{arith}
 use lib.ListN.{length}
 use lib.IntN.{pos}
 use Rattle.cusum.specs.LargestForm.{largestForm}
-use Rattle.rules.specs.declared.Sample.{Sample}
-use Rattle.rules.specs.declared.Entry.the-variants.{SampleUnit}
-use Rattle.rules.specs.Words.{hasPlan, classes, limitsOf, countsOf}
+use Rattle.rules.specs.declared.SampleUnit.{SampleUnit}
+use Rattle.rules.specs.declared.Entry.the-variants.{UnitRecord}
+use Rattle.rules.specs.Words.{hasPlan, classes, numbersOf, countsOf}
 use Rattle.rules.specs.Unit.{classCusum}
 use Rattle.rules.specs.Sheet.{Sheet, before, inForceAt}
 use Rattle.rules.specs.Anchor.{anchorValue, countAt, restartAt, failureAt, countsFrom, Anchor, opening, restart, failure, Latest}
@@ -147,12 +147,12 @@ module _ (sheet : Sheet) (class : ℕ) where
       go f false e false r = kept i e r f
 
 -- THE FIRST HALF OF DEMAND 3, over records, with the anchor told by its place
-pub largest-form-by-place : (sheet : Sheet) (class : ℕ) → class < length classes → (i : ℕ) (unit : Sample) → sheet .entry i ≡ SampleUnit unit
+pub largest-form-by-place : (sheet : Sheet) (class : ℕ) → class < length classes → (i : ℕ) (unit : SampleUnit) → sheet .entry i ≡ UnitRecord unit
     → hasPlan (inForceAt sheet i) ≡ true → (from n : ℕ) (failed : Bool) → from + n ≡ suc i → Anchor sheet class i from failed → Latest sheet class i from →
-    let limits = limitsOf (sheet .table) (inForceAt sheet i) class in
+    let numbers = numbersOf (sheet .table) (inForceAt sheet i) class in
     pos (classCusum (sheet .table) (inForceAt sheet i) (before sheet i .cusums) (countsOf unit) class)
-    ≡ largestForm limits (anchorValue limits failed) (countsFrom sheet class from n)
+    ≡ largestForm numbers (anchorValue numbers failed) (countsFrom sheet class from n)
 largest-form-by-place sheet class in-range i unit e h from n failed q lies latest =
-    let limits = limitsOf (sheet .table) (inForceAt sheet i) class in
+    let numbers = numbersOf (sheet .table) (inForceAt sheet i) class in
     largest-form sheet class in-range i unit e h
-    ∙ ap (λ (t : Trail). largestForm limits (anchorValue limits (t .failed)) (t .counts)) (anchored sheet class i from n failed q lies latest)
+    ∙ ap (λ (t : Trail). largestForm numbers (anchorValue numbers (t .failed)) (t .counts)) (anchored sheet class i from n failed q lies latest)

@@ -8,16 +8,17 @@ use native.Mathlib.Omega.{arith}
 use lib.Dec.{ltb, leb}
 use borrow.Author.Tests.{leb-true, leb-false}
 use Rattle.cusum.specs.declared.Cusum.{Cusum}
-use Rattle.rules.specs.declared.Sample.{Sample}
+use Rattle.rules.specs.Conditions.{pick}
+use Rattle.rules.specs.declared.SampleUnit.{SampleUnit}
 use Rattle.rules.specs.declared.Entry.{Entry}
-use Rattle.rules.specs.declared.Entry.the-variants.{SampleUnit, Redesignation, Break}
+use Rattle.rules.specs.declared.Entry.the-variants.{UnitRecord, Redesignation, Break}
 use Rattle.rules.specs.declared.Previous.{Previous}
 use Rattle.rules.specs.declared.Previous.the-variants.{NoFailure, Failure}
 use Rattle.rules.specs.declared.Phase.{Phase}
 use Rattle.rules.specs.declared.Phase.the-variants.{Designated, StepThree}
 use Rattle.rules.specs.declared.State.{State}
 use Rattle.rules.specs.Words.{Table}
-use Rattle.rules.specs.StepThree.{pick, afterDesignated, endsStepThree, afterStepThree, phaseAfterUnit, phaseAfterRedesignation, phaseAfterBreak, unitEndsStepThree, opening, graded, phaseAfter, endsAt, stateWith, next}
+use Rattle.rules.specs.StepThree.{afterDesignated, endsStepThree, afterStepThree, phaseAfterUnit, phaseAfterRedesignation, phaseAfterBreak, unitEndsStepThree, opening, graded, phaseAfter, endsAt, stateWith, next}
 use Rattle.rules.specs.Sheet.{Sheet, before, stepThreeEnds, inFinishedRun}
 
 -- a phase is step 3 with this designated grade, lower grade and run
@@ -27,8 +28,8 @@ InStepThree (StepThree designated lower run) d l n = (designated ≡ d) × (lowe
 
 -- a record is a unit that qualifies in step 3, after so many in a row
 pub record Qualifying (table : Table) (state : State) (entry : Entry) (designated lower run : ℕ) : Type 0 where
-  pub unit : Sample
-  pub is-unit : entry ≡ SampleUnit unit
+  pub unit : SampleUnit
+  pub is-unit : entry ≡ UnitRecord unit
   pub in-step-three : InStepThree (state .phase) designated lower run
   pub qualifies : graded table state unit .qualifies ≡ true
 
@@ -42,7 +43,7 @@ after-designated d' (Failure earlier) true grade d l n h = omega (arith, h .2)
 
 after-step-three : (d' l' run : ℕ) (q : Bool) (d l n : ℕ) → InStepThree (afterStepThree d' l' run q) d l (suc n)
     → (q ≡ true) × (d' ≡ d) × (l' ≡ l) × (run ≡ n) × (run < 2)
-unfolding afterStepThree InStepThree pick
+unfolding afterStepThree endsStepThree InStepThree pick
 after-step-three d' l' run false d l n h = absurd (omega (arith, h .2))
 after-step-three d' l' run true d l n h = go (leb 2 run) refl h
   where
@@ -70,8 +71,8 @@ module _ (table : Table) where
       → InStepThree (phaseAfter table (record { phase = phase; cusums = cusums }) entry) d l (suc n)
       → Qualifying table (record { phase = phase; cusums = cusums }) entry d l n × (n < 2)
   unfolding phaseAfter phaseAfterUnit InStepThree
-  one-back (Designated designated previous) cusums (SampleUnit unit) d l n h = absurd (after-designated designated previous _ _ d l n h)
-  one-back (StepThree designated lower run) cusums (SampleUnit unit) d l n h =
+  one-back (Designated designated previous) cusums (UnitRecord unit) d l n h = absurd (after-designated designated previous _ _ d l n h)
+  one-back (StepThree designated lower run) cusums (UnitRecord unit) d l n h =
       let (q, e, f, r, b) = after-step-three designated lower run _ d l n h in
       (record { unit = unit; is-unit = refl; in-step-three = (e, f, r); qualifies = q }, omega arith)
   one-back phase cusums (Redesignation new) d l n h = absurd (after-redesignation phase new d l n h)
@@ -100,11 +101,11 @@ module _ (sheet : Sheet) where
   ends-unit : (phase : Phase) (cusums : List Cusum) (entry : Entry) → endsAt (sheet .table) (record { phase = phase; cusums = cusums }) entry ≡ true
       → (d : ℕ) × (l : ℕ) × (n : ℕ) × (2 ≤ n) × Qualifying (sheet .table) (record { phase = phase; cusums = cusums }) entry d l n
   unfolding endsAt unitEndsStepThree endsStepThree InStepThree
-  ends-unit (Designated designated previous) cusums (SampleUnit unit) e = absurd (false≢true e)
-  ends-unit (StepThree designated lower run) cusums (SampleUnit unit) e = go _ refl e
+  ends-unit (Designated designated previous) cusums (UnitRecord unit) e = absurd (false≢true e)
+  ends-unit (StepThree designated lower run) cusums (UnitRecord unit) e = go _ refl e
     where
       go : (q : Bool) → graded (sheet .table) (record { phase = StepThree designated lower run; cusums = cusums }) unit .qualifies ≡ q → (q && leb 2 run) ≡ true
-          → (d : ℕ) × (l : ℕ) × (n : ℕ) × (2 ≤ n) × Qualifying (sheet .table) (record { phase = StepThree designated lower run; cusums = cusums }) (SampleUnit unit) d l n
+          → (d : ℕ) × (l : ℕ) × (n : ℕ) × (2 ≤ n) × Qualifying (sheet .table) (record { phase = StepThree designated lower run; cusums = cusums }) (UnitRecord unit) d l n
       go true q e = (designated, lower, run, leb-true 2 run e, record { unit = unit; is-unit = refl; in-step-three = (refl, refl, refl); qualifies = q })
       go false q e = absurd (false≢true e)
   ends-unit phase cusums (Redesignation new) e = absurd (false≢true e)

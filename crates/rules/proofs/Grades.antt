@@ -9,27 +9,29 @@ use lib.Dec.{ltb, leb, eqb}
 use Rattle.cusum.specs.declared.Cusum.{Cusum}
 use Rattle.cusum.specs.Step.{newCusum}
 use Rattle.cusum.proofs.Laws.{new-cusum-le-limit}
-use Rattle.rules.specs.declared.Sample.{Sample}
+use Rattle.rules.specs.declared.SampleUnit.{SampleUnit}
 use Rattle.rules.specs.declared.Entry.{Entry}
-use Rattle.rules.specs.declared.Entry.the-variants.{SampleUnit, Redesignation, Break}
+use Rattle.rules.specs.declared.Entry.the-variants.{UnitRecord, Redesignation, Break}
 use Rattle.rules.specs.declared.Previous.{Previous}
 use Rattle.rules.specs.declared.Previous.the-variants.{NoFailure, Failure}
 use Rattle.rules.specs.declared.Phase.{Phase}
 use Rattle.rules.specs.declared.Phase.the-variants.{Designated, StepThree}
 use Rattle.rules.specs.declared.State.{State}
-use Rattle.rules.specs.Words.{substandard, hasPlan, Table, rowOf, limitsOf, countsOf, countIn, tenthsIn}
+use Rattle.rules.specs.Words.{substandard, hasPlan, Table, rowOf, numbersOf, countsOf, countIn, tenthsIn}
 use Rattle.rules.specs.Unit.{classCusum, unitFails, admits, bestLower, defectGrade}
-use Rattle.rules.specs.StepThree.{designatedIn, inForce, pick, afterDesignated, afterStepThree, phaseAfterUnit, phaseAfterRedesignation, phaseAfterBreak, opening, graded, phaseAfter, stateWith, next}
-use Rattle.rules.specs.Sheet.{Sheet, before, designatedBefore, inForceAt, gradedAt, recovered, portionOf, portion, portionWith, worstBefore, codeGrade}
+use Rattle.rules.specs.Conditions.{pick}
+use Rattle.rules.specs.StepThree.{designatedIn, inForce, afterDesignated, endsStepThree, afterStepThree, phaseAfterUnit, phaseAfterRedesignation, phaseAfterBreak, opening, graded, phaseAfter, stateWith, next}
+use Rattle.rules.specs.Unit.{portionGradeOf}
+use Rattle.rules.specs.Sheet.{Sheet, before, designatedBefore, inForceAt, gradedAt, recovered, portionGrade, portionGradeWith, worstBefore, codeGrade}
 
 -- a CuSum is at most its L
 pub class-cusum-le : (table : Table) (grade : ℕ) (cusums : List Cusum) (counts : List ℕ) (class : ℕ)
-    → classCusum table grade cusums counts class ≤ limitsOf table grade class .limit
+    → classCusum table grade cusums counts class ≤ numbersOf table grade class .limit
 unfolding classCusum
 class-cusum-le table grade cusums counts class = go (hasPlan grade)
   where
-    go : (b : Bool) → cond b (newCusum (limitsOf table grade class) (tenthsIn cusums class) (countIn counts class)) 0 ≤ limitsOf table grade class .limit
-    go true = new-cusum-le-limit (limitsOf table grade class) (tenthsIn cusums class) (countIn counts class)
+    go : (b : Bool) → cond b (newCusum (numbersOf table grade class) (tenthsIn cusums class) (countIn counts class)) 0 ≤ numbersOf table grade class .limit
+    go true = new-cusum-le-limit (numbersOf table grade class) (tenthsIn cusums class) (countIn counts class)
     go false = omega arith
 
 choice-le : (b : Bool) (x y n : ℕ) → x ≤ n → y ≤ n → cond b x y ≤ n
@@ -74,7 +76,7 @@ after-designated d NoFailure true grade h p g = (h, g)
 after-designated d (Failure earlier) true grade h p g = (h, omega arith)
 
 after-step-three : (d l run : ℕ) (q : Bool) → d ≤ 2 → l ≤ substandard → Bounded (afterStepThree d l run q)
-unfolding afterStepThree Bounded failure-at-most pick
+unfolding afterStepThree endsStepThree Bounded failure-at-most pick
 after-step-three d l run false h k = (h, k)
 after-step-three d l run true h k = go (leb 2 run)
   where
@@ -98,11 +100,11 @@ after-break (StepThree designated lower run) h = h
 
 -- a redesignation names A, B or C
 unfoldable pub NewGrade : Entry → Type 0
-NewGrade (SampleUnit unit) = Unit {0}
+NewGrade (UnitRecord unit) = Unit {0}
 NewGrade (Redesignation new) = new ≤ 2
 NewGrade Break = Unit {0}
 
-after-unit : (table : Table) (phase : Phase) (cusums : List Cusum) (unit : Sample) → Bounded phase
+after-unit : (table : Table) (phase : Phase) (cusums : List Cusum) (unit : SampleUnit) → Bounded phase
     → Bounded (phaseAfterUnit phase (graded table (record { phase = phase; cusums = cusums }) unit))
 unfolding phaseAfterUnit graded inForce designatedIn Bounded
 after-unit table (Designated designated previous) cusums unit h =
@@ -111,7 +113,7 @@ after-unit table (StepThree designated lower run) cusums unit h = after-step-thr
 
 after-entry : (table : Table) (state : State) (entry : Entry) → NewGrade entry → Bounded (state .phase) → Bounded (phaseAfter table state entry)
 unfolding phaseAfter NewGrade
-after-entry table state (SampleUnit unit) n h = after-unit table (state .phase) (state .cusums) unit h
+after-entry table state (UnitRecord unit) n h = after-unit table (state .phase) (state .cusums) unit h
 after-entry table state (Redesignation new) n h = after-redesignation (state .phase) new n h
 after-entry table state Break n h = after-break (state .phase) h
 
@@ -129,8 +131,8 @@ module _ (sheet : Sheet) (designated : sheet .designated ≤ 2) (new-grades : (i
   in-force-at-most i = in-force-bounded (before sheet i .phase) (bounded i)
 
   -- portion grades are at most 3
-  pub portion-at-most : (i : ℕ) (unit : Sample) → unit .prerequisite ≤ substandard → portion sheet i unit ≤ substandard
-  unfolding portion portionOf graded
+  pub portion-at-most : (i : ℕ) (unit : SampleUnit) → unit .prerequisite ≤ substandard → portionGrade sheet i unit ≤ substandard
+  unfolding portionGrade portionGradeOf graded
   portion-at-most i unit h =
       let d = designated-at-most i in
       let g = defect-grade-at-most (sheet .table) (inForceAt sheet i) (before sheet i .cusums) (countsOf unit) (in-force-at-most i) in
@@ -138,12 +140,12 @@ module _ (sheet : Sheet) (designated : sheet .designated ≤ 2) (new-grades : (i
       omega arith
 
   -- and so are code grades
-  pub code-grade-at-most : ((i : ℕ) (unit : Sample) → sheet .entry i ≡ SampleUnit unit → unit .prerequisite ≤ substandard) → (code : ℕ) → codeGrade sheet code ≤ substandard
-  unfolding codeGrade portionWith worstBefore
+  pub code-grade-at-most : ((i : ℕ) (unit : SampleUnit) → sheet .entry i ≡ UnitRecord unit → unit .prerequisite ≤ substandard) → (code : ℕ) → codeGrade sheet code ≤ substandard
+  unfolding codeGrade portionGradeWith worstBefore
   code-grade-at-most prerequisites code = worst (sheet .size)
     where
-      one : (i : ℕ) (entry : Entry) → sheet .entry i ≡ entry → portionWith sheet code i entry ≤ 3
-      one i (SampleUnit unit) e = choice-le (eqb (unit .code) code) (portion sheet i unit) 0 3 (portion-at-most i unit (prerequisites i unit e)) (omega arith)
+      one : (i : ℕ) (entry : Entry) → sheet .entry i ≡ entry → portionGradeWith sheet code i entry ≤ 3
+      one i (UnitRecord unit) e = choice-le (eqb (unit .code) code) (portionGrade sheet i unit) 0 3 (portion-at-most i unit (prerequisites i unit e)) (omega arith)
       one i (Redesignation new) e = omega arith
       one i Break e = omega arith
 

@@ -9,23 +9,24 @@ use lib.Dec.{ltb}
 use lib.ListN.{length}
 use lib.IntN.{pos}
 use Rattle.cusum.specs.declared.Cusum.{Cusum}
-use Rattle.cusum.specs.declared.Limits.{Limits}
+use Rattle.cusum.specs.declared.PlanNumbers.{PlanNumbers}
 use Rattle.cusum.specs.Step.{fails, newCusum}
 use Rattle.cusum.specs.LargestForm.{largestForm}
 use Rattle.cusum.proofs.Laws.{failed-at}
 use Rattle.cusum.proofs.Runs.{after, Meets, after-snoc, meets-snoc, run-largest}
-use Rattle.rules.specs.declared.Sample.{Sample}
+use Rattle.rules.specs.declared.SampleUnit.{SampleUnit}
 use Rattle.rules.specs.declared.Grading.{Grading}
 use Rattle.rules.specs.declared.Entry.{Entry}
-use Rattle.rules.specs.declared.Entry.the-variants.{SampleUnit, Redesignation, Break}
+use Rattle.rules.specs.declared.Entry.the-variants.{UnitRecord, Redesignation, Break}
 use Rattle.rules.specs.declared.Previous.{Previous}
 use Rattle.rules.specs.declared.Previous.the-variants.{NoFailure, Failure}
 use Rattle.rules.specs.declared.Phase.{Phase}
 use Rattle.rules.specs.declared.Phase.the-variants.{Designated, StepThree}
 use Rattle.rules.specs.declared.State.{State}
-use Rattle.rules.specs.Words.{hasPlan, classes, Table, rowOf, limitsOf, countsOf, countIn, tenthsIn}
+use Rattle.rules.specs.Words.{hasPlan, classes, Table, rowOf, numbersOf, countsOf, countIn, tenthsIn}
 use Rattle.rules.specs.Unit.{starting, classFails, classCusum, newCusums}
-use Rattle.rules.specs.StepThree.{inForce, pick, afterDesignated, endsStepThree, afterStepThree, phaseAfterUnit, phaseAfterRedesignation, unitEndsStepThree, unitStartsStepThree, unitRestarts, redesignationRestarts, opening, graded, phaseAfter, restarts, cusumsAfter, stateWith, next}
+use Rattle.rules.specs.Conditions.{pick}
+use Rattle.rules.specs.StepThree.{inForce, afterDesignated, endsStepThree, afterStepThree, phaseAfterUnit, phaseAfterRedesignation, unitEndsStepThree, unitStartsStepThree, unitRestarts, redesignationRestarts, opening, graded, phaseAfter, restarts, cusumsAfter, stateWith, next}
 use Rattle.rules.specs.Sheet.{Sheet, before, inForceAt}
 use Rattle.rules.specs.Anchor.{failsAt, countAt, anchorValue}
 
@@ -96,7 +97,7 @@ stays-redesignated (StepThree designated lower run) new e = go (ltb new lower) e
 
 pub stays : (table : Table) (state : State) (entry : Entry) → restarts table state entry ≡ false → inForce (phaseAfter table state entry) ≡ inForce (state .phase)
 unfolding restarts phaseAfter
-stays table state (SampleUnit unit) h = stays-unit (state .phase) _ h
+stays table state (UnitRecord unit) h = stays-unit (state .phase) _ h
 stays table state (Redesignation new) h = stays-redesignated (state .phase) new h
 stays table state Break h = absurd (true≢false h)
 
@@ -111,45 +112,45 @@ at-class f (suc (suc (suc (suc k)))) h = absurd (omega arith)
 
 -- ---- the CuSum is what a run of steps from the anchor gives
 
--- a value of a class at its limits: reached from the anchor by the counts since it, none of which failed
-abbrev Reached : Limits → ℕ → Trail → Type 0
-Reached limits value trail =
-    (value ≡ after limits (anchorValue limits (trail .failed)) (trail .counts)) × Meets limits (anchorValue limits (trail .failed)) (trail .counts)
+-- a value of a class at its numbers: reached from the anchor by the counts since it, none of which failed
+abbrev Reached : PlanNumbers → ℕ → Trail → Type 0
+Reached numbers value trail =
+    (value ≡ after numbers (anchorValue numbers (trail .failed)) (trail .counts)) × Meets numbers (anchorValue numbers (trail .failed)) (trail .counts)
 
 -- where there is a plan, so it is with the CuSum before a record
 abbrev Held : Table → ℕ → ℕ → List Cusum → Trail → Type 0
-Held table class grade cusums trail = hasPlan grade ≡ true → Reached (limitsOf table grade class) (tenthsIn cusums class) trail
+Held table class grade cusums trail = hasPlan grade ≡ true → Reached (numbersOf table grade class) (tenthsIn cusums class) trail
 
-one-unit : (limits : Limits) (value count : ℕ) (trail : Trail) → Reached limits value trail → (b : Bool) → fails limits value count ≡ b
-    → Reached limits (newCusum limits value count) (cond b failedHere (record { failed = trail .failed; counts = trail .counts ++ count ∷ [] }))
+one-unit : (numbers : PlanNumbers) (value count : ℕ) (trail : Trail) → Reached numbers value trail → (b : Bool) → fails numbers value count ≡ b
+    → Reached numbers (newCusum numbers value count) (cond b failedHere (record { failed = trail .failed; counts = trail .counts ++ count ∷ [] }))
 unfolding after Meets anchorValue
-one-unit limits value count trail r true e = (failed-at limits value count e, tt)
-one-unit limits value count trail r false e = (
-  ap (λ (x : ℕ). newCusum limits x count) (r .0) ∙ sym (after-snoc limits _ (trail .counts) count),
-  meets-snoc limits _ (trail .counts) count (r .1) (ap (λ (x : ℕ). fails limits x count) (sym (r .0)) ∙ e),
+one-unit numbers value count trail r true e = (failed-at numbers value count e, tt)
+one-unit numbers value count trail r false e = (
+  ap (λ (x : ℕ). newCusum numbers x count) (r .0) ∙ sym (after-snoc numbers _ (trail .counts) count),
+  meets-snoc numbers _ (trail .counts) count (r .1) (ap (λ (x : ℕ). fails numbers x count) (sym (r .0)) ∙ e),
 )
 
 module _ (table : Table) (class : ℕ) (in-range : class < length classes) where
   -- after a unit under a plan, before any restart
-  at-unit : (phase : Phase) (cusums : List Cusum) (unit : Sample) (trail : Trail) → hasPlan (inForce phase) ≡ true → Held table class (inForce phase) cusums trail
-      → Reached (limitsOf table (inForce phase) class) (classCusum table (inForce phase) cusums (countsOf unit) class)
-      (trailWith table class (record { phase = phase; cusums = cusums }) (SampleUnit unit) trail)
+  at-unit : (phase : Phase) (cusums : List Cusum) (unit : SampleUnit) (trail : Trail) → hasPlan (inForce phase) ≡ true → Held table class (inForce phase) cusums trail
+      → Reached (numbersOf table (inForce phase) class) (classCusum table (inForce phase) cusums (countsOf unit) class)
+      (trailWith table class (record { phase = phase; cusums = cusums }) (UnitRecord unit) trail)
   unfolding classCusum trailWith failsAt countAt classFails
   at-unit phase cusums unit trail h held =
-      rw h (one-unit (limitsOf table (inForce phase) class) (tenthsIn cusums class) (countIn (countsOf unit) class) trail (held h) _ refl)
+      rw h (one-unit (numbersOf table (inForce phase) class) (tenthsIn cusums class) (countIn (countsOf unit) class) trail (held h) _ refl)
 
   -- after a record that brings no restart
   at-entry : (state : State) (entry : Entry) (trail : Trail) → hasPlan (inForce (state .phase)) ≡ true → Held table class (inForce (state .phase)) (state .cusums) trail
-      → Reached (limitsOf table (inForce (state .phase)) class) (tenthsIn (cusumsAfter table state entry) class) (trailWith table class state entry trail)
+      → Reached (numbersOf table (inForce (state .phase)) class) (tenthsIn (cusumsAfter table state entry) class) (trailWith table class state entry trail)
   unfolding cusumsAfter graded newCusums trailWith failsAt countAt
-  at-entry state (SampleUnit unit) trail h held =
+  at-entry state (UnitRecord unit) trail h held =
       rw (at-class (classCusum table (inForce (state .phase)) (state .cusums) (countsOf unit)) class in-range) (at-unit (state .phase) (state .cusums) unit trail h held)
   at-entry state (Redesignation new) trail h held = rw append-nil (held h)
   at-entry state Break trail h held = rw append-nil (held h)
 
-  starts-at : (grade : ℕ) → tenthsIn (starting (rowOf table grade)) class ≡ limitsOf table grade class .start
+  starts-at : (grade : ℕ) → tenthsIn (starting (rowOf table grade)) class ≡ numbersOf table grade class .start
   unfolding starting
-  starts-at grade = at-class (λ k. limitsOf table grade k .start) class in-range
+  starts-at grade = at-class (λ k. numbersOf table grade k .start) class in-range
 
   at-next : (state : State) (entry : Entry) (trail : Trail) → Held table class (inForce (state .phase)) (state .cusums) trail → (b : Bool) → restarts table state entry ≡ b
       → Held table class (inForce (phaseAfter table state entry)) (pick b (starting (rowOf table (inForce (phaseAfter table state entry)))) (cusumsAfter table state entry))
@@ -157,7 +158,7 @@ module _ (table : Table) (class : ℕ) (in-range : class < length classes) where
   unfolding after Meets anchorValue pick
   at-next state entry trail held true eq h = (starts-at (inForce (phaseAfter table state entry)), tt)
   at-next state entry trail held false eq h =
-      subst (λ (grade : ℕ). Reached (limitsOf table grade class) (tenthsIn (cusumsAfter table state entry) class) (trailWith table class state entry trail)) (sym (stays table state entry eq))
+      subst (λ (grade : ℕ). Reached (numbersOf table grade class) (tenthsIn (cusumsAfter table state entry) class) (trailWith table class state entry trail)) (sym (stays table state entry eq))
       (at-entry state entry trail (rw (stays table state entry eq) at h) held)
 
 module _ (sheet : Sheet) (class : ℕ) (in-range : class < length classes) where
@@ -167,10 +168,10 @@ module _ (sheet : Sheet) (class : ℕ) (in-range : class < length classes) where
   held-before (suc i) h = at-next (sheet .table) class in-range (before sheet i) (sheet .entry i) (trailBefore sheet class i) (held-before i) _ refl h
 
   -- THE FIRST HALF OF DEMAND 3, over records
-  pub largest-form : (i : ℕ) (unit : Sample) → sheet .entry i ≡ SampleUnit unit → hasPlan (inForceAt sheet i) ≡ true →
-      let limits = limitsOf (sheet .table) (inForceAt sheet i) class in
+  pub largest-form : (i : ℕ) (unit : SampleUnit) → sheet .entry i ≡ UnitRecord unit → hasPlan (inForceAt sheet i) ≡ true →
+      let numbers = numbersOf (sheet .table) (inForceAt sheet i) class in
       pos (classCusum (sheet .table) (inForceAt sheet i) (before sheet i .cusums) (countsOf unit) class)
-      ≡ largestForm limits (anchorValue limits (trailAt sheet class i .failed)) (trailAt sheet class i .counts)
+      ≡ largestForm numbers (anchorValue numbers (trailAt sheet class i .failed)) (trailAt sheet class i .counts)
   largest-form i unit e h =
       let r = at-unit (sheet .table) class in-range (before sheet i .phase) (before sheet i .cusums) unit (trailBefore sheet class i) h (held-before i) in
       rw e (ap pos (r .0) ∙ run-largest _ _ _ (r .1))

@@ -8,16 +8,16 @@ use native.Mathlib.Omega.{arith}
 use lib.Dec.{ltb, leb}
 use borrow.Author.Tests.{leb-true, le-leb, le-ltb}
 use Rattle.cusum.specs.declared.Cusum.{Cusum}
-use Rattle.cusum.specs.declared.Limits.{Limits}
+use Rattle.cusum.specs.declared.PlanNumbers.{PlanNumbers}
 use Rattle.cusum.specs.Step.{fails, newCusum}
 use Rattle.cusum.proofs.Laws.{new-cusum-mono, fails-mono}
-use Rattle.rules.specs.declared.Sample.{Sample}
-use Rattle.rules.specs.Words.{substandard, hasPlan, classes, Table, rowOf, inClass, limitsOf, countsOf, countIn, tenthsIn}
+use Rattle.rules.specs.declared.SampleUnit.{SampleUnit}
+use Rattle.rules.specs.Words.{substandard, hasPlan, classes, Table, rowOf, inClass, numbersOf, countsOf, countIn, tenthsIn}
 use Rattle.rules.specs.Unit.{classFails, classCusum, newCusums, unitFails, admits, bestLower, defectGrade}
 use Rattle.rules.proofs.Tests.{any-mono, all-mono}
 
 -- no count of the first unit exceeds its fellow in the second
-pub record Fewer (u v : Sample) : Type 0 where
+pub record Fewer (u v : SampleUnit) : Type 0 where
   pub critical : u .critical ≤ v .critical
   pub severe : u .severe ≤ v .severe
   pub major : u .major ≤ v .major
@@ -27,7 +27,7 @@ pub record Fewer (u v : Sample) : Type 0 where
 abbrev pub NoMore : List ℕ → List ℕ → Type 0
 NoMore counts counts' = (class : ℕ) → countIn counts class ≤ countIn counts' class
 
-pub counts-fewer : (u v : Sample) → Fewer u v → NoMore (countsOf u) (countsOf v)
+pub counts-fewer : (u v : SampleUnit) → Fewer u v → NoMore (countsOf u) (countsOf v)
 counts-fewer u v f zero = f .critical
 counts-fewer u v f (suc zero) = f .severe
 counts-fewer u v f (suc (suc zero)) = f .major
@@ -52,9 +52,9 @@ module _ (table : Table) (grade : ℕ) (cusums cusums' : List Cusum) (counts cou
   unfolding classCusum
   class-cusum-mono class = go (hasPlan grade)
     where
-      go : (b : Bool) → cond b (newCusum (limitsOf table grade class) (tenthsIn cusums class) (countIn counts class)) 0
-          ≤ cond b (newCusum (limitsOf table grade class) (tenthsIn cusums' class) (countIn counts' class)) 0
-      go true = new-cusum-mono (limitsOf table grade class) _ _ _ _ (lower class) (fewer class)
+      go : (b : Bool) → cond b (newCusum (numbersOf table grade class) (tenthsIn cusums class) (countIn counts class)) 0
+          ≤ cond b (newCusum (numbersOf table grade class) (tenthsIn cusums' class) (countIn counts' class)) 0
+      go true = new-cusum-mono (numbersOf table grade class) _ _ _ _ (lower class) (fewer class)
       go false = omega arith
 
   pub cusums-mono : NoHigher (newCusums table grade cusums counts) (newCusums table grade cusums' counts')
@@ -65,9 +65,9 @@ module _ (table : Table) (grade : ℕ) (cusums cusums' : List Cusum) (counts cou
   unfolding classFails
   class-fails-mono class = go (hasPlan grade)
     where
-      go : (b : Bool) → (b && fails (limitsOf table grade class) (tenthsIn cusums class) (countIn counts class)) ≡ true
-          → (b && fails (limitsOf table grade class) (tenthsIn cusums' class) (countIn counts' class)) ≡ true
-      go true e = fails-mono (limitsOf table grade class) _ _ _ _ (lower class) (fewer class) e
+      go : (b : Bool) → (b && fails (numbersOf table grade class) (tenthsIn cusums class) (countIn counts class)) ≡ true
+          → (b && fails (numbersOf table grade class) (tenthsIn cusums' class) (countIn counts' class)) ≡ true
+      go true e = fails-mono (numbersOf table grade class) _ _ _ _ (lower class) (fewer class) e
       go false e = e
 
   pub unit-fails-mono : unitFails table grade cusums counts ≡ true → unitFails table grade cusums' counts' ≡ true
@@ -77,7 +77,7 @@ module _ (table : Table) (grade : ℕ) (cusums cusums' : List Cusum) (counts cou
 -- ---- grades
 
 module _ (counts counts' : List ℕ) (fewer : NoMore counts counts') where
-  pub admits-mono : (row : List Limits) → admits row counts' ≡ true → admits row counts ≡ true
+  pub admits-mono : (row : List PlanNumbers) → admits row counts' ≡ true → admits row counts ≡ true
   unfolding admits
   admits-mono row e = all-mono _ _ step classes e
     where

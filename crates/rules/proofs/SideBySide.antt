@@ -7,10 +7,10 @@ use mathlib.Core.List.{List}
 use native.Mathlib.Omega.{arith}
 use lib.Dec.{eqb}
 use Rattle.cusum.specs.declared.Cusum.{Cusum}
-use Rattle.rules.specs.declared.Sample.{Sample}
+use Rattle.rules.specs.declared.SampleUnit.{SampleUnit}
 use Rattle.rules.specs.declared.Grading.{Grading}
 use Rattle.rules.specs.declared.Entry.{Entry}
-use Rattle.rules.specs.declared.Entry.the-variants.{SampleUnit, Redesignation, Break}
+use Rattle.rules.specs.declared.Entry.the-variants.{UnitRecord, Redesignation, Break}
 use Rattle.rules.specs.declared.Previous.{Previous}
 use Rattle.rules.specs.declared.Previous.the-variants.{NoFailure, Failure}
 use Rattle.rules.specs.declared.Phase.{Phase}
@@ -18,8 +18,10 @@ use Rattle.rules.specs.declared.Phase.the-variants.{Designated, StepThre
 use Rattle.rules.specs.declared.State.{State}
 use Rattle.rules.specs.Words.{substandard, Table, rowOf, countsOf}
 use Rattle.rules.specs.Unit.{starting, classCusum, gradingOf}
-use Rattle.rules.specs.StepThree.{designatedIn, inForce, pick, afterDesignated, phaseAfterUnit, phaseAfterBreak, unitEndsStepThree, unitStartsStepThree, unitRestarts, opening, graded, phaseAfter, endsAt, restarts, cusumsAfter, stateWith, next}
-use Rattle.rules.specs.Sheet.{Sheet, before, inForceAt, stepThreeEnds, inFinishedRun, recovered, portionOf, portion, portionWith, worstBefore, codeGrade}
+use Rattle.rules.specs.Conditions.{pick}
+use Rattle.rules.specs.StepThree.{designatedIn, inForce, afterDesignated, phaseAfterUnit, phaseAfterBreak, unitEndsStepThree, unitStartsStepThree, unitRestarts, opening, graded, phaseAfter, endsAt, restarts, cusumsAfter, stateWith, next}
+use Rattle.rules.specs.Unit.{portionGradeOf}
+use Rattle.rules.specs.Sheet.{Sheet, before, inForceAt, stepThreeEnds, inFinishedRun, recovered, portionGrade, portionGradeWith, worstBefore, codeGrade}
 use Rattle.rules.specs.Anchor.{failsAt, failureAt}
 use Rattle.rules.specs.TwoInARow.{failsDesignated, failedUnit, failedBefore, secondInARow}
 use Rattle.rules.proofs.Tests.{and-false}
@@ -28,7 +30,7 @@ use Rattle.rules.proofs.Monotone.{Fewer, counts-fewer, NoHigher, same-n
 -- ---- what is compared
 
 -- two units alike but for the counts, none of which exceeds its fellow in the second
-pub record UnitBelow (u v : Sample) : Type 0 where
+pub record UnitBelow (u v : SampleUnit) : Type 0 where
   pub same-code : u .code ≡ v .code
   pub fewer : Fewer u v
   pub same-prerequisite : u .prerequisite ≡ v .prerequisite
@@ -36,19 +38,19 @@ pub record UnitBelow (u v : Sample) : Type 0 where
 
 -- two records
 unfoldable pub Below : Entry → Entry → Type 0
-Below (SampleUnit u) (SampleUnit v) = UnitBelow u v
-Below (SampleUnit u) (Redesignation new) = ⊥
-Below (SampleUnit u) Break = ⊥
-Below (Redesignation new) (SampleUnit v) = ⊥
+Below (UnitRecord u) (UnitRecord v) = UnitBelow u v
+Below (UnitRecord u) (Redesignation new) = ⊥
+Below (UnitRecord u) Break = ⊥
+Below (Redesignation new) (UnitRecord v) = ⊥
 Below (Redesignation new) (Redesignation new') = new ≡ new'
 Below (Redesignation new) Break = ⊥
-Below Break (SampleUnit v) = ⊥
+Below Break (UnitRecord v) = ⊥
 Below Break (Redesignation new) = ⊥
 Below Break Break = Unit {0}
 
 -- no redesignation
 unfoldable pub NoRedesignation : Entry → Type 0
-NoRedesignation (SampleUnit u) = Unit {0}
+NoRedesignation (UnitRecord u) = Unit {0}
 NoRedesignation (Redesignation new) = ⊥
 NoRedesignation Break = Unit {0}
 
@@ -110,15 +112,15 @@ module _ (table : Table) where
       → let t = next table (state (Designated d p) cs) e in let t' = next table (state (Designated d p') cs') e' in
       Both d (failsDesignated table (Designated d p') cs' e') (t .phase) (t' .phase) × NoHigher (t .cusums) (t' .cusums)
   unfolding Below NoRedesignation next stateWith phaseAfter phaseAfterUnit phaseAfterBreak restarts cusumsAfter graded designatedIn inForce failsDesignated Both failed pick
-  same-next d p p' cs cs' b (SampleUnit u) (SampleUnit v) m n l w o two =
+  same-next d p p' cs cs' b (UnitRecord u) (UnitRecord v) m n l w o two =
       let fewer = counts-fewer u v (w .fewer) in
       units-beside d (gradingOf table d d cs (countsOf u)) (gradingOf table d d cs' (countsOf v)) _ _ _ _
       (cusums-mono table d cs cs' (countsOf u) (countsOf v) l fewer) p p' _ _ refl refl
       (unit-fails-mono table d cs cs' (countsOf u) (countsOf v) l fewer) m (λ h. and-then-false b _ two (n h))
   same-next d p p' cs cs' b Break Break m n l w o two = ((refl, refl, λ e. e, λ e. absurd (false≢true e)), same-no-higher (starting (rowOf table d)))
-  same-next d p p' cs cs' b (SampleUnit u) Break m n l w o two = absurd w
-  same-next d p p' cs cs' b (SampleUnit u) (Redesignation g) m n l w o two = absurd w
-  same-next d p p' cs cs' b Break (SampleUnit u) m n l w o two = absurd w
+  same-next d p p' cs cs' b (UnitRecord u) Break m n l w o two = absurd w
+  same-next d p p' cs cs' b (UnitRecord u) (Redesignation g) m n l w o two = absurd w
+  same-next d p p' cs cs' b Break (UnitRecord u) m n l w o two = absurd w
   same-next d p p' cs cs' b Break (Redesignation g) m n l w o two = absurd w
   same-next d p p' cs cs' b (Redesignation g) e' m n l w o two = absurd o
 
@@ -161,14 +163,14 @@ module _ (table : Table) (designated : ℕ) (es fs : ℕ → Entry) (size : ℕ)
   both-in-force x b (StepThree d lower run) phase' h = absurd h
 
   -- THE SECOND HALF OF DEMAND 3, over records: CuSums and failures
-  pub fewer-cusums : (i : ℕ) (u v : Sample) → es i ≡ SampleUnit u → fs i ≡ SampleUnit v
+  pub fewer-cusums : (i : ℕ) (u v : SampleUnit) → es i ≡ UnitRecord u → fs i ≡ UnitRecord v
       → ((j : ℕ) → j < i → secondInARow second j ≡ false) → (class : ℕ)
       → (classCusum table (inForceAt first i) (before first i .cusums) (countsOf u) class ≤ classCusum table (inForceAt second i) (before second i .cusums) (countsOf v) class)
       × (failureAt first class i ≡ true → failureAt second class i ≡ true)
   unfolding Below failureAt failsAt
   fewer-cusums i u v eu ev h class =
       let b = together i h in
-      let w : Below (SampleUnit u) (SampleUnit v) = subst₂ Below eu ev (fellows i) in
+      let w : Below (UnitRecord u) (UnitRecord v) = subst₂ Below eu ev (fellows i) in
       let g = both-in-force designated (failedBefore second i) (before first i .phase) (before second i .phase) (b .0) in
       let fewer = counts-fewer u v (w .fewer) in
       rw (eu, ev, ← g .0, ← g .1)
@@ -185,7 +187,7 @@ module _ (table : Table) (designated : ℕ) (es fs : ℕ → Entry) (size : ℕ)
 
   no-end : (s : State) (e : Entry) → ((g : Grading) → unitEndsStepThree (s .phase) g ≡ false) → endsAt table s e ≡ false
   unfolding endsAt
-  no-end s (SampleUnit u) h = h _
+  no-end s (UnitRecord u) h = h _
   no-end s (Redesignation g) h = refl
   no-end s Break h = refl
 
@@ -201,16 +203,16 @@ module _ (table : Table) (designated : ℕ) (es fs : ℕ → Entry) (size : ℕ)
     unfolding stepThreeEnds
     ends-second i = no-end (before second i) (fs i) (λ g. both-stay designated (failedBefore second i) g g (before first i .phase) (before second i .phase) (always i .0) .1)
 
-    recovered-first : (i : ℕ) (u : Sample) → recovered first i u ≡ false
+    recovered-first : (i : ℕ) (u : SampleUnit) → recovered first i u ≡ false
     unfolding recovered inFinishedRun
     recovered-first i u = simp (ends-first i, ends-first (i + 1), ends-first (i + 2)) (and-false (u .recoverable))
 
-    recovered-second : (i : ℕ) (v : Sample) → recovered second i v ≡ false
+    recovered-second : (i : ℕ) (v : SampleUnit) → recovered second i v ≡ false
     unfolding recovered inFinishedRun
     recovered-second i v = simp (ends-second i, ends-second (i + 1), ends-second (i + 2)) (and-false (v .recoverable))
 
-    portion-mono : (i : ℕ) (u v : Sample) → UnitBelow u v → portion first i u ≤ portion second i v
-    unfolding portion portionOf graded
+    portion-mono : (i : ℕ) (u v : SampleUnit) → UnitBelow u v → portionGrade first i u ≤ portionGrade second i v
+    unfolding portionGrade portionGradeOf graded
     portion-mono i u v w =
         let g = both-in-force designated (failedBefore second i) (before first i .phase) (before second i .phase) (always i .0) in
         rw (recovered-first i u, recovered-second i v, ← g .0, ← g .1)
@@ -220,20 +222,20 @@ module _ (table : Table) (designated : ℕ) (es fs : ℕ → Entry) (size : ℕ)
           defect-grade-mono table designated (before first i .cusums) (before second i .cusums) (countsOf u) (countsOf v) (always i .1) (counts-fewer u v (w .fewer)) graded-designated,
         ))
 
-    portion-with-mono : (code i : ℕ) (e e' : Entry) → Below e e' → portionWith first code i e ≤ portionWith second code i e'
-    unfolding portionWith Below
-    portion-with-mono code i (SampleUnit u) (SampleUnit v) w =
-        subst⁻¹ (λ (x : ℕ). cond (eqb x code) (portion first i u) 0 ≤ cond (eqb (v .code) code) (portion second i v) 0) (w .same-code) (go (eqb (v .code) code))
+    portion-with-mono : (code i : ℕ) (e e' : Entry) → Below e e' → portionGradeWith first code i e ≤ portionGradeWith second code i e'
+    unfolding portionGradeWith Below
+    portion-with-mono code i (UnitRecord u) (UnitRecord v) w =
+        subst⁻¹ (λ (x : ℕ). cond (eqb x code) (portionGrade first i u) 0 ≤ cond (eqb (v .code) code) (portionGrade second i v) 0) (w .same-code) (go (eqb (v .code) code))
       where
-        go : (b : Bool) → cond b (portion first i u) 0 ≤ cond b (portion second i v) 0
+        go : (b : Bool) → cond b (portionGrade first i u) 0 ≤ cond b (portionGrade second i v) 0
         go true = portion-mono i u v w
         go false = omega arith
-    portion-with-mono code i (SampleUnit u) Break w = absurd w
-    portion-with-mono code i (SampleUnit u) (Redesignation g) w = absurd w
-    portion-with-mono code i Break (SampleUnit v) w = absurd w
+    portion-with-mono code i (UnitRecord u) Break w = absurd w
+    portion-with-mono code i (UnitRecord u) (Redesignation g) w = absurd w
+    portion-with-mono code i Break (UnitRecord v) w = absurd w
     portion-with-mono code i Break (Redesignation g) w = absurd w
     portion-with-mono code i Break Break w = omega arith
-    portion-with-mono code i (Redesignation g) (SampleUnit v) w = absurd w
+    portion-with-mono code i (Redesignation g) (UnitRecord v) w = absurd w
     portion-with-mono code i (Redesignation g) Break w = absurd w
     portion-with-mono code i (Redesignation g) (Redesignation h) w = omega arith
 
@@ -243,9 +245,9 @@ module _ (table : Table) (designated : ℕ) (es fs : ℕ → Entry) (size : ℕ)
     worst-mono code (suc n) = omega (arith, worst-mono code n, portion-with-mono code n (es n) (fs n) (fellows n))
 
     -- THE SECOND HALF OF DEMAND 3, over records: portion and code grades
-    pub fewer-grades : (i : ℕ) (u v : Sample) → es i ≡ SampleUnit u → fs i ≡ SampleUnit v
-        → (portion first i u ≤ portion second i v) × (codeGrade first (u .code) ≤ codeGrade second (v .code))
+    pub fewer-grades : (i : ℕ) (u v : SampleUnit) → es i ≡ UnitRecord u → fs i ≡ UnitRecord v
+        → (portionGrade first i u ≤ portionGrade second i v) × (codeGrade first (u .code) ≤ codeGrade second (v .code))
     unfolding codeGrade Below
     fewer-grades i u v eu ev =
-        let w : Below (SampleUnit u) (SampleUnit v) = subst₂ Below eu ev (fellows i) in
+        let w : Below (UnitRecord u) (UnitRecord v) = subst₂ Below eu ev (fellows i) in
         (portion-mono i u v w, rw (w .same-code) (worst-mono (v .code) size))

@@ -3,7 +3,7 @@
 use mathlib.Core.Path.{_≡_, refl}
 use mathlib.Core.Bool.{Bool, true, false, _&&_, _||_, false≢true}
 use mathlib.Core.List.{List, [], _∷_}
-use Rattle.rules.specs.Words.{any, all}
+use Rattle.rules.specs.Conditions.{any, all}
 
 pub and-true : (b : Bool) → (b && true) ≡ b
 and-true true = refl

@@ -3,24 +3,24 @@ use Prim.Native.Nat.{ℕ, zero, suc, _+_, _<_, _≤_}
 use mathlib.Core.Path.{_≡_}
 use mathlib.Core.Bool.{Bool, true, false}
 use mathlib.Core.List.{List, [], _∷_, _++_}
-use Rattle.cusum.specs.declared.Limits.{Limits}
+use Rattle.cusum.specs.declared.PlanNumbers.{PlanNumbers}
 use Rattle.rules.specs.Words.{Table, countsOf, countIn}
 use Rattle.rules.specs.Unit.{classFails}
 use Rattle.rules.specs.StepThree.{inForce, restarts}
 use Rattle.rules.specs.Sheet.{Sheet, before}
 use Rattle.rules.specs.declared.Entry.{Entry}
-use Rattle.rules.specs.declared.Entry.the-variants.{SampleUnit, Redesignation, Break}
+use Rattle.rules.specs.declared.Entry.the-variants.{UnitRecord, Redesignation, Break}
 use Rattle.rules.specs.declared.State.{State}
 
 -- a class fails at a record by rule 2
 unfoldable pub failsAt : Table → ℕ → State → Entry → Bool
-failsAt table class state (SampleUnit unit) = classFails table (inForce (state .phase)) (state .cusums) (countsOf unit) class
+failsAt table class state (UnitRecord unit) = classFails table (inForce (state .phase)) (state .cusums) (countsOf unit) class
 failsAt table class state (Redesignation new) = false
 failsAt table class state Break = false
 
 -- the count of a class at a record, if that is a unit
 unfoldable pub countAt : ℕ → Entry → List ℕ
-countAt class (SampleUnit unit) = countIn (countsOf unit) class ∷ []
+countAt class (UnitRecord unit) = countIn (countsOf unit) class ∷ []
 countAt class (Redesignation new) = []
 countAt class Break = []
 
@@ -52,6 +52,6 @@ pub record Latest (sheet : Sheet) (class i from : ℕ) : Type 0 where
   pub no-restart : (j : ℕ) → from ≤ j → j < i → restartAt sheet j ≡ false
 
 -- L at a failure, else S
-unfoldable pub anchorValue : Limits → Bool → ℕ
-anchorValue limits true = limits .limit
-anchorValue limits false = limits .start
+unfoldable pub anchorValue : PlanNumbers → Bool → ℕ
+anchorValue numbers true = numbers .limit
+anchorValue numbers false = numbers .start

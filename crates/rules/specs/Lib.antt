@@ -1,3 +1,4 @@
+pub mod Conditions
 pub mod Words
 pub mod Unit
 pub mod StepThree

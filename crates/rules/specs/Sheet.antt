@@ -3,17 +3,18 @@ use Prim.Native.Nat.{ℕ, zero, suc, _+_}
 use mathlib.Core.Bool.{Bool, true, false, cond, _&&_, _||_}
 use lib.Dec.{eqb}
 use Rattle.rules.specs.Words.{worse, Table}
+use Rattle.rules.specs.Unit.{portionGradeOf}
 use Rattle.rules.specs.StepThree.{designatedIn, inForce, opening, graded, endsAt, next}
-use Rattle.rules.specs.declared.Sample.{Sample}
+use Rattle.rules.specs.declared.SampleUnit.{SampleUnit}
 use Rattle.rules.specs.declared.Grading.{Grading}
 use Rattle.rules.specs.declared.Entry.{Entry}
-use Rattle.rules.specs.declared.Entry.the-variants.{SampleUnit, Redesignation, Break}
+use Rattle.rules.specs.declared.Entry.the-variants.{UnitRecord, Redesignation, Break}
 use Rattle.rules.specs.declared.Phase.{Phase}
 use Rattle.rules.specs.declared.Phase.the-variants.{Designated, StepThree}
 use Rattle.rules.specs.declared.State.{State}
 
 -- the plan's table, the grade designated at the opening, the records after the plan from number 0 on, and how many there are.
--- Behind the last record stand breaks (law `past-entry`): recovery looks two records ahead, and there ends nothing
+-- Behind the last record stand breaks (law `past-entry`): recovery looks two records ahead, and step 3 does not end at a break
 pub record Sheet : Type 0 where
   pub table : Table
   pub designated : ℕ
@@ -25,11 +26,6 @@ unfoldable pub standingOf : Phase → Bool → Bool → ℕ
 standingOf phase fails true = 3
 standingOf (Designated designated previous) fails false = cond fails 1 0
 standingOf (StepThree designated lower run) fails false = 2
-
--- rule 4: the worse of defect grade and prerequisite grade; a recovered portion gets the worse of designated grade and
--- prerequisite grade
-unfoldable pub portionOf : ℕ → ℕ → ℕ → Bool → ℕ
-portionOf designated defectGrade prerequisite recovered = worse (cond recovered designated defectGrade) prerequisite
 
 module _ (sheet : Sheet) where
   -- the state before record i
@@ -45,7 +41,7 @@ module _ (sheet : Sheet) where
   inForceAt i = inForce (before i .phase)
 
   -- the unit that is record i, graded
-  abbrev pub gradedAt : ℕ → Sample → Grading
+  abbrev pub gradedAt : ℕ → SampleUnit → Grading
   gradedAt i unit = graded (sheet .table) (before i) unit
 
   -- step 3 ends at record i
@@ -53,30 +49,30 @@ module _ (sheet : Sheet) where
   stepThreeEnds i = endsAt (sheet .table) (before i) (sheet .entry i)
 
   -- record i is one of the three qualifying units in a row at whose last step 3 ends: that last one is record i, i + 1 or i + 2, as
-  -- the three stand side by side, every other record setting the run to none (laws `finished-run`, `in-run` and `run-in`)
+  -- the three stand side by side: a break, a redesignation or a unit that does not qualify sets the run to none (laws `finished-run`, `in-run` and `run-in`)
   unfoldable pub inFinishedRun : ℕ → Bool
   inFinishedRun i = stepThreeEnds i || (stepThreeEnds (i + 1) || stepThreeEnds (i + 2))
 
   -- each of those three portions marked recoverable is recovered
-  unfoldable pub recovered : ℕ → Sample → Bool
+  unfoldable pub recovered : ℕ → SampleUnit → Bool
   recovered i unit = unit .recoverable && inFinishedRun i
 
-  unfoldable pub portion : ℕ → Sample → ℕ
-  portion i unit = portionOf (designatedBefore i) (gradedAt i unit .grade) (unit .prerequisite) (recovered i unit)
+  unfoldable pub portionGrade : ℕ → SampleUnit → ℕ
+  portionGrade i unit = portionGradeOf (designatedBefore i) (gradedAt i unit .grade) (unit .prerequisite) (recovered i unit)
 
-  unfoldable pub standing : ℕ → Sample → ℕ
+  unfoldable pub standing : ℕ → SampleUnit → ℕ
   standing i unit = standingOf (before i .phase) (gradedAt i unit .fails) (recovered i unit)
 
   -- the portion grade of record i if it is a unit with this code, else the best
-  unfoldable pub portionWith : ℕ → ℕ → Entry → ℕ
-  portionWith code i (SampleUnit unit) = cond (eqb (unit .code) code) (portion i unit) 0
-  portionWith code i (Redesignation new) = 0
-  portionWith code i Break = 0
+  unfoldable pub portionGradeWith : ℕ → ℕ → Entry → ℕ
+  portionGradeWith code i (UnitRecord unit) = cond (eqb (unit .code) code) (portionGrade i unit) 0
+  portionGradeWith code i (Redesignation new) = 0
+  portionGradeWith code i Break = 0
 
   -- the worst portion grade among the units with this code of the first n records
   unfoldable pub worstBefore : ℕ → ℕ → ℕ
   worstBefore code zero = 0
-  worstBefore code (suc n) = worse (worstBefore code n) (portionWith code n (sheet .entry n))
+  worstBefore code (suc n) = worse (worstBefore code n) (portionGradeWith code n (sheet .entry n))
 
   -- the code grade: the worst portion grade among all units of the sheet with that code, adjoining or not
   unfoldable pub codeGrade : ℕ → ℕ

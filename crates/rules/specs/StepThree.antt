@@ -1,15 +1,16 @@
 -- Step 3, redesignations, breaks and restarts: what each record does to the phase and to the CuSums.
 use Prim.Native.Nat.{ℕ, _+_}
-use mathlib.Core.Bool.{Bool, true, false, not, _&&_, _||_}
+use mathlib.Core.Bool.{Bool, true, false, cond, not, _&&_, _||_}
 use mathlib.Core.List.{List}
 use lib.Dec.{ltb, leb}
 use Rattle.cusum.specs.declared.Cusum.{Cusum}
+use Rattle.rules.specs.Conditions.{pick}
 use Rattle.rules.specs.Words.{worse, Table, rowOf, countsOf}
 use Rattle.rules.specs.Unit.{starting, gradingOf}
-use Rattle.rules.specs.declared.Sample.{Sample}
+use Rattle.rules.specs.declared.SampleUnit.{SampleUnit}
 use Rattle.rules.specs.declared.Grading.{Grading}
 use Rattle.rules.specs.declared.Entry.{Entry}
-use Rattle.rules.specs.declared.Entry.the-variants.{SampleUnit, Redesignation, Break}
+use Rattle.rules.specs.declared.Entry.the-variants.{UnitRecord, Redesignation, Break}
 use Rattle.rules.specs.declared.Previous.{Previous}
 use Rattle.rules.specs.declared.Previous.the-variants.{NoFailure, Failure}
 use Rattle.rules.specs.declared.Phase.{Phase}
@@ -26,11 +27,6 @@ unfoldable pub inForce : Phase → ℕ
 inForce (Designated designated previous) = designated
 inForce (StepThree designated lower run) = lower
 
--- one of two, by a test
-unfoldable pub pick {ℓ} : {A : Type ℓ} → Bool → A → A → A
-pick true first other = first
-pick false first other = other
-
 -- outside step 3: it begins when two units in a row fail the designated plan; the lower grade is the worse of their defect grades
 unfoldable pub afterDesignated : ℕ → Previous → Bool → ℕ → Phase
 afterDesignated designated previous false grade = Designated designated NoFailure
@@ -42,8 +38,8 @@ unfoldable pub endsStepThree : ℕ → Bool → Bool
 endsStepThree run qualifies = qualifies && leb 2 run
 
 unfoldable pub afterStepThree : ℕ → ℕ → ℕ → Bool → Phase
-afterStepThree designated lower run true = pick (leb 2 run) (Designated designated NoFailure) (StepThree designated lower (run + 1))
-afterStepThree designated lower run false = StepThree designated lower 0
+afterStepThree designated lower run qualifies =
+    pick (endsStepThree run qualifies) (Designated designated NoFailure) (StepThree designated lower (cond qualifies (run + 1) 0))
 
 -- a unit, graded under the plan in force
 unfoldable pub phaseAfterUnit : Phase → Grading → Phase
@@ -89,31 +85,31 @@ opening table designated = record { phase = Designated designated NoFailure; cus
 
 module _ (table : Table) where
   -- a unit graded in a state
-  unfoldable pub graded : State → Sample → Grading
+  unfoldable pub graded : State → SampleUnit → Grading
   graded state unit =
       gradingOf table (designatedIn (state .phase)) (inForce (state .phase)) (state .cusums) (countsOf unit)
 
   unfoldable pub phaseAfter : State → Entry → Phase
-  phaseAfter state (SampleUnit unit) = phaseAfterUnit (state .phase) (graded state unit)
+  phaseAfter state (UnitRecord unit) = phaseAfterUnit (state .phase) (graded state unit)
   phaseAfter state (Redesignation new) = phaseAfterRedesignation (state .phase) new
   phaseAfter state Break = phaseAfterBreak (state .phase)
 
   -- step 3 ends at this record
   unfoldable pub endsAt : State → Entry → Bool
-  endsAt state (SampleUnit unit) = unitEndsStepThree (state .phase) (graded state unit)
+  endsAt state (UnitRecord unit) = unitEndsStepThree (state .phase) (graded state unit)
   endsAt state (Redesignation new) = false
   endsAt state Break = false
 
   -- the restarts are a break, the start of step 3, its end, and every redesignation but one that keeps the CuSums; a restart that a
   -- unit brings about comes after that unit's record
   unfoldable pub restarts : State → Entry → Bool
-  restarts state (SampleUnit unit) = unitRestarts (state .phase) (graded state unit)
+  restarts state (UnitRecord unit) = unitRestarts (state .phase) (graded state unit)
   restarts state (Redesignation new) = redesignationRestarts (state .phase) new
   restarts state Break = true
 
   -- the CuSums after a record, but for a restart
   unfoldable pub cusumsAfter : State → Entry → List Cusum
-  cusumsAfter state (SampleUnit unit) = graded state unit .cusums
+  cusumsAfter state (UnitRecord unit) = graded state unit .cusums
   cusumsAfter state (Redesignation new) = state .cusums
   cusumsAfter state Break = state .cusums
 

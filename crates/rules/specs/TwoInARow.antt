@@ -7,13 +7,13 @@ use Rattle.rules.specs.Words.{Table, countsOf}
 use Rattle.rules.specs.Unit.{unitFails}
 use Rattle.rules.specs.Sheet.{Sheet, before}
 use Rattle.rules.specs.declared.Entry.{Entry}
-use Rattle.rules.specs.declared.Entry.the-variants.{SampleUnit, Redesignation, Break}
+use Rattle.rules.specs.declared.Entry.the-variants.{UnitRecord, Redesignation, Break}
 use Rattle.rules.specs.declared.Phase.{Phase}
 use Rattle.rules.specs.declared.Phase.the-variants.{Designated, StepThree}
 
 -- a record is a unit that fails the designated plan
 unfoldable pub failsDesignated : Table → Phase → List Cusum → Entry → Bool
-failsDesignated table (Designated designated previous) cusums (SampleUnit unit) = unitFails table designated cusums (countsOf unit)
+failsDesignated table (Designated designated previous) cusums (UnitRecord unit) = unitFails table designated cusums (countsOf unit)
 failsDesignated table (Designated designated previous) cusums (Redesignation new) = false
 failsDesignated table (Designated designated previous) cusums Break = false
 failsDesignated table (StepThree designated lower run) cusums entry = false

@@ -1,13 +1,13 @@
 -- The line and its words: grades, classes, the plan's table, a sample unit's counts.
 use Prim.Native.Nat.{ℕ, _+_, max}
-use mathlib.Core.Bool.{Bool, true, false, _&&_, _||_}
+use mathlib.Core.Bool.{Bool}
 use mathlib.Core.List.{List, [], _∷_}
 use lib.Dec.{ltb}
 use lib.ListN.{getD}
-use Rattle.cusum.specs.declared.Limits.{Limits}
+use Rattle.cusum.specs.declared.PlanNumbers.{PlanNumbers}
 use Rattle.cusum.specs.declared.Cusum.{Cusum}
 use Rattle.rules.specs.declared.Plan.{Plan}
-use Rattle.rules.specs.declared.Sample.{Sample}
+use Rattle.rules.specs.declared.SampleUnit.{SampleUnit}
 
 -- grades run A, B, C, Substandard, best first, coded 0, 1, 2, 3
 abbrev pub substandard : ℕ
@@ -25,40 +25,31 @@ worse = max
 abbrev pub classes : List ℕ
 classes = 0 ∷ 1 ∷ 2 ∷ 3 ∷ []
 
--- a condition holds of a member of a list; of all its members
-unfoldable pub any {ℓ} : {A : Type ℓ} → (A → Bool) → List A → Bool
-any p [] = false
-any p (x ∷ xs) = p x || any p xs
-
-unfoldable pub all {ℓ} : {A : Type ℓ} → (A → Bool) → List A → Bool
-all p [] = true
-all p (x ∷ xs) = p x && all p xs
-
 -- the plan is a table of three grades by four classes: a row for each grade, in it S, T and L for each class
 abbrev pub Table : Type 0
-Table = List (List Limits)
+Table = List (List PlanNumbers)
 
 -- what stands for S, T and L where there is no plan
-abbrev pub noLimits : Limits
-noLimits = record { start = 0; tolerance = 0; limit = 0 }
+abbrev pub noNumbers : PlanNumbers
+noNumbers = record { start = 0; tolerance = 0; limit = 0 }
 
-abbrev pub noRow : List Limits
-noRow = noLimits ∷ noLimits ∷ noLimits ∷ noLimits ∷ []
+abbrev pub noRow : List PlanNumbers
+noRow = noNumbers ∷ noNumbers ∷ noNumbers ∷ noNumbers ∷ []
 
-abbrev pub rowOf : Table → ℕ → List Limits
+abbrev pub rowOf : Table → ℕ → List PlanNumbers
 rowOf table grade = getD table grade noRow
 
 -- S, T and L of a class
-abbrev pub inClass : List Limits → ℕ → Limits
-inClass row class = getD row class noLimits
+abbrev pub inClass : List PlanNumbers → ℕ → PlanNumbers
+inClass row class = getD row class noNumbers
 
 -- S, T and L of a class in the plan of a grade
-abbrev pub limitsOf : Table → ℕ → ℕ → Limits
-limitsOf table grade class = inClass (rowOf table grade) class
+abbrev pub numbersOf : Table → ℕ → ℕ → PlanNumbers
+numbersOf table grade class = inClass (rowOf table grade) class
 
 -- a plan holds the cells of its table one after the other, grade by grade and in each class by class
-abbrev pub cellOf : Plan → ℕ → Limits
-cellOf plan cell = getD (plan .limits) cell noLimits
+abbrev pub cellOf : Plan → ℕ → PlanNumbers
+cellOf plan cell = getD (plan .numbers) cell noNumbers
 
 -- the table of a plan
 abbrev pub tableOf : Plan → Table
@@ -69,7 +60,7 @@ tableOf plan =
     ∷ []
 
 -- a unit's counts by class: total is the sum of critical, severe, major and minor
-abbrev pub countsOf : Sample → List ℕ
+abbrev pub countsOf : SampleUnit → List ℕ
 countsOf unit =
     unit .critical ∷ unit .severe ∷ unit .major ∷ (unit .critical + unit .severe + unit .major + unit .minor) ∷ []
 

@@ -7,9 +7,10 @@ ghost use Rattle.rules.specs.Words.{tableOf, rowOf, countsOf, worse};
 ghost use Rattle.rules.specs.Unit.{starting, steppedIn, admits, withinTolerance, allZero, newCusums, unitFails, bestLower, gradingOf};
 ghost use Rattle.rules.specs.StepThree.{designatedIn, inForce, afterDesignated, endsStepThree, afterStepThree, phaseAfterUnit, phaseAfterRedesignation, phaseAfterBreak, unitEndsStepThree, unitStartsStepThree, unitRestarts, redesignationRestarts, opening, graded, stateWith, next};
 ghost use Rattle.rules.specs.declared.Entry.the-variants.{Redesignation, Break};
-ghost use Rattle.rules.specs.Sheet.{standingOf, portionOf};
+ghost use Rattle.rules.specs.Unit.{portionGradeOf};
+ghost use Rattle.rules.specs.Sheet.{standingOf};
 use cusum::Cusum;
-use cusum::Limits;
+use cusum::PlanNumbers;
 
 // Classes are critical, severe, major and total.
 pub const CLASSES: usize = 4;
@@ -23,7 +24,7 @@ pub const SUBSTANDARD: u8 = 3;
 pub const CELLS: usize = 12;
 
 // The plan of a grade: S, T and L of each class.
-pub type Row = [Limits; CLASSES];
+pub type Row = [PlanNumbers; CLASSES];
 
 // The plan is a table of three grades by four classes.
 pub type Table = [Row; GRADES];
@@ -37,11 +38,11 @@ pub type Counts = [u32; CLASSES];
 // The designated grade, and S, T and L of grades A, B, C, in each by class.
 pub struct Plan {
     pub designated: u8,
-    pub limits: [Limits; CELLS],
+    pub numbers: [PlanNumbers; CELLS],
 }
 
 // A sample unit.
-pub struct Sample {
+pub struct SampleUnit {
     pub code: u16,
     pub critical: u16,
     pub severe: u16,
@@ -53,7 +54,7 @@ pub struct Sample {
 
 // A record of the sheet behind its plan.
 pub enum Entry {
-    SampleUnit(Sample),
+    UnitRecord(SampleUnit),
     Redesignation(u8),
     Break,
 }
@@ -94,7 +95,7 @@ impl Plan {
     pub fn table(self) -> Table
         ensures { λ r. ⌜ r ≡ tableOf self ⌝ }
     {
-        let cells = self.limits;
+        let cells = self.numbers;
         [
             [cells[0], cells[1], cells[2], cells[3]],
             [cells[4], cells[5], cells[6], cells[7]],
@@ -109,7 +110,7 @@ pub fn row_of(table: Table, grade: u8) -> Row
     if grade < SUBSTANDARD {
         return table[grade as usize];
     }
-    let none = Limits {
+    let none = PlanNumbers {
         start: 0,
         tolerance: 0,
         limit: 0,
@@ -117,7 +118,7 @@ pub fn row_of(table: Table, grade: u8) -> Row
     [none, none, none, none]
 }
 
-fn counts_of(unit: Sample) -> Counts
+fn counts_of(unit: SampleUnit) -> Counts
     ensures { λ r. ⌜ r ≡ countsOf unit ⌝ }
 {
     let critical = unit.critical as u32;
@@ -175,10 +176,10 @@ fn step_in_force(table: Table, grade: u8, cusums: Cusums, counts: Counts) -> Ste
 }
 
 // Whether ten times the count is at most T+L of its class.
-fn admits_class(limits: Limits, count: u32) -> bool
-    ensures { λ r. ⌜ r ≡ leb (tenthsOf count) (limits .tolerance + limits .limit) ⌝ }
+fn admits_class(numbers: PlanNumbers, count: u32) -> bool
+    ensures { λ r. ⌜ r ≡ leb (tenthsOf count) (numbers .tolerance + numbers .limit) ⌝ }
 {
-    let highest = limits.tolerance as u64 + limits.limit as u64;
+    let highest = numbers.tolerance as u64 + numbers.limit as u64;
     cusum::tenths(count) <= highest
 }
 
@@ -191,10 +192,10 @@ fn admits_all(row: Row, counts: Counts) -> bool
 }
 
 // Whether ten times the count is at most T of its class.
-fn within_class(limits: Limits, count: u32) -> bool
-    ensures { λ r. ⌜ r ≡ leb (tenthsOf count) (limits .tolerance) ⌝ }
+fn within_class(numbers: PlanNumbers, count: u32) -> bool
+    ensures { λ r. ⌜ r ≡ leb (tenthsOf count) (numbers .tolerance) ⌝ }
 {
-    let tolerance = limits.tolerance as u64;
+    let tolerance = numbers.tolerance as u64;
     cusum::tenths(count) <= tolerance
 }
 
@@ -480,8 +481,8 @@ impl Phase {
 }
 
 // The portion grade: the worse of the defect grade, or the designated grade where the portion is recovered, and the prerequisite.
-pub fn portion(designated: u8, defect: u8, prerequisite: u8, recovered: bool) -> u8
-    ensures { λ r. ⌜ r ≡ portionOf designated defect prerequisite recovered ⌝ }
+pub fn portion_grade(designated: u8, defect: u8, prerequisite: u8, recovered: bool) -> u8
+    ensures { λ r. ⌜ r ≡ portionGradeOf designated defect prerequisite recovered ⌝ }
 {
     if recovered {
         return worse_of(designated, prerequisite);
@@ -520,7 +521,7 @@ impl State {
         }
     }
 
-    pub fn grade(self, table: Table, unit: Sample) -> Grading
+    pub fn grade(self, table: Table, unit: SampleUnit) -> Grading
         ensures { λ r. ⌜ r ≡ graded table self unit ⌝ }
     {
         let phase = self.phase;

@@ -8,9 +8,9 @@ use native.Mathlib.Omega.{arith}
 use native.Mathlib.Numerals.{add-one}
 use lib.ListN.{length}
 use borrow.Author.Tests.{le-leb, lt-leb, eq-eqb, ne-eqb}
+use Rattle.rules.specs.Conditions.{pick}
 use Rattle.encoding.specs.Bytes.{byte}
-use Rattle.rules.specs.StepThree.{pick}
-use Rattle.sheet.specs.Layout.{planSize, planOf, markAt, sizeOf, entryOf, entryAt, offset, unitOf, unitsBefore}
+use Rattle.sheet.specs.Layout.{planSize, planOf, markAt, sizeOf, entryOf, entryAt, offset, unitsIn, unitsBefore}
 use Rattle.sheet.specs.Refusals.{refusalAt, designatedBy, designatedBefore, recordRefusal, checkFrom}
 use Rattle.sheet.specs.declared.Verdict.the-variants.{Accepted, Refused}
 use Rattle.sheet.specs.declared.Place.{Place}
@@ -94,7 +94,7 @@ module _ (bytes : List ℕ) (place : Place) (stands : Stands bytes place) where
           → later ≡ record {
             records = place .records + 1;
             at = place .at + sizeOf (markAt bytes (place .at));
-            units = place .units + unitOf (markAt bytes (place .at));
+            units = place .units + unitsIn (markAt bytes (place .at));
             designated = designatedBy (place .designated) (entryOf bytes (place .at) (markAt bytes (place .at)));
           }
           → Stands bytes later
@@ -104,7 +104,7 @@ module _ (bytes : List ℕ) (place : Place) (stands : Stands bytes place) where
           (record {
             at-offset = ap (λ (at : ℕ). at + sizeOf (markAt bytes at)) (stands .at-offset) ∙ sym (ap (offset bytes) (add-one (place .records)));
             units-before =
-                ap₂ (λ (units at : ℕ). units + unitOf (markAt bytes at)) (stands .units-before) (stands .at-offset)
+                ap₂ (λ (units at : ℕ). units + unitsIn (markAt bytes at)) (stands .units-before) (stands .at-offset)
                 ∙ sym (ap (unitsBefore bytes) (add-one (place .records)));
             designated-before =
                 ap₂ (λ (designated at : ℕ). designatedBy designated (entryOf bytes at (markAt bytes at))) (stands .designated-before) (stands .at-offset)

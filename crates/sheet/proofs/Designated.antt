@@ -2,14 +2,15 @@
 -- By induction on the records; in one step by cases on the phase and on the record.
 use Prim.Native.Nat.{ℕ, zero, suc, _+_}
 use mathlib.Core.Path.{_≡_, refl, _∙_, ap}
-use mathlib.Core.Bool.{Bool, true, false}
+use mathlib.Core.Bool.{Bool, true, false, cond}
 use mathlib.Core.List.{List}
-use lib.Dec.{ltb, leb}
+use lib.Dec.{ltb}
+use Rattle.rules.specs.Conditions.{pick}
 use Rattle.rules.specs.Words.{Table}
-use Rattle.rules.specs.StepThree.{designatedIn, pick, afterDesignated, afterStepThree, phaseAfterUnit, phaseAfterRedesignation, phaseAfterBreak, opening, phaseAfter, stateWith, next}
+use Rattle.rules.specs.StepThree.{designatedIn, afterDesignated, endsStepThree, afterStepThree, phaseAfterUnit, phaseAfterRedesignation, phaseAfterBreak, opening, phaseAfter, stateWith, next}
 use Rattle.rules.specs.Sheet.{before}
 use Rattle.rules.specs.declared.Entry.{Entry}
-use Rattle.rules.specs.declared.Entry.the-variants.{SampleUnit, Redesignation, Break}
+use Rattle.rules.specs.declared.Entry.the-variants.{UnitRecord, Redesignation, Break}
 use Rattle.rules.specs.declared.Grading.{Grading}
 use Rattle.rules.specs.declared.Previous.{Previous}
 use Rattle.rules.specs.declared.Previous.the-variants.{NoFailure, Failure}
@@ -38,9 +39,9 @@ designated-kept designated (Failure earlier) true grade = refl
 step-three-kept : (designated lower run : ℕ) (qualifies : Bool)
     → designatedIn (afterStepThree designated lower run qualifies) ≡ designated
 unfolding designatedIn afterStepThree
-step-three-kept designated lower run true =
-    pick-designated (leb 2 run) (Designated designated NoFailure) (StepThree designated lower (run + 1)) designated refl refl
-step-three-kept designated lower run false = refl
+step-three-kept designated lower run qualifies =
+    pick-designated (endsStepThree run qualifies) (Designated designated NoFailure) (StepThree designated lower (cond qualifies (run + 1) 0)) designated
+    refl refl
 
 after-unit : (phase : Phase) (grading : Grading) → designatedIn (phaseAfterUnit phase grading) ≡ designatedIn phase
 unfolding phaseAfterUnit designatedIn
@@ -61,7 +62,7 @@ after-break (StepThree designated lower run) = refl
 pub after-record : (table : Table) (state : State) (entry : Entry)
     → designatedIn (next table state entry .phase) ≡ designatedBy (designatedIn (state .phase)) entry
 unfolding next stateWith phaseAfter designatedBy
-after-record table state (SampleUnit unit) = after-unit (state .phase) _
+after-record table state (UnitRecord unit) = after-unit (state .phase) _
 after-record table state (Redesignation new) = after-redesignation (state .phase) new
 after-record table state Break = after-break (state .phase)
 

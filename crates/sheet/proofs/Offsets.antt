@@ -7,7 +7,7 @@ use mathlib.Core.List.{List}
 use native.Mathlib.Nat.{eq-or-lt-of-le, le-of-suc-le-suc}
 use native.Mathlib.Omega.{arith}
 use lib.Dec.{lit<}
-use Rattle.sheet.specs.Layout.{planSize, sizeOf, offset, mark, unitOf, unitsBefore}
+use Rattle.sheet.specs.Layout.{planSize, sizeOf, offset, mark, unitsIn, unitsBefore}
 use Rattle.sheet.specs.declared.Mark.{Mark}
 use Rattle.sheet.specs.declared.Mark.the-variants.{UnitMark, RedesignationMark, BreakMark, NoMark}
 
@@ -34,15 +34,15 @@ unfolding offset
 offset-ge bytes zero = lit< tt
 offset-ge bytes (suc i) = omega (arith, offset-ge bytes i, size-ge (mark bytes i))
 
-pub unit-of-le : (m : Mark) → unitOf m ≤ 1
-unfolding unitOf
-unit-of-le UnitMark = omega arith
-unit-of-le RedesignationMark = omega arith
-unit-of-le BreakMark = omega arith
-unit-of-le NoMark = omega arith
+pub units-in-le : (m : Mark) → unitsIn m ≤ 1
+unfolding unitsIn
+units-in-le UnitMark = omega arith
+units-in-le RedesignationMark = omega arith
+units-in-le BreakMark = omega arith
+units-in-le NoMark = omega arith
 
 -- no more units than records
 pub units-before-le : (bytes : List ℕ) (i : ℕ) → unitsBefore bytes i ≤ i
 unfolding unitsBefore
 units-before-le bytes zero = omega arith
-units-before-le bytes (suc i) = omega (arith, units-before-le bytes i, unit-of-le (mark bytes i))
+units-before-le bytes (suc i) = omega (arith, units-before-le bytes i, units-in-le (mark bytes i))

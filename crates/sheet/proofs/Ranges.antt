@@ -8,12 +8,13 @@ use native.Mathlib.Omega.{arith}
 use lib.Dec.{ltb, lit<}
 use lib.ListN.{length, getD}
 use borrow.Author.Tests.{ltb-false, leb-false, eqb-false}
-use Rattle.cusum.specs.declared.Limits.{Limits}
+use Rattle.cusum.specs.declared.PlanNumbers.{PlanNumbers}
 use Rattle.encoding.specs.Bytes.{byte}
-use Rattle.rules.specs.Words.{classes, any, Table, inClass, rowOf, limitsOf, tableOf}
-use Rattle.rules.specs.declared.Sample.{Sample}
-use Rattle.sheet.specs.Layout.{planOf, sampleAt, mark, entryOf, entryAt, offset, unitOf, unitsBefore, prerequisiteOffset, recoverableOffset}
-use Rattle.sheet.specs.Refusals.{largestLimit, largestCount, mostUnits, anyClass, anyLimits, tooLarge, startsAbove, tableRefusal, planRefusal, countTooLarge, unitRefusal, redesignationRefusal, refusalBy, designatedBy, designatedBefore}
+use Rattle.rules.specs.Conditions.{any}
+use Rattle.rules.specs.Words.{classes, Table, inClass, rowOf, numbersOf, tableOf}
+use Rattle.rules.specs.declared.SampleUnit.{SampleUnit}
+use Rattle.sheet.specs.Layout.{planOf, sampleUnitAt, mark, entryOf, entryAt, offset, unitsIn, unitsBefore, prerequisiteOffset, recoverableOffset}
+use Rattle.sheet.specs.Refusals.{largestPlanNumber, largestCount, mostUnits, anyClass, anyNumbers, tooLarge, startAboveLimit, tableRefusal, planRefusal, countTooLarge, unitRefusal, redesignationRefusal, refusalBy, designatedBy, designatedBefore}
 use Rattle.sheet.specs.declared.Mark.{Mark}
 use Rattle.sheet.specs.declared.Mark.the-variants.{UnitMark, RedesignationMark, BreakMark, NoMark}
 use Rattle.sheet.proofs.Rows.{or-first, or-second, row-passed}
@@ -22,11 +23,11 @@ use Rattle.sheet.proofs.Past.{passed-as}
 
 -- ---- the plan
 
-pub record LimitsInRange (limits : Limits) : Type 0 where
-  pub start-le : limits .start ≤ largestLimit
-  pub tolerance-le : limits .tolerance ≤ largestLimit
-  pub limit-le : limits .limit ≤ largestLimit
-  pub start-limit : limits .start ≤ limits .limit
+pub record LimitsInRange (numbers : PlanNumbers) : Type 0 where
+  pub start-le : numbers .start ≤ largestPlanNumber
+  pub tolerance-le : numbers .tolerance ≤ largestPlanNumber
+  pub limit-le : numbers .limit ≤ largestPlanNumber
+  pub start-limit : numbers .start ≤ numbers .limit
 
 -- a condition that holds of no member of a list
 none-of {ℓ} : {A : Type ℓ} (condition : A → Bool) (members : List A) → any condition members ≡ false
@@ -37,57 +38,57 @@ none-of condition (x ∷ members) e zero default h = or-first (condition x) (any
 none-of condition (x ∷ members) e (suc i) default h =
     none-of condition members (or-second (condition x) (any condition members) e) i default (omega arith)
 
-module _ (condition : Limits → Bool) where
-  in-no-class : (limits : List Limits) → anyClass condition limits ≡ false → (class : ℕ) → class < 4 → condition (inClass limits class) ≡ false
+module _ (condition : PlanNumbers → Bool) where
+  in-no-class : (numbers : List PlanNumbers) → anyClass condition numbers ≡ false → (class : ℕ) → class < 4 → condition (inClass numbers class) ≡ false
   unfolding anyClass
-  in-no-class limits e zero h = none-of _ classes e 0 0 (lit< tt)
-  in-no-class limits e (suc zero) h = none-of _ classes e 1 0 (lit< tt)
-  in-no-class limits e (suc (suc zero)) h = none-of _ classes e 2 0 (lit< tt)
-  in-no-class limits e (suc (suc (suc zero))) h = none-of _ classes e 3 0 (lit< tt)
-  in-no-class limits e (suc (suc (suc (suc class)))) h = absurd (omega arith)
+  in-no-class numbers e zero h = none-of _ classes e 0 0 (lit< tt)
+  in-no-class numbers e (suc zero) h = none-of _ classes e 1 0 (lit< tt)
+  in-no-class numbers e (suc (suc zero)) h = none-of _ classes e 2 0 (lit< tt)
+  in-no-class numbers e (suc (suc (suc zero))) h = none-of _ classes e 3 0 (lit< tt)
+  in-no-class numbers e (suc (suc (suc (suc class)))) h = absurd (omega arith)
 
-  in-no-grade : (table : Table) → anyLimits condition table ≡ false → (grade : ℕ) → grade ≤ 2 → anyClass condition (rowOf table grade) ≡ false
-  unfolding anyLimits
+  in-no-grade : (table : Table) → anyNumbers condition table ≡ false → (grade : ℕ) → grade ≤ 2 → anyClass condition (rowOf table grade) ≡ false
+  unfolding anyNumbers
   in-no-grade table e zero h = none-of _ (0 ∷ 1 ∷ 2 ∷ []) e 0 0 (lit< tt)
   in-no-grade table e (suc zero) h = none-of _ (0 ∷ 1 ∷ 2 ∷ []) e 1 0 (lit< tt)
   in-no-grade table e (suc (suc zero)) h = none-of _ (0 ∷ 1 ∷ 2 ∷ []) e 2 0 (lit< tt)
   in-no-grade table e (suc (suc (suc grade))) h = absurd (omega arith)
 
-  in-no-limits : (table : Table) → anyLimits condition table ≡ false
-      → (grade class : ℕ) → grade ≤ 2 → class < 4 → condition (limitsOf table grade class) ≡ false
+  in-no-limits : (table : Table) → anyNumbers condition table ≡ false
+      → (grade class : ℕ) → grade ≤ 2 → class < 4 → condition (numbersOf table grade class) ≡ false
   in-no-limits table e grade class g k = in-no-class (rowOf table grade) (in-no-grade table e grade g) class k
 
-limits-passed : (limits : Limits) → tooLarge limits ≡ false → startsAbove limits ≡ false → LimitsInRange limits
-unfolding tooLarge startsAbove
-limits-passed limits large above =
-    let rest = or-second (ltb largestLimit (limits .start)) _ large in
+limits-passed : (numbers : PlanNumbers) → tooLarge numbers ≡ false → startAboveLimit numbers ≡ false → LimitsInRange numbers
+unfolding tooLarge startAboveLimit
+limits-passed numbers large above =
+    let rest = or-second (ltb largestPlanNumber (numbers .start)) _ large in
     record {
-      start-le = ltb-false largestLimit (limits .start) (or-first _ _ large);
-      tolerance-le = ltb-false largestLimit (limits .tolerance) (or-first _ _ rest);
-      limit-le = ltb-false largestLimit (limits .limit) (or-second (ltb largestLimit (limits .tolerance)) _ rest);
-      start-limit = ltb-false (limits .limit) (limits .start) above;
+      start-le = ltb-false largestPlanNumber (numbers .start) (or-first _ _ large);
+      tolerance-le = ltb-false largestPlanNumber (numbers .tolerance) (or-first _ _ rest);
+      limit-le = ltb-false largestPlanNumber (numbers .limit) (or-second (ltb largestPlanNumber (numbers .tolerance)) _ rest);
+      start-limit = ltb-false (numbers .limit) (numbers .start) above;
     }
 
 table-passed : (table : Table) → tableRefusal table ≡ 0
-    → (grade class : ℕ) → grade ≤ 2 → class < 4 → LimitsInRange (limitsOf table grade class)
+    → (grade class : ℕ) → grade ≤ 2 → class < 4 → LimitsInRange (numbersOf table grade class)
 unfolding tableRefusal
 table-passed table e grade class g k =
-    let (large, rest) = row-passed (anyLimits tooLarge table) 3 _ (lit< tt) e in
-    let (above, falls) = row-passed (anyLimits startsAbove table) 4 _ (lit< tt) rest in
-    limits-passed (limitsOf table grade class)
+    let (large, rest) = row-passed (anyNumbers tooLarge table) 3 _ (lit< tt) e in
+    let (above, falls) = row-passed (anyNumbers startAboveLimit table) 4 _ (lit< tt) rest in
+    limits-passed (numbersOf table grade class)
     (in-no-limits tooLarge table large grade class g k)
-    (in-no-limits startsAbove table above grade class g k)
+    (in-no-limits startAboveLimit table above grade class g k)
 
 -- ---- the records
 
-pub record UnitInRange (unit : Sample) : Type 0 where
+pub record UnitInRange (unit : SampleUnit) : Type 0 where
   pub critical-le : unit .critical ≤ largestCount
   pub severe-le : unit .severe ≤ largestCount
   pub major-le : unit .major ≤ largestCount
   pub minor-le : unit .minor ≤ largestCount
   pub prerequisite-le : unit .prerequisite ≤ 3
 
-counts-passed : (unit : Sample) → countTooLarge unit ≡ false → unit .prerequisite ≤ 3 → UnitInRange unit
+counts-passed : (unit : SampleUnit) → countTooLarge unit ≡ false → unit .prerequisite ≤ 3 → UnitInRange unit
 unfolding countTooLarge
 counts-passed unit large grade =
     let rest = or-second (ltb largestCount (unit .critical)) _ large in
@@ -101,7 +102,7 @@ counts-passed unit large grade =
     }
 
 module _ (bytes : List ℕ) (at units : ℕ) (e : unitRefusal bytes at units ≡ 0) where
-  unit-rows-passed : (countTooLarge (sampleAt bytes at) ≡ false) × (units < mostUnits) × (byte bytes (at + prerequisiteOffset) ≤ 3) × (byte bytes (at + recoverableOffset) ≤ 1)
+  unit-rows-passed : (countTooLarge (sampleUnitAt bytes at) ≡ false) × (units < mostUnits) × (byte bytes (at + prerequisiteOffset) ≤ 3) × (byte bytes (at + recoverableOffset) ≤ 1)
   unfolding unitRefusal
   unit-rows-passed =
       let (whole, rest) = row-passed _ 7 _ (lit< tt) e in
@@ -114,9 +115,9 @@ module _ (bytes : List ℕ) (at units : ℕ) (e : unitRefusal bytes at units ≡
         ltb-false 1 (byte bytes (at + recoverableOffset)) (or-second (ltb 3 (byte bytes (at + prerequisiteOffset))) _ last),
       )
 
-  unit-passed : UnitInRange (sampleAt bytes at)
-  unfolding sampleAt
-  unit-passed = counts-passed (sampleAt bytes at) (unit-rows-passed .0) (unit-rows-passed .2)
+  unit-passed : UnitInRange (sampleUnitAt bytes at)
+  unfolding sampleUnitAt
+  unit-passed = counts-passed (sampleUnitAt bytes at) (unit-rows-passed .0) (unit-rows-passed .2)
 
 redesignation-passed : (bytes : List ℕ) (at designated : ℕ) → redesignationRefusal bytes at designated ≡ 0
     → (byte bytes (at + 2) ≤ 2) × (byte bytes (at + 2) ≡ designated → ⊥)
@@ -141,10 +142,10 @@ module _ (bytes : List ℕ) (n : ℕ) (facts : Facts bytes n) where
   unfolding planOf
   designated-le = plan-passed .0
 
-  pub limits-in-range : (grade class : ℕ) → grade ≤ 2 → class < 4 → LimitsInRange (limitsOf (tableOf (planOf bytes)) grade class)
+  pub limits-in-range : (grade class : ℕ) → grade ≤ 2 → class < 4 → LimitsInRange (numbersOf (tableOf (planOf bytes)) grade class)
   limits-in-range = table-passed (tableOf (planOf bytes)) (plan-passed .1)
 
-  pub unit-in-range : (j : ℕ) → j < n → mark bytes j ≡ UnitMark → UnitInRange (sampleAt bytes (offset bytes j))
+  pub unit-in-range : (j : ℕ) → j < n → mark bytes j ≡ UnitMark → UnitInRange (sampleUnitAt bytes (offset bytes j))
   unfolding refusalBy
   unit-in-range j h e = unit-passed bytes (offset bytes j) (unitsBefore bytes j) (passed-as bytes n facts UnitMark j h e)
 
@@ -167,11 +168,11 @@ module _ (bytes : List ℕ) (n : ℕ) (facts : Facts bytes n) where
   new-grade-differs j h e = redesignation-passed bytes (offset bytes j) (designatedBefore bytes j) (passed-as bytes n facts RedesignationMark j h e) .1
 
   pub units-most : (i : ℕ) → i ≤ n → unitsBefore bytes i ≤ mostUnits
-  unfolding unitsBefore unitOf
+  unfolding unitsBefore unitsIn
   units-most zero h = omega arith
   units-most (suc i) h = go (mark bytes i) refl (units-most i (omega arith))
     where
-      go : (m : Mark) → mark bytes i ≡ m → unitsBefore bytes i ≤ mostUnits → unitsBefore bytes i + unitOf m ≤ mostUnits
+      go : (m : Mark) → mark bytes i ≡ m → unitsBefore bytes i ≤ mostUnits → unitsBefore bytes i + unitsIn m ≤ mostUnits
       go UnitMark e earlier = omega (arith, units-before-lt i (omega arith) e)
       go RedesignationMark e earlier = omega arith
       go BreakMark e earlier = omega arith

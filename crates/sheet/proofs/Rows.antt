@@ -9,7 +9,7 @@ use lib.Dec.{ltb, lit<}
 use lib.ListN.{length}
 use borrow.Author.Tests.{ltb-false}
 use Rattle.sheet.specs.Layout.{markSize, planSize, unitSize, redesignationSize, markAt, sizeOf}
-use Rattle.sheet.specs.Refusals.{row, noPlanRecord, planRefusal, unitRefusal, redesignationRefusal, refusalBy, refusalAt}
+use Rattle.sheet.specs.Refusals.{refusedIf, noPlanRecord, planRefusal, unitRefusal, redesignationRefusal, refusalBy, refusalAt}
 use Rattle.sheet.specs.declared.Mark.{Mark}
 use Rattle.sheet.specs.declared.Mark.the-variants.{UnitMark, RedesignationMark, BreakMark, NoMark}
 
@@ -23,8 +23,8 @@ or-second true second e = absurd (true≢false e)
 or-second false second e = e
 
 -- a row that is not met, and the rows after it
-pub row-passed : (test : Bool) (number rest : ℕ) → 0 < number → row test number rest ≡ 0 → (test ≡ false) × (rest ≡ 0)
-unfolding row
+pub row-passed : (test : Bool) (number rest : ℕ) → 0 < number → refusedIf test number rest ≡ 0 → (test ≡ false) × (rest ≡ 0)
+unfolding refusedIf
 row-passed true number rest positive e = absurd (omega arith)
 row-passed false number rest positive e = (refl, e)
 

@@ -3,15 +3,15 @@ use Prim.Native.Nat.{ℕ, zero, suc, _+_, _*_}
 use mathlib.Core.Bool.{Bool}
 use mathlib.Core.List.{List, [], _∷_, map}
 use lib.Dec.{eqb}
-use Rattle.cusum.specs.declared.Limits.{Limits}
+use Rattle.cusum.specs.declared.PlanNumbers.{PlanNumbers}
 use Rattle.encoding.specs.Bytes.{byte, number}
+use Rattle.rules.specs.Conditions.{pick}
 use Rattle.rules.specs.Words.{tableOf}
-use Rattle.rules.specs.StepThree.{pick}
 use Rattle.rules.specs.Sheet.{Sheet}
 use Rattle.rules.specs.declared.Plan.{Plan}
-use Rattle.rules.specs.declared.Sample.{Sample}
+use Rattle.rules.specs.declared.SampleUnit.{SampleUnit}
 use Rattle.rules.specs.declared.Entry.{Entry}
-use Rattle.rules.specs.declared.Entry.the-variants.{SampleUnit, Redesignation, Break}
+use Rattle.rules.specs.declared.Entry.the-variants.{UnitRecord, Redesignation, Break}
 use Rattle.sheet.specs.declared.Mark.{Mark}
 use Rattle.sheet.specs.declared.Mark.the-variants.{UnitMark, RedesignationMark, BreakMark, NoMark}
 
@@ -21,8 +21,8 @@ abbrev pub markSize : ℕ
 markSize = 2
 
 -- S, T and L, two bytes each
-abbrev pub limitsSize : ℕ
-limitsSize = 6
+abbrev pub planNumbersSize : ℕ
+planNumbersSize = 6
 
 -- the four classes of a grade
 abbrev pub rowSize : ℕ
@@ -68,12 +68,12 @@ redesignationSize = 3
 
 -- ---- the plan
 
-abbrev pub limitsAt : List ℕ → ℕ → Limits
-limitsAt bytes at = record { start = number bytes at; tolerance = number bytes (at + 2); limit = number bytes (at + 4) }
+abbrev pub planNumbersAt : List ℕ → ℕ → PlanNumbers
+planNumbersAt bytes at = record { start = number bytes at; tolerance = number bytes (at + 2); limit = number bytes (at + 4) }
 
 -- the four classes of a grade
-abbrev pub rowAt : List ℕ → ℕ → List Limits
-rowAt bytes at = limitsAt bytes at ∷ limitsAt bytes (at + limitsSize) ∷ limitsAt bytes (at + 2 * limitsSize) ∷ limitsAt bytes (at + 3 * limitsSize) ∷ []
+abbrev pub rowAt : List ℕ → ℕ → List PlanNumbers
+rowAt bytes at = planNumbersAt bytes at ∷ planNumbersAt bytes (at + planNumbersSize) ∷ planNumbersAt bytes (at + 2 * planNumbersSize) ∷ planNumbersAt bytes (at + 3 * planNumbersSize) ∷ []
 
 -- the cells of the table, grade by grade and in each class by class
 abbrev pub cells : List ℕ
@@ -81,7 +81,7 @@ cells = 0 ∷ 1 ∷ 2 ∷ 3 ∷ 4 ∷ 5 ∷ 6 ∷ 7 ∷ 8 ∷ 9 ∷ 10 ∷ 11 �
 
 unfoldable pub planOf : List ℕ → Plan
 planOf bytes =
-    record { designated = byte bytes gradeOffset; limits = map (λ cell. limitsAt bytes (tableOffset + limitsSize * cell)) cells }
+    record { designated = byte bytes gradeOffset; numbers = map (λ cell. planNumbersAt bytes (tableOffset + planNumbersSize * cell)) cells }
 
 -- ---- the records
 
@@ -103,8 +103,8 @@ sizeOf BreakMark = markSize
 sizeOf NoMark = markSize
 
 -- the sample unit at an offset; recoverable: 1 if the portion is separately coded and within reach, else 0
-unfoldable pub sampleAt : List ℕ → ℕ → Sample
-sampleAt bytes at =
+unfoldable pub sampleUnitAt : List ℕ → ℕ → SampleUnit
+sampleUnitAt bytes at =
     record {
       code = number bytes (at + codeOffset);
       critical = number bytes (at + countOffset 0);
@@ -118,7 +118,7 @@ sampleAt bytes at =
 -- the record at an offset. In an accepted sheet every record has a mark; where there is none, behind the last record, a break
 -- stands in, which grades no unit
 unfoldable pub entryOf : List ℕ → ℕ → Mark → Entry
-entryOf bytes at UnitMark = SampleUnit (sampleAt bytes at)
+entryOf bytes at UnitMark = UnitRecord (sampleUnitAt bytes at)
 entryOf bytes at RedesignationMark = Redesignation (byte bytes (at + gradeOffset))
 entryOf bytes at BreakMark = Break
 entryOf bytes at NoMark = Break
@@ -135,16 +135,16 @@ unfoldable pub entryAt : List ℕ → ℕ → Entry
 entryAt bytes i = entryOf bytes (offset bytes i) (mark bytes i)
 
 -- a record counts as one sample unit, or none
-unfoldable pub unitOf : Mark → ℕ
-unitOf UnitMark = 1
-unitOf RedesignationMark = 0
-unitOf BreakMark = 0
-unitOf NoMark = 0
+unfoldable pub unitsIn : Mark → ℕ
+unitsIn UnitMark = 1
+unitsIn RedesignationMark = 0
+unitsIn BreakMark = 0
+unitsIn NoMark = 0
 
 -- how many sample units stand before record i
 unfoldable pub unitsBefore : List ℕ → ℕ → ℕ
 unitsBefore bytes zero = 0
-unitsBefore bytes (suc i) = unitsBefore bytes i + unitOf (mark bytes i)
+unitsBefore bytes (suc i) = unitsBefore bytes i + unitsIn (mark bytes i)
 
 -- the sheet as the rules grade it, with so many records
 unfoldable pub sheetOf : List ℕ → ℕ → Sheet

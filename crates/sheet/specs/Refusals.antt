@@ -4,27 +4,27 @@ use mathlib.Core.Bool.{Bool, true, false, not, _||_}
 use mathlib.Core.List.{List, [], _∷_}
 use lib.Dec.{ltb, leb, eqb}
 use lib.ListN.{length}
-use Rattle.cusum.specs.declared.Limits.{Limits}
+use Rattle.cusum.specs.declared.PlanNumbers.{PlanNumbers}
 use Rattle.encoding.specs.Bytes.{byte, number}
-use Rattle.rules.specs.Words.{classes, any, Table, inClass, rowOf, limitsOf, tableOf}
-use Rattle.rules.specs.StepThree.{pick}
+use Rattle.rules.specs.Conditions.{any, pick}
+use Rattle.rules.specs.Words.{classes, Table, inClass, rowOf, numbersOf, tableOf}
 use Rattle.rules.specs.declared.Entry.{Entry}
-use Rattle.rules.specs.declared.Entry.the-variants.{SampleUnit, Redesignation, Break}
-use Rattle.rules.specs.declared.Sample.{Sample}
-use Rattle.sheet.specs.Layout.{markSize, gradeOffset, planSize, unitSize, redesignationSize, prerequisiteOffset, recoverableOffset, planOf, sampleAt, markAt, offset, entryAt, unitsBefore}
+use Rattle.rules.specs.declared.Entry.the-variants.{UnitRecord, Redesignation, Break}
+use Rattle.rules.specs.declared.SampleUnit.{SampleUnit}
+use Rattle.sheet.specs.Layout.{markSize, gradeOffset, planSize, unitSize, redesignationSize, prerequisiteOffset, recoverableOffset, planOf, sampleUnitAt, markAt, offset, entryAt, unitsBefore}
 use Rattle.sheet.specs.declared.Mark.{Mark}
 use Rattle.sheet.specs.declared.Mark.the-variants.{UnitMark, RedesignationMark, BreakMark, NoMark}
 use Rattle.sheet.specs.declared.Verdict.{Verdict}
 use Rattle.sheet.specs.declared.Verdict.the-variants.{Accepted, Refused}
 
 -- a row of the table: its number if its condition is met, else what the rows after it say; 0 if none is met
-unfoldable pub row : Bool → ℕ → ℕ → ℕ
-row true number rest = number
-row false number rest = rest
+unfoldable pub refusedIf : Bool → ℕ → ℕ → ℕ
+refusedIf true number rest = number
+refusedIf false number rest = rest
 
--- limits of the numbers on a sheet
-abbrev pub largestLimit : ℕ
-largestLimit = 9999
+-- the largest numbers on a sheet
+abbrev pub largestPlanNumber : ℕ
+largestPlanNumber = 9999
 
 abbrev pub largestCount : ℕ
 largestCount = 2000
@@ -35,50 +35,50 @@ mostUnits = 1000
 -- ---- the plan, at offset 0
 
 -- a condition holds of a class in the plan of a grade
-unfoldable pub anyClass : (Limits → Bool) → List Limits → Bool
-anyClass condition limits = any (λ class. condition (inClass limits class)) classes
+unfoldable pub anyClass : (PlanNumbers → Bool) → List PlanNumbers → Bool
+anyClass condition numbers = any (λ class. condition (inClass numbers class)) classes
 
-unfoldable pub anyLimits : (Limits → Bool) → Table → Bool
-anyLimits condition table = any (λ grade. anyClass condition (rowOf table grade)) (0 ∷ 1 ∷ 2 ∷ [])
+unfoldable pub anyNumbers : (PlanNumbers → Bool) → Table → Bool
+anyNumbers condition table = any (λ grade. anyClass condition (rowOf table grade)) (0 ∷ 1 ∷ 2 ∷ [])
 
 -- 1: shorter than 75 bytes, or first mark not 50 4C
 unfoldable pub noPlanRecord : List ℕ → Bool
 noPlanRecord bytes = ltb (length bytes) planSize || not (eqb (number bytes 0) 0x504C)
 
 -- 3: an S, T or L above 9,999
-unfoldable pub tooLarge : Limits → Bool
-tooLarge limits = ltb largestLimit (limits .start) || (ltb largestLimit (limits .tolerance) || ltb largestLimit (limits .limit))
+unfoldable pub tooLarge : PlanNumbers → Bool
+tooLarge numbers = ltb largestPlanNumber (numbers .start) || (ltb largestPlanNumber (numbers .tolerance) || ltb largestPlanNumber (numbers .limit))
 
 -- 4: an S above its L
-unfoldable pub startsAbove : Limits → Bool
-startsAbove limits = ltb (limits .limit) (limits .start)
+unfoldable pub startAboveLimit : PlanNumbers → Bool
+startAboveLimit numbers = ltb (numbers .limit) (numbers .start)
 
 -- 5: in a class, T or T+L smaller at B than at A, or at C than at B
-unfoldable pub smaller : Limits → Limits → Bool
+unfoldable pub smaller : PlanNumbers → PlanNumbers → Bool
 smaller better lower =
     ltb (lower .tolerance) (better .tolerance) || ltb (lower .tolerance + lower .limit) (better .tolerance + better .limit)
 
 unfoldable pub anySmaller : Table → Bool
 anySmaller table =
-    any (λ class. smaller (limitsOf table 0 class) (limitsOf table 1 class) || smaller (limitsOf table 1 class) (limitsOf table 2 class)) classes
+    any (λ class. smaller (numbersOf table 0 class) (numbersOf table 1 class) || smaller (numbersOf table 1 class) (numbersOf table 2 class)) classes
 
 unfoldable pub tableRefusal : Table → ℕ
 tableRefusal table =
-    row (anyLimits tooLarge table) 3
-    (row (anyLimits startsAbove table) 4
-    (row (anySmaller table) 5
+    refusedIf (anyNumbers tooLarge table) 3
+    (refusedIf (anyNumbers startAboveLimit table) 4
+    (refusedIf (anySmaller table) 5
     0))
 
 unfoldable pub planRefusal : List ℕ → ℕ
 planRefusal bytes =
-    row (noPlanRecord bytes) 1
-    (row (ltb 2 (byte bytes gradeOffset)) 2
+    refusedIf (noPlanRecord bytes) 1
+    (refusedIf (ltb 2 (byte bytes gradeOffset)) 2
     (tableRefusal (tableOf (planOf bytes))))
 
 -- ---- a record, at the offset of its mark
 
 -- 8: a count above 2,000
-unfoldable pub countTooLarge : Sample → Bool
+unfoldable pub countTooLarge : SampleUnit → Bool
 countTooLarge unit =
     ltb largestCount (unit .critical)
     || (ltb largestCount (unit .severe) || (ltb largestCount (unit .major) || ltb largestCount (unit .minor)))
@@ -87,18 +87,18 @@ countTooLarge unit =
 -- recoverable above 1
 unfoldable pub unitRefusal : List ℕ → ℕ → ℕ → ℕ
 unitRefusal bytes at units =
-    row (ltb (length bytes) (at + unitSize)) 7
-    (row (leb mostUnits units) 12
-    (row (countTooLarge (sampleAt bytes at)) 8
-    (row (ltb 3 (byte bytes (at + prerequisiteOffset)) || ltb 1 (byte bytes (at + recoverableOffset))) 9
+    refusedIf (ltb (length bytes) (at + unitSize)) 7
+    (refusedIf (leb mostUnits units) 12
+    (refusedIf (countTooLarge (sampleUnitAt bytes at)) 8
+    (refusedIf (ltb 3 (byte bytes (at + prerequisiteOffset)) || ltb 1 (byte bytes (at + recoverableOffset))) 9
     0)))
 
 -- of a redesignation, with the grade designated just before it. 7: cut short; 10: new grade above 2; 11: equal to that one
 unfoldable pub redesignationRefusal : List ℕ → ℕ → ℕ → ℕ
 redesignationRefusal bytes at designated =
-    row (ltb (length bytes) (at + redesignationSize)) 7
-    (row (ltb 2 (byte bytes (at + gradeOffset))) 10
-    (row (eqb (byte bytes (at + gradeOffset)) designated) 11
+    refusedIf (ltb (length bytes) (at + redesignationSize)) 7
+    (refusedIf (ltb 2 (byte bytes (at + gradeOffset))) 10
+    (refusedIf (eqb (byte bytes (at + gradeOffset)) designated) 11
     0))
 
 -- 6: a mark not of a unit, redesignation or break
@@ -111,11 +111,11 @@ refusalBy bytes at units designated NoMark = 6
 -- 6: one byte left (with none left there is no record)
 unfoldable pub refusalAt : List ℕ → ℕ → ℕ → ℕ → ℕ
 refusalAt bytes at units designated =
-    row (ltb (length bytes) (at + markSize)) 6 (refusalBy bytes at units designated (markAt bytes at))
+    refusedIf (ltb (length bytes) (at + markSize)) 6 (refusalBy bytes at units designated (markAt bytes at))
 
 -- the grade designated behind a record
 unfoldable pub designatedBy : ℕ → Entry → ℕ
-designatedBy designated (SampleUnit unit) = designated
+designatedBy designated (UnitRecord unit) = designated
 designatedBy designated (Redesignation new) = new
 designatedBy designated Break = designated
 

@@ -3,15 +3,15 @@ ghost use mathlib.Core.Path.{_≡_};
 ghost use mathlib.Core.Bool.{_||_};
 ghost use Prim.Native.Nat.{_+_, _≤_};
 ghost use lib.ListN.{length};
-ghost use Rattle.sheet.specs.Layout.{markSize, limitsSize, rowSize, planSize, unitSize, limitsAt, rowAt, planOf, markAt, sizeOf, sampleAt, entryOf, unitOf};
-ghost use Rattle.sheet.specs.Refusals.{tooLarge, startsAbove, smaller, anyClass, anyLimits, anySmaller, tableRefusal, planRefusal, countTooLarge, unitRefusal, redesignationRefusal, refusalAt, designatedBy, checkFrom, verdict};
-use cusum::Limits;
+ghost use Rattle.sheet.specs.Layout.{markSize, planNumbersSize, rowSize, planSize, unitSize, planNumbersAt, rowAt, planOf, markAt, sizeOf, sampleUnitAt, entryOf, unitsIn};
+ghost use Rattle.sheet.specs.Refusals.{tooLarge, startAboveLimit, smaller, anyClass, anyNumbers, anySmaller, tableRefusal, planRefusal, countTooLarge, unitRefusal, redesignationRefusal, refusalAt, designatedBy, checkFrom, verdict};
+use cusum::PlanNumbers;
 use encoding::number_at;
 use rules::CLASSES;
 use rules::Entry;
 use rules::Plan;
 use rules::Row;
-use rules::Sample;
+use rules::SampleUnit;
 use rules::Table;
 use rules::row_of;
 
@@ -28,9 +28,9 @@ pub const REDESIGNATION_SIZE: usize = 3;
 const GRADE_OFFSET: usize = 2;
 
 // The table of a plan: for grades A, B and C, within each the classes, within each S, T and L.
-const LIMITS_SIZE: usize = 6;
+const PLAN_NUMBERS_SIZE: usize = 6;
 
-const ROW_SIZE: usize = CLASSES * LIMITS_SIZE;
+const ROW_SIZE: usize = CLASSES * PLAN_NUMBERS_SIZE;
 
 const A_OFFSET: usize = 3;
 
@@ -39,11 +39,11 @@ const B_OFFSET: usize = A_OFFSET + ROW_SIZE;
 const C_OFFSET: usize = B_OFFSET + ROW_SIZE;
 
 // The classes of a row behind critical.
-const SEVERE_LIMITS: usize = LIMITS_SIZE;
+const SEVERE_NUMBERS: usize = PLAN_NUMBERS_SIZE;
 
-const MAJOR_LIMITS: usize = 2 * LIMITS_SIZE;
+const MAJOR_NUMBERS: usize = 2 * PLAN_NUMBERS_SIZE;
 
-const TOTAL_LIMITS: usize = 3 * LIMITS_SIZE;
+const TOTAL_NUMBERS: usize = 3 * PLAN_NUMBERS_SIZE;
 
 // A unit.
 const CODE_OFFSET: usize = 2;
@@ -60,8 +60,8 @@ const PREREQUISITE_OFFSET: usize = 12;
 
 const RECOVERABLE_OFFSET: usize = 13;
 
-// Limits of the numbers on a sheet.
-const LARGEST_LIMIT: u16 = 9999;
+// The largest numbers on a sheet.
+const LARGEST_PLAN_NUMBER: u16 = 9999;
 
 const LARGEST_COUNT: u16 = 2000;
 
@@ -88,11 +88,11 @@ pub enum Verdict {
     Refused { number: u8, offset: usize },
 }
 
-fn limits_at(bytes: &[u8], at: usize) -> Limits
-    requires { ⌜ at + limitsSize ≤ length (now bytes) ⌝ }
-    ensures { λ r. ⌜ r ≡ limitsAt (now (bytes .entry)) at ⌝ }
+fn plan_numbers_at(bytes: &[u8], at: usize) -> PlanNumbers
+    requires { ⌜ at + planNumbersSize ≤ length (now bytes) ⌝ }
+    ensures { λ r. ⌜ r ≡ planNumbersAt (now (bytes .entry)) at ⌝ }
 {
-    Limits {
+    PlanNumbers {
         start: number_at(bytes, at),
         tolerance: number_at(bytes, at + 2),
         limit: number_at(bytes, at + 4),
@@ -104,10 +104,10 @@ fn row_at(bytes: &[u8], at: usize) -> Row
     ensures { λ r. ⌜ r ≡ rowAt (now (bytes .entry)) at ⌝ }
 {
     [
-        limits_at(bytes, at),
-        limits_at(bytes, at + SEVERE_LIMITS),
-        limits_at(bytes, at + MAJOR_LIMITS),
-        limits_at(bytes, at + TOTAL_LIMITS),
+        plan_numbers_at(bytes, at),
+        plan_numbers_at(bytes, at + SEVERE_NUMBERS),
+        plan_numbers_at(bytes, at + MAJOR_NUMBERS),
+        plan_numbers_at(bytes, at + TOTAL_NUMBERS),
     ]
 }
 
@@ -118,7 +118,7 @@ pub fn plan_of(bytes: &[u8]) -> Plan
     let a = row_at(bytes, A_OFFSET);
     let b = row_at(bytes, B_OFFSET);
     let c = row_at(bytes, C_OFFSET);
-    let limits = [
+    let numbers = [
         a[0],
         a[1],
         a[2],
@@ -134,15 +134,15 @@ pub fn plan_of(bytes: &[u8]) -> Plan
     ];
     Plan {
         designated: bytes[GRADE_OFFSET],
-        limits: limits,
+        numbers: numbers,
     }
 }
 
-fn too_large(limits: Limits) -> bool
-    ensures { λ r. ⌜ r ≡ tooLarge limits ⌝ }
+fn too_large(numbers: PlanNumbers) -> bool
+    ensures { λ r. ⌜ r ≡ tooLarge numbers ⌝ }
 {
-    (LARGEST_LIMIT < limits.start)
-        | ((LARGEST_LIMIT < limits.tolerance) | (LARGEST_LIMIT < limits.limit))
+    (LARGEST_PLAN_NUMBER < numbers.start)
+        | ((LARGEST_PLAN_NUMBER < numbers.tolerance) | (LARGEST_PLAN_NUMBER < numbers.limit))
 }
 
 fn row_too_large(row: Row) -> bool
@@ -152,33 +152,34 @@ fn row_too_large(row: Row) -> bool
 }
 
 fn table_too_large(table: Table) -> bool
-    ensures { λ r. ⌜ r ≡ anyLimits tooLarge table ⌝ }
+    ensures { λ r. ⌜ r ≡ anyNumbers tooLarge table ⌝ }
 {
     row_too_large(row_of(table, 0))
         | (row_too_large(row_of(table, 1)) | row_too_large(row_of(table, 2)))
 }
 
-fn starts_above(limits: Limits) -> bool
-    ensures { λ r. ⌜ r ≡ startsAbove limits ⌝ }
+fn start_above_limit(numbers: PlanNumbers) -> bool
+    ensures { λ r. ⌜ r ≡ startAboveLimit numbers ⌝ }
 {
-    limits.limit < limits.start
+    numbers.limit < numbers.start
 }
 
-fn row_starts_above(row: Row) -> bool
-    ensures { λ r. ⌜ r ≡ anyClass startsAbove row ⌝ }
+fn row_start_above_limit(row: Row) -> bool
+    ensures { λ r. ⌜ r ≡ anyClass startAboveLimit row ⌝ }
 {
-    starts_above(row[0]) | (starts_above(row[1]) | (starts_above(row[2]) | starts_above(row[3])))
+    start_above_limit(row[0])
+        | (start_above_limit(row[1]) | (start_above_limit(row[2]) | start_above_limit(row[3])))
 }
 
-fn table_starts_above(table: Table) -> bool
-    ensures { λ r. ⌜ r ≡ anyLimits startsAbove table ⌝ }
+fn table_start_above_limit(table: Table) -> bool
+    ensures { λ r. ⌜ r ≡ anyNumbers startAboveLimit table ⌝ }
 {
-    row_starts_above(row_of(table, 0))
-        | (row_starts_above(row_of(table, 1)) | row_starts_above(row_of(table, 2)))
+    row_start_above_limit(row_of(table, 0))
+        | (row_start_above_limit(row_of(table, 1)) | row_start_above_limit(row_of(table, 2)))
 }
 
 // Whether T or T+L is smaller at the lower grade than at the better one.
-fn is_smaller(better: Limits, lower: Limits) -> bool
+fn is_smaller(better: PlanNumbers, lower: PlanNumbers) -> bool
     ensures { λ r. ⌜ r ≡ smaller better lower ⌝ }
 {
     let at_lower = lower.tolerance as u32 + lower.limit as u32;
@@ -187,21 +188,21 @@ fn is_smaller(better: Limits, lower: Limits) -> bool
 }
 
 // The same in one class of A, B and C.
-fn falls_in_class(a: Limits, b: Limits, c: Limits) -> bool
+fn smaller_in_class(a: PlanNumbers, b: PlanNumbers, c: PlanNumbers) -> bool
     ensures { λ r. ⌜ r ≡ (smaller a b || smaller b c) ⌝ }
 {
     is_smaller(a, b) | is_smaller(b, c)
 }
 
-fn table_falls(table: Table) -> bool
+fn any_smaller(table: Table) -> bool
     ensures { λ r. ⌜ r ≡ anySmaller table ⌝ }
 {
     let a = row_of(table, 0);
     let b = row_of(table, 1);
     let c = row_of(table, 2);
-    falls_in_class(a[0], b[0], c[0])
-        | (falls_in_class(a[1], b[1], c[1])
-            | (falls_in_class(a[2], b[2], c[2]) | falls_in_class(a[3], b[3], c[3])))
+    smaller_in_class(a[0], b[0], c[0])
+        | (smaller_in_class(a[1], b[1], c[1])
+            | (smaller_in_class(a[2], b[2], c[2]) | smaller_in_class(a[3], b[3], c[3])))
 }
 
 fn table_refusal(table: Table) -> u8
@@ -210,10 +211,10 @@ fn table_refusal(table: Table) -> u8
     if table_too_large(table) {
         return 3;
     }
-    if table_starts_above(table) {
+    if table_start_above_limit(table) {
         return 4;
     }
-    if table_falls(table) {
+    if any_smaller(table) {
         return 5;
     }
     0
@@ -265,8 +266,8 @@ pub fn size_of(mark: Mark) -> usize
 }
 
 // 1 for a unit, 0 for any other record.
-pub fn unit_of(mark: Mark) -> usize
-    ensures { λ r. ⌜ r ≡ unitOf mark ⌝ }
+pub fn units_in(mark: Mark) -> usize
+    ensures { λ r. ⌜ r ≡ unitsIn mark ⌝ }
 {
     match mark {
         Mark::UnitMark => 1,
@@ -277,11 +278,11 @@ pub fn unit_of(mark: Mark) -> usize
 }
 
 // The unit at an offset, whole.
-pub fn sample_at(bytes: &[u8], at: usize) -> Sample
+pub fn sample_unit_at(bytes: &[u8], at: usize) -> SampleUnit
     requires { ⌜ at + unitSize ≤ length (now bytes) ⌝ }
-    ensures { λ r. ⌜ r ≡ sampleAt (now (bytes .entry)) at ⌝ }
+    ensures { λ r. ⌜ r ≡ sampleUnitAt (now (bytes .entry)) at ⌝ }
 {
-    Sample {
+    SampleUnit {
         code: number_at(bytes, at + CODE_OFFSET),
         critical: number_at(bytes, at + CRITICAL_OFFSET),
         severe: number_at(bytes, at + SEVERE_OFFSET),
@@ -298,14 +299,14 @@ pub fn entry_at(bytes: &[u8], at: usize, mark: Mark) -> Entry
     ensures { λ r. ⌜ r ≡ entryOf (now (bytes .entry)) at mark ⌝ }
 {
     match mark {
-        Mark::UnitMark => Entry::SampleUnit(sample_at(bytes, at)),
+        Mark::UnitMark => Entry::UnitRecord(sample_unit_at(bytes, at)),
         Mark::RedesignationMark => Entry::Redesignation(bytes[at + GRADE_OFFSET]),
         Mark::BreakMark => Entry::Break,
         Mark::NoMark => Entry::Break,
     }
 }
 
-fn count_too_large(unit: Sample) -> bool
+fn count_too_large(unit: SampleUnit) -> bool
     ensures { λ r. ⌜ r ≡ countTooLarge unit ⌝ }
 {
     (LARGEST_COUNT < unit.critical)
@@ -323,7 +324,7 @@ fn unit_refusal(bytes: &[u8], at: usize, units: usize) -> u8
     if MOST_UNITS <= units {
         return 12;
     }
-    if count_too_large(sample_at(bytes, at)) {
+    if count_too_large(sample_unit_at(bytes, at)) {
         return 8;
     }
     if (3 < bytes[at + PREREQUISITE_OFFSET]) | (1 < bytes[at + RECOVERABLE_OFFSET]) {
@@ -369,7 +370,7 @@ fn designated_by(designated: u8, entry: Entry) -> u8
     ensures { λ r. ⌜ r ≡ designatedBy designated entry ⌝ }
 {
     match entry {
-        Entry::SampleUnit(_) => designated,
+        Entry::UnitRecord(_) => designated,
         Entry::Redesignation(new) => new,
         Entry::Break => designated,
     }
@@ -378,14 +379,14 @@ fn designated_by(designated: u8, entry: Entry) -> u8
 // The place behind the record at a place, which is whole.
 fn place_after(bytes: &[u8], place: Place) -> Place
     requires { ⌜ (place .at + sizeOf (markAt (now bytes) (place .at)) ≤ length (now bytes)) × (place .units ≤ place .records) × (place .records ≤ place .at) ⌝ }
-    ensures { λ r. ⌜ r ≡ record { records = place .records + 1; at = place .at + sizeOf (markAt (now (bytes .entry)) (place .at)); units = place .units + unitOf (markAt (now (bytes .entry)) (place .at)); designated = designatedBy (place .designated) (entryOf (now (bytes .entry)) (place .at) (markAt (now (bytes .entry)) (place .at))) } ⌝ }
+    ensures { λ r. ⌜ r ≡ record { records = place .records + 1; at = place .at + sizeOf (markAt (now (bytes .entry)) (place .at)); units = place .units + unitsIn (markAt (now (bytes .entry)) (place .at)); designated = designatedBy (place .designated) (entryOf (now (bytes .entry)) (place .at) (markAt (now (bytes .entry)) (place .at))) } ⌝ }
 {
     let mark = mark_at(bytes, place.at);
     let entry = entry_at(bytes, place.at, mark);
     Place {
         records: place.records + 1,
         at: place.at + size_of(mark),
-        units: place.units + unit_of(mark),
+        units: place.units + units_in(mark),
         designated: designated_by(place.designated, entry),
     }
 }

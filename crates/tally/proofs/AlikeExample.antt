@@ -11,12 +11,14 @@ use lib.Seq.{getD-set-other}
 use borrow.Author.Tests.{eqb-true, eqb-false}
 use Rattle.cusum.specs.Step.{rawValue, aboveLimit, cusumOf, fails, newCusum}
 use Rattle.encoding.specs.Bytes.{byte, number}
-use Rattle.rules.specs.Words.{hasPlan, any}
+use Rattle.rules.specs.Conditions.{any, pick}
+use Rattle.rules.specs.Words.{hasPlan}
 use Rattle.rules.specs.Unit.{starting, classFails, classCusum, newCusums, unitFails, defectGrade}
-use Rattle.rules.specs.StepThree.{designatedIn, inForce, pick, opening, graded}
-use Rattle.rules.specs.Sheet.{standingOf, portionOf, before, recovered, portion, standing, portionWith, worstBefore, codeGrade}
-use Rattle.sheet.specs.Layout.{countsOffset, planOf, markOf, markAt, sizeOf, sampleAt, entryOf, offset, mark, entryAt, unitOf, unitsBefore, sheetOf}
-use Rattle.sheet.specs.Refusals.{row, anyClass, anyLimits, noPlanRecord, tooLarge, startsAbove, smaller, anySmaller, tableRefusal, planRefusal, countTooLarge, unitRefusal, refusalBy, refusalAt, recordRefusal, checkFrom, verdict}
+use Rattle.rules.specs.StepThree.{designatedIn, inForce, opening, graded}
+use Rattle.rules.specs.Unit.{portionGradeOf}
+use Rattle.rules.specs.Sheet.{standingOf, before, recovered, portionGrade, standing, portionGradeWith, worstBefore, codeGrade}
+use Rattle.sheet.specs.Layout.{countsOffset, planOf, markOf, markAt, sizeOf, sampleUnitAt, entryOf, offset, mark, entryAt, unitsIn, unitsBefore, sheetOf}
+use Rattle.sheet.specs.Refusals.{refusedIf, anyClass, anyNumbers, noPlanRecord, tooLarge, startAboveLimit, smaller, anySmaller, tableRefusal, planRefusal, countTooLarge, unitRefusal, refusalBy, refusalAt, recordRefusal, checkFrom, verdict}
 use Rattle.sheet.specs.declared.Mark.the-variants.{UnitMark, RedesignationMark}
 use Rattle.results.specs.Record.{cusumBytes, resultBytes}
 use Rattle.tally.specs.declared.Answer.{Answer}
@@ -57,7 +59,7 @@ oneCriticalResult = 71 ∷ 82 ∷ 0 ∷ 1 ∷ 0 ∷ 0 ∷ 0 ∷ 0 ∷ 0 ∷ 5 �
 outcomes : (_≡_ {A = Outcome} (record { answer = oneUnit; buffer = noDefectsResult }) (outcome noDefects emptyBuffer))
     × (_≡_ {A = Outcome} (record { answer = oneUnit; buffer = oneCriticalResult }) (outcome oneCritical emptyBuffer))
     × (recordsIn noDefects ≡ 1)
-unfolding noDefects oneCritical rawValue aboveLimit cusumOf fails newCusum hasPlan any starting classFails classCusum newCusums unitFails defectGrade designatedIn inForce pick opening graded standingOf portionOf before recovered portion standing portionWith worstBefore codeGrade planOf markOf markAt sizeOf sampleAt entryOf offset entryAt unitOf unitsBefore sheetOf row anyClass anyLimits noPlanRecord tooLarge startsAbove smaller anySmaller tableRefusal planRefusal countTooLarge unitRefusal refusalBy refusalAt recordRefusal checkFrom verdict cusumBytes resultBytes resultOf bytesBy written anyTooLarge overfullBy overfullBefore acceptance outcomeBy outcome recordsOf recordsIn
+unfolding noDefects oneCritical rawValue aboveLimit cusumOf fails newCusum hasPlan any starting classFails classCusum newCusums unitFails defectGrade designatedIn inForce pick opening graded standingOf portionGradeOf before recovered portionGrade standing portionGradeWith worstBefore codeGrade planOf markOf markAt sizeOf sampleUnitAt entryOf offset entryAt unitsIn unitsBefore sheetOf refusedIf anyClass anyNumbers noPlanRecord tooLarge startAboveLimit smaller anySmaller tableRefusal planRefusal countTooLarge unitRefusal refusalBy refusalAt recordRefusal checkFrom verdict cusumBytes resultBytes resultOf bytesBy written anyTooLarge overfullBy overfullBefore acceptance outcomeBy outcome recordsOf recordsIn
 outcomes = (refl, refl, refl)
 
 pub no-defects-accepted : AcceptedAs noDefects emptyBuffer oneUnit noDefectsResult

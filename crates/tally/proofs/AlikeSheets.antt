@@ -13,7 +13,7 @@ use Rattle.encoding.specs.Bytes.{byte, number}
 use Rattle.rules.specs.declared.Plan.{Plan}
 use Rattle.rules.specs.declared.Entry.{Entry}
 use Rattle.rules.proofs.SideBySide.{UnitBelow, Below, NoRedesignation}
-use Rattle.sheet.specs.Layout.{planSize, tableOffset, limitsSize, cells, countsOffset, kinds, prerequisiteOffset, unitSize, planOf, markOf, markAt, sizeOf, sampleAt, entryOf, offset, mark, entryAt}
+use Rattle.sheet.specs.Layout.{planSize, tableOffset, planNumbersSize, cells, countsOffset, kinds, prerequisiteOffset, unitSize, planOf, markOf, markAt, sizeOf, sampleUnitAt, entryOf, offset, mark, entryAt}
 use Rattle.sheet.specs.declared.Mark.{Mark}
 use Rattle.sheet.specs.declared.Mark.the-variants.{UnitMark, RedesignationMark, BreakMark, NoMark}
 use Rattle.sheet.proofs.Offsets.{size-ge, offset-lt, offset-ge}
@@ -55,7 +55,7 @@ planBy : (ℕ → ℕ) → Plan
 planBy given =
     record {
       designated = given 2;
-      limits = map (λ cell. let at = tableOffset + limitsSize * cell in
+      numbers = map (λ cell. let at = tableOffset + planNumbersSize * cell in
           record {
             start = 256 * given at + given (at + 1);
             tolerance = 256 * given (at + 2) + given (at + 2 + 1);
@@ -123,8 +123,8 @@ module _ (bytes bytes' : List ℕ) (alike : Alike bytes bytes') where
 
     module _ (no-more : (i kind : ℕ) → UnitAt bytes i → kind < kinds
         → number bytes (offset bytes i + (countsOffset + 2 * kind)) ≤ number bytes' (offset bytes i + (countsOffset + 2 * kind))) where
-      below-unit : (i : ℕ) → mark bytes i ≡ UnitMark → UnitBelow (sampleAt bytes (offset bytes i)) (sampleAt bytes' (offset bytes i))
-      unfolding sampleAt sizeOf
+      below-unit : (i : ℕ) → mark bytes i ≡ UnitMark → UnitBelow (sampleUnitAt bytes (offset bytes i)) (sampleUnitAt bytes' (offset bytes i))
+      unfolding sampleUnitAt sizeOf
       below-unit i e =
           let size : sizeOf (mark bytes i) ≡ unitSize = ap sizeOf e in
           let same : (place at : ℕ) → at ≡ offset bytes i + place → place < unitSize → (countsOffset ≤ place → place < prerequisiteOffset → ⊥)

@@ -9,10 +9,10 @@ use lib.ListN.{length, drop}
 use borrow.Author.Tests.{lt-ltb, le-ltb}
 use Rattle.encoding.specs.Bytes.{byte}
 use Rattle.rules.specs.Words.{tableOf}
-use Rattle.rules.specs.StepThree.{pick}
+use Rattle.rules.specs.Conditions.{pick}
 use Rattle.rules.specs.Sheet.{codeGrade}
 use Rattle.sheet.specs.Layout.{planSize, planOf, unitsBefore, sheetOf}
-use Rattle.sheet.specs.Refusals.{verdict, anyLimits}
+use Rattle.sheet.specs.Refusals.{verdict, anyNumbers}
 use Rattle.sheet.specs.declared.Verdict.the-variants.{Accepted}
 use Rattle.sheet.proofs.Rows.{plan-whole}
 use Rattle.sheet.proofs.Accepted.{Facts, facts}
@@ -47,7 +47,7 @@ module _ (bytes buffer : List ℕ) (records units : ℕ) (accepted : verdict byt
     room-for-records = omega (arith, units-counted)
 
     -- the code tests every L, and no L is too large
-    pub never-overfull : anyLimits limitTooLarge (tableOf (planOf bytes)) ≡ true → ⊥
+    pub never-overfull : anyNumbers limitTooLarge (tableOf (planOf bytes)) ≡ true → ⊥
     never-overfull e = true≢false (sym e ∙ limits-fit bytes records sheet-facts)
 
     module _ (raw : List ℕ) (is-raw : raw ≡ writtenSoFar bytes records buffer records) (small : (at : ℕ) → byte bytes at < 256) where

@@ -9,7 +9,7 @@ use lib.IntN.{pos}
 use Rattle.rules.specs.Sheet.{Sheet}
 use Rattle.rules.specs.Anchor.{Anchor, opening, restart, failure}
 use Rattle.rules.proofs.Anchors.{Found, found, largest-form-by-place}
-use Rattle.sheet.specs.Layout.{sampleAt, offset, sheetOf}
+use Rattle.sheet.specs.Layout.{sampleUnitAt, offset, sheetOf}
 use Rattle.tally.specs.Demand3.{sheetIn, AnchorAt, Demand3First}
 use Rattle.tally.proofs.Recorded.{entry-unit, recorded-cusum}
 
@@ -40,6 +40,6 @@ demand3-first bytes buffer answer results accepted i at planned class in-range =
       an-anchor = an-anchor-at bytes i class;
       largest-of = λ anchor.
           ap pos (recorded-cusum bytes buffer answer results accepted i at class in-range)
-          ∙ largest-form-by-place (sheetIn bytes) class in-range i (sampleAt bytes (offset bytes i)) (entry-unit bytes i (at .is-unit)) planned
+          ∙ largest-form-by-place (sheetIn bytes) class in-range i (sampleUnitAt bytes (offset bytes i)) (entry-unit bytes i (at .is-unit)) planned
           (anchor .from) (anchor .n) (anchor .failed) (anchor .reaches) (anchor .lies) (anchor .latest);
     }

@@ -13,32 +13,33 @@ use borrow.Author.Tests.{ltb-false, leb-true, leb-false}
 use Rattle.cusum.specs.declared.Cusum.{Cusum}
 use Rattle.cusum.specs.Step.{largestTenths}
 use Rattle.encoding.specs.Bytes.{byte, number}
-use Rattle.rules.specs.Words.{substandard, classes, any, tenthsIn, countsOf}
+use Rattle.rules.specs.Conditions.{any}
+use Rattle.rules.specs.Words.{substandard, classes, tenthsIn, countsOf}
 use Rattle.rules.specs.Unit.{classCusum, newCusums}
 use Rattle.rules.specs.StepThree.{graded}
-use Rattle.rules.specs.Sheet.{Sheet, before, inForceAt, gradedAt, portion, codeGrade}
-use Rattle.rules.specs.declared.Sample.{Sample}
-use Rattle.rules.specs.declared.Entry.the-variants.{SampleUnit}
+use Rattle.rules.specs.Sheet.{Sheet, before, inForceAt, gradedAt, portionGrade, codeGrade}
+use Rattle.rules.specs.declared.SampleUnit.{SampleUnit}
+use Rattle.rules.specs.declared.Entry.the-variants.{UnitRecord}
 use Rattle.rules.proofs.LargestForm.{at-class}
 use Rattle.rules.proofs.Grades.{class-cusum-le, NewGrade, portion-at-most, code-grade-at-most}
-use Rattle.sheet.specs.Layout.{sampleAt, entryOf, offset, mark, entryAt, unitsBefore, sheetOf}
+use Rattle.sheet.specs.Layout.{sampleUnitAt, entryOf, offset, mark, entryAt, unitsBefore, sheetOf}
 use Rattle.sheet.specs.declared.Mark.{Mark}
 use Rattle.sheet.specs.declared.Mark.the-variants.{UnitMark, RedesignationMark, BreakMark, NoMark}
 use Rattle.sheet.proofs.Rows.{or-first, or-second}
 use Rattle.sheet.proofs.Accepted.{Facts}
 use Rattle.sheet.proofs.Past.{past-mark}
 use Rattle.sheet.proofs.Ranges.{designated-le, unit-in-range, new-grade-le}
-use Rattle.results.specs.Record.{resultSize, resultBytes, portionOffset, codeGradeOffset, cusumsOffset}
+use Rattle.results.specs.Record.{resultSize, resultBytes, portionGradeOffset, codeGradeOffset, cusumsOffset}
 use Rattle.results.proofs.Fields.{portion-read, code-grade-read, cusum-read}
 use Rattle.tally.specs.declared.Answer.{Answer}
 use Rattle.tally.specs.Outcome.{resultOf, anyTooLarge, overfullBy, overfullBefore}
-use Rattle.tally.specs.Demand3.{AcceptedAs, recordsIn, sheetIn, UnitAt, recordedCusum, recordedPortion, recordedCodeGrade, limitsInForce}
+use Rattle.tally.specs.Demand3.{AcceptedAs, recordsIn, sheetIn, UnitAt, recordedCusum, recordedPortionGrade, recordedCodeGrade, numbersInForce}
 use Rattle.tally.proofs.Written.{byte-of-record, number-of-record}
 use Rattle.tally.proofs.AcceptedSheet.{AcceptedSheet, accepted-sheet}
 
 -- ---- records by their mark
 
-pub entry-unit : (bytes : List ℕ) (i : ℕ) → mark bytes i ≡ UnitMark → entryAt bytes i ≡ SampleUnit (sampleAt bytes (offset bytes i))
+pub entry-unit : (bytes : List ℕ) (i : ℕ) → mark bytes i ≡ UnitMark → entryAt bytes i ≡ UnitRecord (sampleUnitAt bytes (offset bytes i))
 unfolding entryAt entryOf
 entry-unit bytes i is-unit = ap (entryOf bytes (offset bytes i)) is-unit
 
@@ -71,17 +72,17 @@ module _ (bytes : List ℕ) (n : ℕ) (facts : Facts bytes n) where
   unfolding entryAt
   new-grades i = new-grade-by i (mark bytes i) refl
 
-  prerequisite-by : (i : ℕ) (m : Mark) → mark bytes i ≡ m → (unit : Sample) → entryOf bytes (offset bytes i) m ≡ SampleUnit unit → unit .prerequisite ≤ substandard
+  prerequisite-by : (i : ℕ) (m : Mark) → mark bytes i ≡ m → (unit : SampleUnit) → entryOf bytes (offset bytes i) m ≡ UnitRecord unit → unit .prerequisite ≤ substandard
   unfolding entryOf
   prerequisite-by i UnitMark e unit is-unit =
-      let same : sampleAt bytes (offset bytes i) ≡ unit = cc in
-      subst (λ (u : Sample). u .prerequisite ≤ substandard) same (unit-in-range bytes n facts i (inside-unit i e) e .prerequisite-le)
+      let same : sampleUnitAt bytes (offset bytes i) ≡ unit = cc in
+      subst (λ (u : SampleUnit). u .prerequisite ≤ substandard) same (unit-in-range bytes n facts i (inside-unit i e) e .prerequisite-le)
   prerequisite-by i RedesignationMark e unit is-unit = let z : _≡_ {A = ℕ} 0 1 = cc in omega arith
   prerequisite-by i BreakMark e unit is-unit = let z : _≡_ {A = ℕ} 0 1 = cc in omega arith
   prerequisite-by i NoMark e unit is-unit = let z : _≡_ {A = ℕ} 0 1 = cc in omega arith
 
   -- a unit's prerequisite grade is a grade
-  pub prerequisite-grades : (i : ℕ) (unit : Sample) → entryAt bytes i ≡ SampleUnit unit → unit .prerequisite ≤ substandard
+  pub prerequisite-grades : (i : ℕ) (unit : SampleUnit) → entryAt bytes i ≡ UnitRecord unit → unit .prerequisite ≤ substandard
   unfolding entryAt
   prerequisite-grades i unit is-unit = prerequisite-by i (mark bytes i) refl unit is-unit
 
@@ -111,14 +112,14 @@ not-overfull sheet (suc n) e i h = go (eq-or-lt-of-le (le-of-suc-le-suc h)) (not
     go (inr less) earlier = earlier less
 
 -- the CuSum of a class behind a unit
-pub cusum-graded : (sheet : Sheet) (i : ℕ) (unit : Sample) (class : ℕ) → class < length classes
+pub cusum-graded : (sheet : Sheet) (i : ℕ) (unit : SampleUnit) (class : ℕ) → class < length classes
     → tenthsIn (gradedAt sheet i unit .cusums) class ≡ classCusum (sheet .table) (inForceAt sheet i) (before sheet i .cusums) (countsOf unit) class
 unfolding graded newCusums
 cusum-graded sheet i unit class h = at-class (classCusum (sheet .table) (inForceAt sheet i) (before sheet i .cusums) (countsOf unit)) class h
 
 -- in a sheet of which no record is overfull every CuSum fits in two bytes
 pub cusum-fits : (sheet : Sheet) (n : ℕ) → overfullBefore sheet n ≡ false → (i : ℕ) → i < n
-    → (unit : Sample) → sheet .entry i ≡ SampleUnit unit → (class : ℕ) → class < length classes
+    → (unit : SampleUnit) → sheet .entry i ≡ UnitRecord unit → (class : ℕ) → class < length classes
     → tenthsIn (gradedAt sheet i unit .cusums) class ≤ largestTenths
 unfolding overfullBy
 cusum-fits sheet n e i h unit is-unit class k =
@@ -134,8 +135,8 @@ module _ (bytes buffer : List ℕ) (answer : Answer) (results : List ℕ) (accep
   grades = codeGrade (sheetIn bytes)
 
   module _ (i : ℕ) (at : UnitAt bytes i) where
-    abbrev unit : Sample
-    unit = sampleAt bytes (offset bytes i)
+    abbrev unit : SampleUnit
+    unit = sampleUnitAt bytes (offset bytes i)
 
     recorded-byte : (place value : ℕ) → ((more : List ℕ) → byte (resultBytes (grades (unit .code)) (resultOf (sheetIn bytes) i unit) ++ more) place ≡ value)
         → byte results (resultSize * unitsBefore bytes i + place) ≡ value
@@ -151,24 +152,24 @@ module _ (bytes buffer : List ℕ) (answer : Answer) (results : List ℕ) (accep
         ap (λ (b : List ℕ). number b (resultSize * unitsBefore bytes i + place)) (sheet-accepted .filled)
         ∙ number-of-record grades bytes (recordsIn bytes) (recordsIn bytes) _ i (at .inside) unit (entry-unit bytes i (at .is-unit)) place value known
 
-    pub recorded-portion : recordedPortion bytes results i ≡ portion (sheetIn bytes) i (sampleAt bytes (offset bytes i))
+    pub recorded-portion : recordedPortionGrade bytes results i ≡ portionGrade (sheetIn bytes) i (sampleUnitAt bytes (offset bytes i))
     unfolding resultOf
     recorded-portion =
-        recorded-byte portionOffset _ (λ rest. portion-read (grades (unit .code)) (resultOf (sheetIn bytes) i unit) rest)
+        recorded-byte portionGradeOffset _ (λ rest. portion-read (grades (unit .code)) (resultOf (sheetIn bytes) i unit) rest)
 
-    pub recorded-code-grade : recordedCodeGrade bytes results i ≡ codeGrade (sheetIn bytes) (sampleAt bytes (offset bytes i) .code)
+    pub recorded-code-grade : recordedCodeGrade bytes results i ≡ codeGrade (sheetIn bytes) (sampleUnitAt bytes (offset bytes i) .code)
     recorded-code-grade =
         recorded-byte codeGradeOffset _ (λ rest. code-grade-read (grades (unit .code)) (resultOf (sheetIn bytes) i unit) rest)
 
     -- every CuSum fits in its two bytes
-    pub cusum-in-two-bytes : (class : ℕ) → class < length classes → tenthsIn (gradedAt (sheetIn bytes) i (sampleAt bytes (offset bytes i)) .cusums) class ≤ largestTenths
+    pub cusum-in-two-bytes : (class : ℕ) → class < length classes → tenthsIn (gradedAt (sheetIn bytes) i (sampleUnitAt bytes (offset bytes i)) .cusums) class ≤ largestTenths
     unfolding sheetIn sheetOf
     cusum-in-two-bytes class h =
         cusum-fits (sheetIn bytes) (recordsIn bytes) (sheet-accepted .none-overfull) i (at .inside) unit (entry-unit bytes i (at .is-unit)) class h
 
     pub recorded-cusum : (class : ℕ) → class < length classes
         → recordedCusum bytes results i class
-        ≡ classCusum (sheetIn bytes .table) (inForceAt (sheetIn bytes) i) (before (sheetIn bytes) i .cusums) (countsOf (sampleAt bytes (offset bytes i))) class
+        ≡ classCusum (sheetIn bytes .table) (inForceAt (sheetIn bytes) i) (before (sheetIn bytes) i .cusums) (countsOf (sampleUnitAt bytes (offset bytes i))) class
     unfolding resultOf
     recorded-cusum class h =
         let small = cusum-in-two-bytes class h in
@@ -177,12 +178,12 @@ module _ (bytes buffer : List ℕ) (answer : Answer) (results : List ℕ) (accep
 
     -- ---- bounds
 
-    pub recorded-cusum-le : (class : ℕ) → class < length classes → recordedCusum bytes results i class ≤ limitsInForce bytes i class .limit
+    pub recorded-cusum-le : (class : ℕ) → class < length classes → recordedCusum bytes results i class ≤ numbersInForce bytes i class .limit
     recorded-cusum-le class h =
         rw (recorded-cusum class h)
         (class-cusum-le (sheetIn bytes .table) (inForceAt (sheetIn bytes) i) (before (sheetIn bytes) i .cusums) (countsOf unit) class)
 
-    pub recorded-portion-le : recordedPortion bytes results i ≤ substandard
+    pub recorded-portion-le : recordedPortionGrade bytes results i ≤ substandard
     unfolding sheetIn sheetOf
     recorded-portion-le =
         rw recorded-portion

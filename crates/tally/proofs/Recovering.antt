@@ -9,16 +9,18 @@ use lib.Dec.{leb}
 use lib.ListN.{length, set}
 use borrow.Author.Tests.{lt-ltb, le-ltb, leb-true, leb-false}
 use Rattle.rules.specs.Words.{worse}
-use Rattle.rules.specs.StepThree.{designatedIn, pick}
-use Rattle.rules.specs.Sheet.{Sheet, before, designatedBefore, stepThreeEnds, inFinishedRun, recovered, portionOf, portion, standingOf, standing}
-use Rattle.rules.specs.declared.Sample.{Sample}
+use Rattle.rules.specs.Conditions.{pick}
+use Rattle.rules.specs.StepThree.{designatedIn}
+use Rattle.rules.specs.Unit.{portionGradeOf}
+use Rattle.rules.specs.Sheet.{Sheet, before, designatedBefore, stepThreeEnds, inFinishedRun, recovered, portionGrade, standingOf, standing}
+use Rattle.rules.specs.declared.SampleUnit.{SampleUnit}
 use Rattle.rules.specs.declared.Phase.{Phase}
 use Rattle.rules.specs.declared.Phase.the-variants.{Designated, StepThree}
 use Rattle.rules.specs.declared.Entry.{Entry}
-use Rattle.rules.specs.declared.Entry.the-variants.{SampleUnit, Redesignation, Break}
+use Rattle.rules.specs.declared.Entry.the-variants.{UnitRecord, Redesignation, Break}
 use Rattle.rules.proofs.Tests.{and-true, or-false}
 use Rattle.rules.proofs.FinishedRun.{InStepThree, FinishedRun}
-use Rattle.results.specs.Record.{portionOffset, standingOffset, resultBytes}
+use Rattle.results.specs.Record.{portionGradeOffset, standingOffset, resultBytes}
 use Rattle.results.specs.Codes.{ungraded}
 use Rattle.results.proofs.Graded.{set-behind}
 use Rattle.tally.specs.Outcome.{resultOf, bytesBy, written}
@@ -51,7 +53,7 @@ module _ (sheet : Sheet) where
   bytes-same : (m m' i : ℕ) (entry : Entry) → endedAt sheet m i ≡ endedAt sheet m' i → endedAt sheet m (i + 1) ≡ endedAt sheet m' (i + 1)
       → endedAt sheet m (i + 2) ≡ endedAt sheet m' (i + 2) → bytesSoFar sheet m i entry ≡ bytesSoFar sheet m' i entry
   unfolding bytesSoFar recoveredSoFar
-  bytes-same m m' i (SampleUnit unit) p q r = rw (p, q, r)
+  bytes-same m m' i (UnitRecord unit) p q r = rw (p, q, r)
   bytes-same m m' i (Redesignation new) p q r = refl
   bytes-same m m' i Break p q r = refl
 
@@ -73,7 +75,7 @@ module _ (sheet : Sheet) where
   -- ---- whether a unit is recovered so far
 
   -- the unit that is record m itself
-  pub recovered-now : (m : ℕ) (unit : Sample) → (unit .recoverable && stepThreeEnds sheet m) ≡ recoveredSoFar sheet (suc m) m unit
+  pub recovered-now : (m : ℕ) (unit : SampleUnit) → (unit .recoverable && stepThreeEnds sheet m) ≡ recoveredSoFar sheet (suc m) m unit
   unfolding recoveredSoFar
   recovered-now m unit =
       rw (ended-below (suc m) m (omega arith), ended-behind (suc m) (m + 1) (omega arith), ended-behind (suc m) (m + 2) (omega arith), or-false)
@@ -82,7 +84,7 @@ module _ (sheet : Sheet) where
   three-or a b c e = rw e
 
   -- the units of a finished run that ends at record m: those marked recoverable
-  pub recovered-first : (k : ℕ) (unit : Sample) → stepThreeEnds sheet (suc (suc k)) ≡ true → recoveredSoFar sheet (suc (suc (suc k))) k unit ≡ unit .recoverable
+  pub recovered-first : (k : ℕ) (unit : SampleUnit) → stepThreeEnds sheet (suc (suc k)) ≡ true → recoveredSoFar sheet (suc (suc (suc k))) k unit ≡ unit .recoverable
   unfolding recoveredSoFar
   recovered-first k unit e =
       let two : k + 2 ≡ suc (suc k) = omega arith in
@@ -94,7 +96,7 @@ module _ (sheet : Sheet) where
       true-last false true = refl
       true-last false false = refl
 
-  pub recovered-second : (k : ℕ) (unit : Sample) → stepThreeEnds sheet (suc (suc k)) ≡ true → recoveredSoFar sheet (suc (suc (suc k))) (suc k) unit ≡ unit .recoverable
+  pub recovered-second : (k : ℕ) (unit : SampleUnit) → stepThreeEnds sheet (suc (suc k)) ≡ true → recoveredSoFar sheet (suc (suc (suc k))) (suc k) unit ≡ unit .recoverable
   unfolding recoveredSoFar
   recovered-second k unit e =
       let one : suc k + 1 ≡ suc (suc k) = omega arith in
@@ -106,7 +108,7 @@ module _ (sheet : Sheet) where
       true-middle false = refl
 
   -- a unit that is not marked is never recovered
-  pub not-marked : (m i : ℕ) (unit : Sample) → unit .recoverable ≡ false → recoveredSoFar sheet m i unit ≡ false
+  pub not-marked : (m i : ℕ) (unit : SampleUnit) → unit .recoverable ≡ false → recoveredSoFar sheet m i unit ≡ false
   unfolding recoveredSoFar
   not-marked m i unit e = rw e
 
@@ -121,8 +123,8 @@ module _ (sheet : Sheet) where
         go false e = ended-below n j (leb-false n j e)
 
     bytes-all : (i : ℕ) (entry : Entry) → bytesSoFar sheet n i entry ≡ bytesBy (λ code. ungraded) sheet i entry
-    unfolding bytesSoFar recoveredSoFar bytesBy resultIf resultOf portion standing recovered inFinishedRun
-    bytes-all i (SampleUnit unit) = rw (ended-all i, ended-all (i + 1), ended-all (i + 2))
+    unfolding bytesSoFar recoveredSoFar bytesBy resultIf resultOf portionGrade standing recovered inFinishedRun
+    bytes-all i (UnitRecord unit) = rw (ended-all i, ended-all (i + 1), ended-all (i + 2))
     bytes-all i (Redesignation new) = refl
     bytes-all i Break = refl
 
@@ -133,24 +135,24 @@ module _ (sheet : Sheet) where
 
 -- ---- a portion recovered in its record
 
-set-two : (xs ys : List ℕ) (p s : ℕ) → set (set (xs ++ ys) (length xs + portionOffset) p) (length xs + standingOffset) s ≡ xs ++ set (set ys portionOffset p) standingOffset s
+set-two : (xs ys : List ℕ) (p s : ℕ) → set (set (xs ++ ys) (length xs + portionGradeOffset) p) (length xs + standingOffset) s ≡ xs ++ set (set ys portionGradeOffset p) standingOffset s
 set-two xs ys p s =
-    ap (λ (l : List ℕ). set l (length xs + standingOffset) s) (set-behind xs ys portionOffset p) ∙ set-behind xs (set ys portionOffset p) standingOffset s
+    ap (λ (l : List ℕ). set l (length xs + standingOffset) s) (set-behind xs ys portionGradeOffset p) ∙ set-behind xs (set ys portionGradeOffset p) standingOffset s
 
-pub one-recovered : (sheet : Sheet) (j designated : ℕ) (unit : Sample) (flag : Bool) (xs rest : List ℕ) → designated ≡ designatedBefore sheet j
+pub one-recovered : (sheet : Sheet) (j designated : ℕ) (unit : SampleUnit) (flag : Bool) (xs rest : List ℕ) → designated ≡ designatedBefore sheet j
     → (unit .recoverable ≡ false → flag ≡ false)
     → recoveredIn (xs ++ (resultBytes ungraded (resultIf sheet j unit flag) ++ rest)) (length xs) designated unit
     ≡ xs ++ (resultBytes ungraded (resultIf sheet j unit (unit .recoverable)) ++ rest)
-unfolding recoveredIn pick resultIf resultBytes portionOf standingOf
+unfolding recoveredIn pick resultIf resultBytes portionGradeOf standingOf
 one-recovered sheet j designated unit flag xs rest d unmarked = go (unit .recoverable) refl
   where
     go : (t : Bool) → unit .recoverable ≡ t
-        → pick t (set (set (xs ++ (resultBytes ungraded (resultIf sheet j unit flag) ++ rest)) (length xs + portionOffset) (worse designated (unit .prerequisite))) (length xs + standingOffset) 3)
+        → pick t (set (set (xs ++ (resultBytes ungraded (resultIf sheet j unit flag) ++ rest)) (length xs + portionGradeOffset) (worse designated (unit .prerequisite))) (length xs + standingOffset) 3)
         (xs ++ (resultBytes ungraded (resultIf sheet j unit flag) ++ rest))
         ≡ xs ++ (resultBytes ungraded (resultIf sheet j unit t) ++ rest)
     go true e =
         set-two xs (resultBytes ungraded (resultIf sheet j unit flag) ++ rest) (worse designated (unit .prerequisite)) 3
-        ∙ ap (λ (x : ℕ). xs ++ set (set (resultBytes ungraded (resultIf sheet j unit flag) ++ rest) portionOffset (worse x (unit .prerequisite))) standingOffset 3) d
+        ∙ ap (λ (x : ℕ). xs ++ set (set (resultBytes ungraded (resultIf sheet j unit flag) ++ rest) portionGradeOffset (worse x (unit .prerequisite))) standingOffset 3) d
     go false e = ap (λ (b : Bool). xs ++ (resultBytes ungraded (resultIf sheet j unit b) ++ rest)) (unmarked e)
 
 -- the three units of a finished run share the designated grade

@@ -9,12 +9,12 @@ use lib.Dec.{leb}
 use borrow.Author.Tests.{leb-true, leb-false}
 use Rattle.rules.specs.Words.{tableOf, countsOf}
 use Rattle.rules.specs.Unit.{classCusum}
-use Rattle.rules.specs.Sheet.{Sheet, before, inForceAt, portion, codeGrade}
+use Rattle.rules.specs.Sheet.{Sheet, before, inForceAt, portionGrade, codeGrade}
 use Rattle.rules.specs.Anchor.{failureAt}
 use Rattle.rules.specs.TwoInARow.{secondInARow}
-use Rattle.rules.specs.declared.Sample.{Sample}
+use Rattle.rules.specs.declared.SampleUnit.{SampleUnit}
 use Rattle.rules.proofs.SideBySide.{Below, NoRedesignation, not-second, second, fewer-cusums, fewer-grades}
-use Rattle.sheet.specs.Layout.{planOf, sampleAt, offset, mark, entryAt, sheetOf}
+use Rattle.sheet.specs.Layout.{planOf, sampleUnitAt, offset, mark, entryAt, sheetOf}
 use Rattle.sheet.specs.declared.Mark.the-variants.{UnitMark}
 use Rattle.sheet.proofs.Accepted.{Facts}
 use Rattle.sheet.proofs.Past.{past-entry}
@@ -69,11 +69,11 @@ module _ (bytes bytes' buffer buffer' : List ℕ) (answer answer' : Answer) (res
       record { inside = inside-unit bytes' (recordsIn bytes') facts' i is-unit; is-unit = is-unit }
 
   module _ (i : ℕ) (at : UnitAt bytes i) where
-    abbrev unit : Sample
-    unit = sampleAt bytes (offset bytes i)
+    abbrev unit : SampleUnit
+    unit = sampleUnitAt bytes (offset bytes i)
 
-    abbrev unit' : Sample
-    unit' = sampleAt bytes' (offset bytes' i)
+    abbrev unit' : SampleUnit
+    unit' = sampleUnitAt bytes' (offset bytes' i)
 
     -- CuSums and failures, over records
     compared : ((j : ℕ) → j < i → secondInARow (sheetIn bytes') j ≡ false) → (class : ℕ)
@@ -104,13 +104,13 @@ module _ (bytes bytes' buffer buffer' : List ℕ) (answer answer' : Answer) (res
 
     -- grades, over records
     compared-grades : ((j : ℕ) → secondInARow (sheetIn bytes') j ≡ false)
-        → (portion (sheetIn bytes) i unit ≤ portion (sheetIn bytes') i unit')
+        → (portionGrade (sheetIn bytes) i unit ≤ portionGrade (sheetIn bytes') i unit')
         × (codeGrade (sheetIn bytes) (unit .code) ≤ codeGrade (sheetIn bytes') (unit' .code))
     unfolding sheetIn sheetOf
     compared-grades =
         let grade = designated-le bytes (recordsIn bytes) facts in
         subst⁻¹ (λ (s : Sheet). ((j : ℕ) → secondInARow s j ≡ false)
-        → (portion (sheetIn bytes) i unit ≤ portion s i unit') × (codeGrade (sheetIn bytes) (unit .code) ≤ codeGrade s (unit' .code))) is-fellow
+        → (portionGrade (sheetIn bytes) i unit ≤ portionGrade s i unit') × (codeGrade (sheetIn bytes) (unit .code) ≤ codeGrade s (unit' .code))) is-fellow
         (λ never. fewer-grades (tableOf (planOf bytes)) (planOf bytes .designated) (entryAt bytes) (entryAt bytes') (recordsIn bytes) fellows none
         (omega arith) never i unit unit' (entry-unit bytes i (at .is-unit)) (entry-unit bytes' i (unit-fellow i at .is-unit)))
 

@@ -11,8 +11,8 @@ use Rattle.rules.specs.Words.{Table, tableOf}
 use Rattle.rules.specs.StepThree.{opening, graded, endsAt, next}
 use Rattle.rules.specs.Sheet.{before, gradedAt, stepThreeEnds}
 use Rattle.rules.specs.declared.State.{State}
-use Rattle.rules.specs.declared.Sample.{Sample}
-use Rattle.sheet.specs.Layout.{planSize, planOf, markAt, sizeOf, entryOf, offset, entryAt, unitOf, unitsBefore, sheetOf}
+use Rattle.rules.specs.declared.SampleUnit.{SampleUnit}
+use Rattle.sheet.specs.Layout.{planSize, planOf, markAt, sizeOf, entryOf, offset, entryAt, unitsIn, unitsBefore, sheetOf}
 use Rattle.sheet.specs.Refusals.{verdict}
 use Rattle.sheet.specs.declared.Verdict.the-variants.{Accepted}
 use Rattle.sheet.proofs.Accepted.{Facts, facts}
@@ -53,7 +53,7 @@ module _ (bytes : List ℕ) (records : ℕ) (table : Table) (position : Position
   unfolding positionAt
   state-is = ap (λ (p : Position). p .state) (walk .here)
 
-  pub graded-is : (unit : Sample) → graded table (position .state) unit ≡ gradedAt (sheetOf bytes records) (position .index) unit
+  pub graded-is : (unit : SampleUnit) → graded table (position .state) unit ≡ gradedAt (sheetOf bytes records) (position .index) unit
   unfolding sheetOf
   graded-is unit = ap₂ (λ (t : Table) (s : State). graded t s unit) (walk .same-table) state-is
 
@@ -77,7 +77,7 @@ module _ (bytes : List ℕ) (records : ℕ) (table : Table) (position : Position
     pub advanced : record {
       index = position .index + 1;
       at = position .at + sizeOf (markAt bytes (position .at));
-      units = position .units + unitOf (markAt bytes (position .at));
+      units = position .units + unitsIn (markAt bytes (position .at));
       state = next table (position .state) (entryOf bytes (position .at) (markAt bytes (position .at)));
     } ≡ positionAt bytes records (position .index + 1)
     unfolding positionAt offset unitsBefore before sheetOf entryAt
@@ -85,7 +85,7 @@ module _ (bytes : List ℕ) (records : ℕ) (table : Table) (position : Position
         ap₂ (λ (t : Table) (p : Position). record {
           index = p .index + 1;
           at = p .at + sizeOf (markAt bytes (p .at));
-          units = p .units + unitOf (markAt bytes (p .at));
+          units = p .units + unitsIn (markAt bytes (p .at));
           state = next t (p .state) (entryOf bytes (p .at) (markAt bytes (p .at)));
         }) (walk .same-table) (walk .here)
         ∙ ap (λ (n : ℕ). record { index = position .index + 1; at = offset bytes n; units = unitsBefore bytes n; state = before (sheetOf bytes records) n }) (sym (add-one (position .index)))

@@ -1,4 +1,4 @@
--- The worked cases P1 to P10. P3 to P5 are laws of rule 2, under any limits; the others compute, P2 once T+L at B and at C are put
+-- The worked cases P1 to P10. P3 to P5 are laws of rule 2, under any numbers; the others compute, P2 once T+L at B and at C are put
 -- in, P9 and P10 once the buffer is known to hold the records.
 use Prim.Native.Nat.{ℕ, _+_, _*_, _≤_}
 use mathlib.Core.Path.{_≡_, refl, sym, ap}
@@ -9,29 +9,31 @@ use lib.ListN.{length}
 use lib.IntN.{pos, negsuc}
 use borrow.Author.Tests.{lt-ltb, le-ltb}
 use Rattle.cusum.specs.Step.{tenthsOf, rawValue, aboveLimit, cusumOf, fails, newCusum, stepOf}
-use Rattle.cusum.specs.declared.Limits.{Limits}
+use Rattle.cusum.specs.declared.PlanNumbers.{PlanNumbers}
 use Rattle.cusum.proofs.Laws.{step-within}
-use Rattle.rules.specs.Words.{hasPlan, any, all}
+use Rattle.rules.specs.Conditions.{any, all, pick}
+use Rattle.rules.specs.Words.{hasPlan}
 use Rattle.rules.specs.Unit.{starting, admits, withinTolerance, allZero, classFails, classCusum, newCusums, unitFails, bestLower, defectGrade, qualifies}
-use Rattle.rules.specs.StepThree.{designatedIn, inForce, pick, afterDesignated, endsStepThree, afterStepThree, phaseAfterUnit, unitEndsStepThree, unitStartsStepThree, unitRestarts, opening, graded, phaseAfter, endsAt, restarts, cusumsAfter, stateWith, next}
-use Rattle.rules.specs.Sheet.{standingOf, portionOf, before, stepThreeEnds, inFinishedRun, recovered, portion, standing, portionWith, worstBefore, codeGrade}
-use Rattle.sheet.specs.Layout.{planOf, markOf, markAt, sizeOf, sampleAt, entryOf, offset, entryAt, unitOf, unitsBefore, sheetOf}
-use Rattle.sheet.specs.Refusals.{row, anyClass, anyLimits, noPlanRecord, tooLarge, startsAbove, smaller, anySmaller, tableRefusal, planRefusal, countTooLarge, unitRefusal, refusalBy, refusalAt, recordRefusal, checkFrom, verdict}
+use Rattle.rules.specs.StepThree.{designatedIn, inForce, afterDesignated, endsStepThree, afterStepThree, phaseAfterUnit, unitEndsStepThree, unitStartsStepThree, unitRestarts, opening, graded, phaseAfter, endsAt, restarts, cusumsAfter, stateWith, next}
+use Rattle.rules.specs.Unit.{portionGradeOf}
+use Rattle.rules.specs.Sheet.{standingOf, before, stepThreeEnds, inFinishedRun, recovered, portionGrade, standing, portionGradeWith, worstBefore, codeGrade}
+use Rattle.sheet.specs.Layout.{planOf, markOf, markAt, sizeOf, sampleUnitAt, entryOf, offset, entryAt, unitsIn, unitsBefore, sheetOf}
+use Rattle.sheet.specs.Refusals.{refusedIf, anyClass, anyNumbers, noPlanRecord, tooLarge, startAboveLimit, smaller, anySmaller, tableRefusal, planRefusal, countTooLarge, unitRefusal, refusalBy, refusalAt, recordRefusal, checkFrom, verdict}
 use Rattle.sheet.specs.declared.Verdict.the-variants.{Accepted}
 use Rattle.results.specs.Record.{resultSize, cusumBytes, resultBytes}
 use Rattle.tally.specs.Outcome.{Outcome, resultOf, bytesBy, written, anyTooLarge, overfullBy, overfullBefore, acceptance, outcomeBy, outcome}
 use Rattle.tally.specs.WorkedCases.{met, failed, stepsFrom, minorSheet, minorGraded, peachPlan, peachUnits, peach, peachResults, oneUnit, WorkedCases}
 
 -- P3 to P5
-module _ (limits : Limits) where
-  at-limit : (count : ℕ) → tenthsOf count ≡ limits .tolerance → stepOf limits (record { tenths = limits .limit }) count ≡ met (limits .limit)
-  at-limit count h = sym (step-within limits (record { tenths = limits .limit }) count (limits .limit) (omega arith) (omega arith))
+module _ (numbers : PlanNumbers) where
+  at-limit : (count : ℕ) → tenthsOf count ≡ numbers .tolerance → stepOf numbers (record { tenths = numbers .limit }) count ≡ met (numbers .limit)
+  at-limit count h = sym (step-within numbers (record { tenths = numbers .limit }) count (numbers .limit) (omega arith) (omega arith))
 
-  one-above : (old count : ℕ) → rawValue limits old count ≡ pos (limits .limit + 1) → stepOf limits (record { tenths = old }) count ≡ failed (limits .limit)
+  one-above : (old count : ℕ) → rawValue numbers old count ≡ pos (numbers .limit + 1) → stepOf numbers (record { tenths = old }) count ≡ failed (numbers .limit)
   unfolding aboveLimit cusumOf fails newCusum
-  one-above old count h = rw (h, lt-ltb (limits .limit) (limits .limit + 1) (omega arith))
+  one-above old count h = rw (h, lt-ltb (numbers .limit) (numbers .limit + 1) (omega arith))
 
-  one-below : (old count : ℕ) → rawValue limits old count ≡ negsuc 0 → stepOf limits (record { tenths = old }) count ≡ met 0
+  one-below : (old count : ℕ) → rawValue numbers old count ≡ negsuc 0 → stepOf numbers (record { tenths = old }) count ≡ met 0
   unfolding aboveLimit cusumOf fails newCusum
   one-below old count h = rw h
 
@@ -49,9 +51,9 @@ unfolding
     hasPlan any all starting admits withinTolerance allZero classFails classCusum newCusums unitFails bestLower defectGrade qualifies
     designatedIn inForce pick afterDesignated endsStepThree afterStepThree phaseAfterUnit unitEndsStepThree unitStartsStepThree
     unitRestarts opening graded phaseAfter endsAt restarts cusumsAfter stateWith next
-    standingOf portionOf before stepThreeEnds inFinishedRun recovered portion standing portionWith worstBefore codeGrade
-    planOf markOf markAt sizeOf sampleAt entryOf offset entryAt unitOf unitsBefore sheetOf
-    row anyClass anyLimits noPlanRecord tooLarge startsAbove smaller anySmaller tableRefusal planRefusal countTooLarge unitRefusal refusalBy
+    standingOf portionGradeOf before stepThreeEnds inFinishedRun recovered portionGrade standing portionGradeWith worstBefore codeGrade
+    planOf markOf markAt sizeOf sampleUnitAt entryOf offset entryAt unitsIn unitsBefore sheetOf
+    refusedIf anyClass anyNumbers noPlanRecord tooLarge startAboveLimit smaller anySmaller tableRefusal planRefusal countTooLarge unitRefusal refusalBy
     refusalAt recordRefusal checkFrom verdict
     cusumBytes resultBytes
     resultOf bytesBy written anyTooLarge overfullBy overfullBefore acceptance outcomeBy outcome

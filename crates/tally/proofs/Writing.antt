@@ -15,11 +15,11 @@ use Rattle.rules.specs.StepThree.{designatedIn, graded, unitEndsStepThree, ends
 use Rattle.rules.specs.Sheet.{Sheet, before, designatedBefore, stepThreeEnds}
 use Rattle.rules.specs.declared.State.{State}
 use Rattle.rules.specs.declared.Grading.{Grading}
-use Rattle.rules.specs.declared.Sample.{Sample}
+use Rattle.rules.specs.declared.SampleUnit.{SampleUnit}
 use Rattle.rules.specs.declared.Entry.{Entry}
-use Rattle.rules.specs.declared.Entry.the-variants.{SampleUnit, Redesignation, Break}
+use Rattle.rules.specs.declared.Entry.the-variants.{UnitRecord, Redesignation, Break}
 use Rattle.rules.proofs.FinishedRun.{FinishedRun, finished-run}
-use Rattle.sheet.specs.Layout.{unitSize, sizeOf, sampleAt, offset, mark, entryOf, entryAt, unitOf, unitsBefore, sheetOf}
+use Rattle.sheet.specs.Layout.{unitSize, sizeOf, sampleUnitAt, offset, mark, entryOf, entryAt, unitsIn, unitsBefore, sheetOf}
 use Rattle.sheet.specs.declared.Mark.{Mark}
 use Rattle.sheet.specs.declared.Mark.the-variants.{UnitMark, RedesignationMark, BreakMark, NoMark}
 use Rattle.sheet.proofs.Accepted.{Facts}
@@ -40,21 +40,21 @@ use Rattle.tally.proofs.Walking.{walk-facts, at-is, units-are, state-is
 -- ---- a record that is no unit
 
 unfoldable pub NoUnit : Entry → Type 0
-NoUnit (SampleUnit unit) = ⊥
+NoUnit (UnitRecord unit) = ⊥
 NoUnit (Redesignation new) = Unit {0}
 NoUnit Break = Unit {0}
 
 -- ---- units and their places
 
 -- a record that reads as a unit has its mark
-unit-mark-of : (bytes : List ℕ) (at : ℕ) (m : Mark) (unit : Sample) → entryOf bytes at m ≡ SampleUnit unit → m ≡ UnitMark
+unit-mark-of : (bytes : List ℕ) (at : ℕ) (m : Mark) (unit : SampleUnit) → entryOf bytes at m ≡ UnitRecord unit → m ≡ UnitMark
 unfolding entryOf
 unit-mark-of bytes at UnitMark unit e = refl
 unit-mark-of bytes at RedesignationMark unit e = let z : _≡_ {A = ℕ} 0 1 = cc in absurd (omega arith)
 unit-mark-of bytes at BreakMark unit e = let z : _≡_ {A = ℕ} 0 1 = cc in absurd (omega arith)
 unit-mark-of bytes at NoMark unit e = let z : _≡_ {A = ℕ} 0 1 = cc in absurd (omega arith)
 
-pub unit-mark : (bytes : List ℕ) (i : ℕ) (unit : Sample) → entryAt bytes i ≡ SampleUnit unit → mark bytes i ≡ UnitMark
+pub unit-mark : (bytes : List ℕ) (i : ℕ) (unit : SampleUnit) → entryAt bytes i ≡ UnitRecord unit → mark bytes i ≡ UnitMark
 unfolding entryAt
 unit-mark bytes i unit e = unit-mark-of bytes (offset bytes i) (mark bytes i) unit e
 
@@ -64,8 +64,8 @@ module _ (bytes : List ℕ) (i : ℕ) (m : mark bytes i ≡ UnitMark) where
   next-offset = ap (λ (x : Mark). offset bytes i + sizeOf x) m
 
   pub next-units : unitsBefore bytes (suc i) ≡ unitsBefore bytes i + 1
-  unfolding unitsBefore unitOf
-  next-units = ap (λ (x : Mark). unitsBefore bytes i + unitOf x) m
+  unfolding unitsBefore unitsIn
+  next-units = ap (λ (x : Mark). unitsBefore bytes i + unitsIn x) m
 
 -- a record of an accepted sheet starts inside it
 pub offset-inside : (bytes : List ℕ) (records : ℕ) → Facts bytes records → (i : ℕ) → i ≤ records → offset bytes i ≤ length bytes
@@ -80,14 +80,14 @@ unfolding unitsBefore
 units-mono bytes i zero h = let e : i ≡ 0 = omega arith in rw e (omega arith)
 units-mono bytes i (suc n) h = go (eq-or-lt-of-le h) (units-mono bytes i n)
   where
-    go : (i ≡ suc n) ⊎ (i < suc n) → (i ≤ n → unitsBefore bytes i ≤ unitsBefore bytes n) → unitsBefore bytes i ≤ unitsBefore bytes n + unitOf (mark bytes n)
+    go : (i ≡ suc n) ⊎ (i < suc n) → (i ≤ n → unitsBefore bytes i ≤ unitsBefore bytes n) → unitsBefore bytes i ≤ unitsBefore bytes n + unitsIn (mark bytes n)
     go (inl e) r = rw e (omega arith)
     go (inr l) r = omega (arith, r (omega arith))
 
 -- ---- lengths
 
-length-by : (bytes : List ℕ) (sheet : Sheet) (m i at : ℕ) (k : Mark) → length (bytesSoFar sheet m i (entryOf bytes at k)) ≡ resultSize * unitOf k
-unfolding bytesSoFar entryOf unitOf
+length-by : (bytes : List ℕ) (sheet : Sheet) (m i at : ℕ) (k : Mark) → length (bytesSoFar sheet m i (entryOf bytes at k)) ≡ resultSize * unitsIn k
+unfolding bytesSoFar entryOf unitsIn
 length-by bytes sheet m i at UnitMark = length-result _ _
 length-by bytes sheet m i at RedesignationMark = refl
 length-by bytes sheet m i at BreakMark = refl
@@ -113,18 +113,18 @@ nothing-yet bytes records old = refl
 -- ---- a record that writes nothing
 
 module _ (bytes : List ℕ) (records : ℕ) (old : List ℕ) (i : ℕ) where
-  pub silent : unitOf (mark bytes i) ≡ 0 → stepThreeEnds (sheetOf bytes records) i ≡ false
+  pub silent : unitsIn (mark bytes i) ≡ 0 → stepThreeEnds (sheetOf bytes records) i ≡ false
       → bytesSoFar (sheetOf bytes records) (suc i) i (entryAt bytes i) ≡ [] → writtenSoFar bytes records old i ≡ writtenSoFar bytes records old (i + 1)
   unfolding writtenSoFar recordsSoFar unitsBefore sheetOf
   silent u stays nothing =
       let sheet = sheetOf bytes records in
-      let units : unitsBefore bytes i + unitOf (mark bytes i) ≡ unitsBefore bytes i = omega (arith, u) in
+      let units : unitsBefore bytes i + unitsIn (mark bytes i) ≡ unitsBefore bytes i = omega (arith, u) in
       ap₂ (λ (w : List ℕ) (n : ℕ). w ++ drop (resultSize * n) old)
       (records-stay sheet i stays ∙ sym (ap (λ (l : List ℕ). recordsSoFar sheet (suc i) i ++ l) nothing ∙ append-nil (recordsSoFar sheet (suc i) i))) (sym units)
       ∙ sym (ap (λ (n : ℕ). recordsSoFar sheet n n ++ drop (resultSize * unitsBefore bytes n) old) (add-one i))
 
-  no-unit-mark : (at : ℕ) (k : Mark) (entry : Entry) → entryOf bytes at k ≡ entry → NoUnit entry → unitOf k ≡ 0
-  unfolding entryOf unitOf NoUnit
+  no-unit-mark : (at : ℕ) (k : Mark) (entry : Entry) → entryOf bytes at k ≡ entry → NoUnit entry → unitsIn k ≡ 0
+  unfolding entryOf unitsIn NoUnit
   no-unit-mark at UnitMark entry e h = absurd (subst NoUnit (sym e) h)
   no-unit-mark at RedesignationMark entry e h = refl
   no-unit-mark at BreakMark entry e h = refl
@@ -132,13 +132,13 @@ module _ (bytes : List ℕ) (records : ℕ) (old : List ℕ) (i : ℕ) where
 
   no-unit-ends : (state : State) (table : Table) (entry : Entry) → NoUnit entry → endsAt table state entry ≡ false
   unfolding endsAt NoUnit
-  no-unit-ends state table (SampleUnit unit) h = absurd h
+  no-unit-ends state table (UnitRecord unit) h = absurd h
   no-unit-ends state table (Redesignation new) h = refl
   no-unit-ends state table Break h = refl
 
   no-unit-bytes : (sheet : Sheet) (m : ℕ) (entry : Entry) → NoUnit entry → bytesSoFar sheet m i entry ≡ []
   unfolding bytesSoFar NoUnit
-  no-unit-bytes sheet m (SampleUnit unit) h = absurd h
+  no-unit-bytes sheet m (UnitRecord unit) h = absurd h
   no-unit-bytes sheet m (Redesignation new) h = refl
   no-unit-bytes sheet m Break h = refl
 
@@ -159,13 +159,13 @@ module _ (bytes : List ℕ) (records k : ℕ) (ends : stepThreeEnds (sheetOf byt
   abbrev sheet : Sheet
   sheet = sheetOf bytes records
 
-  abbrev first : Sample
-  first = sampleAt bytes (offset bytes k)
+  abbrev first : SampleUnit
+  first = sampleUnitAt bytes (offset bytes k)
 
-  abbrev second : Sample
-  second = sampleAt bytes (offset bytes (suc k))
+  abbrev second : SampleUnit
+  second = sampleUnitAt bytes (offset bytes (suc k))
 
-  abbrev one : (m j : ℕ) (unit : Sample) → List ℕ
+  abbrev one : (m j : ℕ) (unit : SampleUnit) → List ℕ
   one m j unit = resultBytes ungraded (resultIf sheet j unit (recoveredSoFar sheet m j unit))
 
   run-records : (m : ℕ) → recordsSoFar sheet m (suc (suc k)) ≡ (recordsSoFar sheet m k ++ one m k first) ++ one m (suc k) second
@@ -213,7 +213,7 @@ module _ (bytes : List ℕ) (records : ℕ) (table : Table) (position : Position
   pub units-few : position .units ≤ 1000
   units-few = omega (arith, units-are bytes records table position walk, units-most bytes records (walk-facts bytes records table position walk) i (walk .inside))
 
-  module _ (unit : Sample) (is-unit : entryAt bytes i ≡ SampleUnit unit) where
+  module _ (unit : SampleUnit) (is-unit : entryAt bytes i ≡ UnitRecord unit) where
     units-next : unitsBefore bytes (i + 1) ≡ position .units + 1
     units-next =
         ap (unitsBefore bytes) (add-one i) ∙ next-units bytes i (unit-mark bytes i unit is-unit) ∙ ap (λ (n : ℕ). n + 1) (sym (units-are bytes records table position walk))
@@ -273,7 +273,7 @@ module _ (bytes : List ℕ) (records : ℕ) (table : Table) (position : Position
       rest = drop (resultSize * unitsBefore bytes (i + 1)) old
 
       -- its record behind those before it
-      pub added : sets results (16 * position .units) (resultBytes ungraded result) ≡ recordsSoFar whole i i ++ (bytesSoFar whole (suc i) i (SampleUnit unit) ++ rest)
+      pub added : sets results (16 * position .units) (resultBytes ungraded result) ≡ recordsSoFar whole i i ++ (bytesSoFar whole (suc i) i (UnitRecord unit) ++ rest)
       unfolding writtenSoFar bytesSoFar
       added =
           let n = 16 * position .units in
@@ -291,35 +291,35 @@ module _ (bytes : List ℕ) (records : ℕ) (table : Table) (position : Position
           (ap (resultBytes ungraded) (is-result ∙ ap (resultIf whole i unit) (recovered-now whole i unit)))
           both
 
-      finish : recordsSoFar whole (suc i) i ++ (bytesSoFar whole (suc i) i (SampleUnit unit) ++ rest) ≡ writtenSoFar bytes records old (i + 1)
+      finish : recordsSoFar whole (suc i) i ++ (bytesSoFar whole (suc i) i (UnitRecord unit) ++ rest) ≡ writtenSoFar bytes records old (i + 1)
       unfolding writtenSoFar recordsSoFar sheetOf
       finish =
-          sym (append-assoc (recordsSoFar whole (suc i) i) (bytesSoFar whole (suc i) i (SampleUnit unit)) rest)
+          sym (append-assoc (recordsSoFar whole (suc i) i) (bytesSoFar whole (suc i) i (UnitRecord unit)) rest)
           ∙ ap (λ (x : Entry). (recordsSoFar whole (suc i) i ++ bytesSoFar whole (suc i) i x) ++ rest) (sym is-unit)
           ∙ sym (ap (λ (n : ℕ). recordsSoFar whole n n ++ rest) (add-one i))
 
       -- where step 3 does not end that is all
-      pub plain : stepThreeEnds whole i ≡ false → recordsSoFar whole i i ++ (bytesSoFar whole (suc i) i (SampleUnit unit) ++ rest) ≡ writtenSoFar bytes records old (i + 1)
+      pub plain : stepThreeEnds whole i ≡ false → recordsSoFar whole i i ++ (bytesSoFar whole (suc i) i (UnitRecord unit) ++ rest) ≡ writtenSoFar bytes records old (i + 1)
       unfolding writtenSoFar recordsSoFar sheetOf
       plain stays =
-          ap (λ (l : List ℕ). l ++ (bytesSoFar whole (suc i) i (SampleUnit unit) ++ rest)) (records-stay whole i stays)
+          ap (λ (l : List ℕ). l ++ (bytesSoFar whole (suc i) i (UnitRecord unit) ++ rest)) (records-stay whole i stays)
           ∙ finish
 
       -- and the two before it are recovered
       pub ended : (ends : stepThreeEnds whole i ≡ true) (designated : ℕ) → designated ≡ designatedIn (position .state .phase)
-          → twoRecovered bytes position designated (recordsSoFar whole i i ++ (bytesSoFar whole (suc i) i (SampleUnit unit) ++ rest)) ≡ writtenSoFar bytes records old (i + 1)
+          → twoRecovered bytes position designated (recordsSoFar whole i i ++ (bytesSoFar whole (suc i) i (UnitRecord unit) ++ rest)) ≡ writtenSoFar bytes records old (i + 1)
       unfolding twoRecovered
       ended ends designated d =
           let here : designated ≡ designatedBefore whole i = d ∙ ap (λ (x : State). designatedIn (x .phase)) (state-is bytes records table position walk) in
           let same = same-designated whole i (run ends) in
-          let tail = bytesSoFar whole (suc i) i (SampleUnit unit) ++ rest in
+          let tail = bytesSoFar whole (suc i) i (UnitRecord unit) ++ rest in
           let e : resultSize * position .units - 2 * resultSize ≡ resultSize * unitsBefore bytes (run ends .start) = omega (arith, units-is ends) in
           let f : resultSize * position .units - resultSize ≡ resultSize * unitsBefore bytes (suc (run ends .start)) = omega (arith, units-is ends, next-units bytes (run ends .start) (run-mark-first ends)) in
           let o : position .at - 2 * unitSize ≡ offset bytes (run ends .start) = omega (arith, offset-is ends) in
           let q : position .at - unitSize ≡ offset bytes (suc (run ends .start)) = omega (arith, offset-is ends, next-offset bytes (run ends .start) (run-mark-first ends)) in
           rw (e, f, o, q)
-          (ap (λ (n : ℕ). recoveredIn (recoveredIn (recordsSoFar whole n n ++ tail) (resultSize * unitsBefore bytes (run ends .start)) designated (sampleAt bytes (offset bytes (run ends .start))))
-          (resultSize * unitsBefore bytes (suc (run ends .start))) designated (sampleAt bytes (offset bytes (suc (run ends .start))))) (run ends .ends-here)
+          (ap (λ (n : ℕ). recoveredIn (recoveredIn (recordsSoFar whole n n ++ tail) (resultSize * unitsBefore bytes (run ends .start)) designated (sampleUnitAt bytes (offset bytes (run ends .start))))
+          (resultSize * unitsBefore bytes (suc (run ends .start))) designated (sampleUnitAt bytes (offset bytes (suc (run ends .start))))) (run ends .ends-here)
           ∙ run-recovered bytes records (run ends .start) (subst (λ (n : ℕ). stepThreeEnds whole n ≡ true) (run ends .ends-here) ends) (run-mark-first ends) (run-mark-second ends) designated
           (here ∙ sym (same .0)) (here ∙ sym (same .1)) tail
           ∙ sym (ap (λ (n : ℕ). recordsSoFar whole (suc n) n ++ tail) (run ends .ends-here))

@@ -8,20 +8,20 @@ use native.Mathlib.Nat.{eq-or-lt-of-le, le-of-suc-le-suc}
 use native.Mathlib.Omega.{arith}
 use lib.ListN.{length, length-append}
 use Rattle.rules.specs.Sheet.{Sheet}
-use Rattle.sheet.specs.Layout.{offset, mark, entryOf, entryAt, unitOf, unitsBefore, sheetOf}
+use Rattle.sheet.specs.Layout.{offset, mark, entryOf, entryAt, unitsIn, unitsBefore, sheetOf}
 use Rattle.sheet.specs.declared.Mark.{Mark}
 use Rattle.sheet.specs.declared.Mark.the-variants.{UnitMark, RedesignationMark, BreakMark, NoMark}
 use Rattle.encoding.specs.Bytes.{byte, number}
-use Rattle.rules.specs.declared.Sample.{Sample}
+use Rattle.rules.specs.declared.SampleUnit.{SampleUnit}
 use Rattle.rules.specs.declared.Entry.{Entry}
-use Rattle.rules.specs.declared.Entry.the-variants.{SampleUnit}
+use Rattle.rules.specs.declared.Entry.the-variants.{UnitRecord}
 use Rattle.results.specs.Record.{resultSize, resultBytes}
 use Rattle.results.proofs.Fields.{length-result, byte-behind, number-behind}
 use Rattle.tally.specs.Outcome.{resultOf, bytesBy, written}
 
 length-by : (grades : ℕ → ℕ) (bytes : List ℕ) (sheet : Sheet) (i at : ℕ) (m : Mark)
-    → length (bytesBy grades sheet i (entryOf bytes at m)) ≡ resultSize * unitOf m
-unfolding bytesBy entryOf unitOf
+    → length (bytesBy grades sheet i (entryOf bytes at m)) ≡ resultSize * unitsIn m
+unfolding bytesBy entryOf unitsIn
 length-by grades bytes sheet i at UnitMark = length-result _ _
 length-by grades bytes sheet i at RedesignationMark = refl
 length-by grades bytes sheet i at BreakMark = refl
@@ -51,7 +51,7 @@ written-around grades sheet i (suc n) h = go (eq-or-lt-of-le (le-of-suc-le-suc h
 
 -- ---- the result record of a unit, read back
 
-module _ (grades : ℕ → ℕ) (bytes : List ℕ) (records n : ℕ) (rest : List ℕ) (i : ℕ) (inside : i < n) (unit : Sample) (is-unit : entryAt bytes i ≡ SampleUnit unit) where
+module _ (grades : ℕ → ℕ) (bytes : List ℕ) (records n : ℕ) (rest : List ℕ) (i : ℕ) (inside : i < n) (unit : SampleUnit) (is-unit : entryAt bytes i ≡ UnitRecord unit) where
   -- it stands behind those of the units before it
   own-record : (more : List ℕ)
       × (written grades (sheetOf bytes records) n ++ rest

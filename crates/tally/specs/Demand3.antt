@@ -5,10 +5,10 @@ use mathlib.Core.Bool.{Bool, true, false}
 use mathlib.Core.List.{List}
 use lib.ListN.{length}
 use lib.IntN.{pos}
-use Rattle.cusum.specs.declared.Limits.{Limits}
+use Rattle.cusum.specs.declared.PlanNumbers.{PlanNumbers}
 use Rattle.cusum.specs.LargestForm.{largestForm}
 use Rattle.encoding.specs.Bytes.{byte, number}
-use Rattle.rules.specs.Words.{classes, hasPlan, limitsOf}
+use Rattle.rules.specs.Words.{classes, hasPlan, numbersOf}
 use Rattle.rules.specs.Sheet.{Sheet, inForceAt}
 use Rattle.rules.specs.Anchor.{failureAt, countsFrom, Anchor, Latest, anchorValue}
 use Rattle.rules.specs.TwoInARow.{secondInARow}
@@ -17,7 +17,7 @@ use Rattle.sheet.specs.Refusals.{verdict}
 use Rattle.sheet.specs.declared.Mark.the-variants.{UnitMark, RedesignationMark}
 use Rattle.sheet.specs.declared.Verdict.{Verdict}
 use Rattle.sheet.specs.declared.Verdict.the-variants.{Accepted, Refused}
-use Rattle.results.specs.Record.{cusumIn, portionIn, codeGradeIn}
+use Rattle.results.specs.Record.{cusumIn, portionGradeIn, codeGradeIn}
 use Rattle.tally.specs.declared.Answer.{Answer}
 use Rattle.tally.specs.Outcome.{Outcome, outcome}
 
@@ -49,15 +49,15 @@ pub record UnitAt (bytes : List ℕ) (i : ℕ) : Type 0 where
 abbrev pub recordedCusum : List ℕ → List ℕ → ℕ → ℕ → ℕ
 recordedCusum bytes results i class = cusumIn results (unitsBefore bytes i) class
 
-abbrev pub recordedPortion : List ℕ → List ℕ → ℕ → ℕ
-recordedPortion bytes results i = portionIn results (unitsBefore bytes i)
+abbrev pub recordedPortionGrade : List ℕ → List ℕ → ℕ → ℕ
+recordedPortionGrade bytes results i = portionGradeIn results (unitsBefore bytes i)
 
 abbrev pub recordedCodeGrade : List ℕ → List ℕ → ℕ → ℕ
 recordedCodeGrade bytes results i = codeGradeIn results (unitsBefore bytes i)
 
 -- S, T and L of the class in the plan in force for the unit that is record i
-abbrev pub limitsInForce : List ℕ → ℕ → ℕ → Limits
-limitsInForce bytes i class = limitsOf (sheetIn bytes .table) (inForceAt (sheetIn bytes) i) class
+abbrev pub numbersInForce : List ℕ → ℕ → ℕ → PlanNumbers
+numbersInForce bytes i class = numbersOf (sheetIn bytes .table) (inForceAt (sheetIn bytes) i) class
 
 -- ---- the first half
 
@@ -76,7 +76,7 @@ pub record FirstHalf (bytes results : List ℕ) (i class : ℕ) : Type 0 where
   pub an-anchor : AnchorAt bytes i class
   pub largest-of : (anchor : AnchorAt bytes i class) →
       pos (recordedCusum bytes results i class)
-      ≡ largestForm (limitsInForce bytes i class) (anchorValue (limitsInForce bytes i class) (anchor .failed)) (countsFrom (sheetIn bytes) class (anchor .from) (anchor .n))
+      ≡ largestForm (numbersInForce bytes i class) (anchorValue (numbersInForce bytes i class) (anchor .failed)) (countsFrom (sheetIn bytes) class (anchor .from) (anchor .n))
 
 -- for every accepted sheet, whatever it lists: at any unit that has a plan in force, for every class
 abbrev pub Demand3First : Type 0
@@ -116,7 +116,7 @@ pub record NoHigherAt (bytes bytes' results results' : List ℕ) (i : ℕ) : Typ
 
 -- no portion or code of the first grades lower than its fellow
 pub record NoLowerAt (bytes bytes' results results' : List ℕ) (i : ℕ) : Type 0 where
-  pub portions : recordedPortion bytes results i ≤ recordedPortion bytes' results' i
+  pub portions : recordedPortionGrade bytes results i ≤ recordedPortionGrade bytes' results' i
   pub codes : recordedCodeGrade bytes results i ≤ recordedCodeGrade bytes' results' i
 
 -- up to and including the second sheet's first failure of two units in a row, or the end if there is none; and of grades if the

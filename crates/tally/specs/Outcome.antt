@@ -4,15 +4,15 @@ use mathlib.Core.Bool.{Bool, false, _||_}
 use mathlib.Core.List.{List, [], _++_}
 use lib.Dec.{ltb}
 use lib.ListN.{length, drop}
-use Rattle.cusum.specs.declared.Limits.{Limits}
+use Rattle.cusum.specs.declared.PlanNumbers.{PlanNumbers}
 use Rattle.cusum.specs.declared.Cusum.{Cusum}
 use Rattle.cusum.specs.Step.{largestTenths}
-use Rattle.rules.specs.Words.{classes, any, tenthsIn}
-use Rattle.rules.specs.StepThree.{pick}
-use Rattle.rules.specs.Sheet.{Sheet, inForceAt, gradedAt, portion, standing, codeGrade}
-use Rattle.rules.specs.declared.Sample.{Sample}
+use Rattle.rules.specs.Conditions.{any, pick}
+use Rattle.rules.specs.Words.{classes, tenthsIn}
+use Rattle.rules.specs.Sheet.{Sheet, inForceAt, gradedAt, portionGrade, standing, codeGrade}
+use Rattle.rules.specs.declared.SampleUnit.{SampleUnit}
 use Rattle.rules.specs.declared.Entry.{Entry}
-use Rattle.rules.specs.declared.Entry.the-variants.{SampleUnit, Redesignation, Break}
+use Rattle.rules.specs.declared.Entry.the-variants.{UnitRecord, Redesignation, Break}
 use Rattle.sheet.specs.Layout.{sheetOf}
 use Rattle.sheet.specs.Refusals.{verdict}
 use Rattle.sheet.specs.declared.Verdict.{Verdict}
@@ -24,11 +24,11 @@ use Rattle.tally.specs.declared.Answer.{Answer}
 -- ---- the result records
 
 -- what is recorded of the unit that is record i, but for its code grade
-unfoldable pub resultOf : Sheet → ℕ → Sample → ResultRecord
+unfoldable pub resultOf : Sheet → ℕ → SampleUnit → ResultRecord
 resultOf sheet i unit =
     record {
       code = unit .code;
-      portion = portion sheet i unit;
+      portion = portionGrade sheet i unit;
       plan = inForceAt sheet i;
       standing = standing sheet i unit;
       cusums = gradedAt sheet i unit .cusums;
@@ -36,7 +36,7 @@ resultOf sheet i unit =
 
 -- what record i writes, where this is the grade of each code: a unit writes its result record
 unfoldable pub bytesBy : (ℕ → ℕ) → Sheet → ℕ → Entry → List ℕ
-bytesBy grades sheet i (SampleUnit unit) = resultBytes (grades (unit .code)) (resultOf sheet i unit)
+bytesBy grades sheet i (UnitRecord unit) = resultBytes (grades (unit .code)) (resultOf sheet i unit)
 bytesBy grades sheet i (Redesignation new) = []
 bytesBy grades sheet i Break = []
 
@@ -53,7 +53,7 @@ anyTooLarge cusums = any (λ class. ltb largestTenths (tenthsIn cusums class)) c
 
 -- at a record, and at one of the first n records
 unfoldable pub overfullBy : Sheet → ℕ → Entry → Bool
-overfullBy sheet i (SampleUnit unit) = anyTooLarge (gradedAt sheet i unit .cusums)
+overfullBy sheet i (UnitRecord unit) = anyTooLarge (gradedAt sheet i unit .cusums)
 overfullBy sheet i (Redesignation new) = false
 overfullBy sheet i Break = false
 
@@ -62,8 +62,8 @@ overfullBefore sheet zero = false
 overfullBefore sheet (suc n) = overfullBefore sheet n || overfullBy sheet n (sheet .entry n)
 
 -- an L too large for two bytes
-unfoldable pub limitTooLarge : Limits → Bool
-limitTooLarge limits = ltb largestTenths (limits .limit)
+unfoldable pub limitTooLarge : PlanNumbers → Bool
+limitTooLarge numbers = ltb largestTenths (numbers .limit)
 
 -- ---- the outcome
 

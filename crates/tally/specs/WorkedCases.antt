@@ -7,16 +7,16 @@ use mathlib.Core.Bool.{true, false}
 use mathlib.Core.List.{List, [], _∷_, _++_, map}
 use lib.ListN.{length, drop, getD}
 use lib.IntN.{pos, negsuc}
-use Rattle.cusum.specs.declared.Limits.{Limits}
+use Rattle.cusum.specs.declared.PlanNumbers.{PlanNumbers}
 use Rattle.cusum.specs.declared.Cusum.{Cusum}
 use Rattle.cusum.specs.declared.Stepped.{Stepped}
 use Rattle.cusum.specs.Step.{tenthsOf, startOf, rawValue, stepOf}
 use Rattle.encoding.specs.Bytes.{high, low}
 use Rattle.rules.specs.Words.{Table, zeroCusum}
 use Rattle.rules.specs.Sheet.{Sheet, inForceAt, gradedAt, stepThreeEnds}
-use Rattle.rules.specs.declared.Sample.{Sample}
+use Rattle.rules.specs.declared.SampleUnit.{SampleUnit}
 use Rattle.rules.specs.declared.Grading.{Grading}
-use Rattle.rules.specs.declared.Entry.the-variants.{SampleUnit, Break}
+use Rattle.rules.specs.declared.Entry.the-variants.{UnitRecord, Break}
 use Rattle.tally.specs.Outcome.{outcome, refusal}
 
 -- ---- one class from unit to unit
@@ -29,25 +29,25 @@ abbrev pub failed : ℕ → Stepped
 failed tenths = record { cusum = record { tenths = tenths }; fails = true }
 
 -- rule 2 at one unit after the other
-unfoldable pub stepsFrom : Limits → Cusum → List ℕ → List Stepped
-stepsFrom limits old [] = []
-stepsFrom limits old (count ∷ counts) = stepOf limits old count ∷ stepsFrom limits (stepOf limits old count .cusum) counts
+unfoldable pub stepsFrom : PlanNumbers → Cusum → List ℕ → List Stepped
+stepsFrom numbers old [] = []
+stepsFrom numbers old (count ∷ counts) = stepOf numbers old count ∷ stepsFrom numbers (stepOf numbers old count .cusum) counts
 
 -- what each unit makes of a CuSum that begins at its S
-abbrev pub steps : Limits → List ℕ → List Stepped
-steps limits counts = stepsFrom limits (startOf limits) counts
+abbrev pub steps : PlanNumbers → List ℕ → List Stepped
+steps numbers counts = stepsFrom numbers (startOf numbers) counts
 
 -- ---- sheets of units that have minor defects only, so that the class total alone decides
 
--- limits that such units never come near: 0/999.9/999.9
-abbrev pub wide : Limits
+-- numbers that such units never come near: 0/999.9/999.9
+abbrev pub wide : PlanNumbers
 wide = record { start = 0; tolerance = 9999; limit = 9999 }
 
--- the plan of total at A, B and C, with wide limits in the other classes
-abbrev pub totalTable : Limits → Limits → Limits → Table
+-- the plan of total at A, B and C, with wide numbers in the other classes
+abbrev pub totalTable : PlanNumbers → PlanNumbers → PlanNumbers → Table
 totalTable a b c = (wide ∷ wide ∷ wide ∷ a ∷ []) ∷ (wide ∷ wide ∷ wide ∷ b ∷ []) ∷ (wide ∷ wide ∷ wide ∷ c ∷ []) ∷ []
 
-abbrev pub minorUnit : ℕ → Sample
+abbrev pub minorUnit : ℕ → SampleUnit
 minorUnit defects = record { code = 1; critical = 0; severe = 0; major = 0; minor = defects; prerequisite = 0; recoverable = true }
 
 -- a unit for each count, and no other record; A is designated
@@ -56,7 +56,7 @@ minorSheet table counts =
     record {
       table = table;
       designated = 0;
-      entry = λ i. getD (map (λ defects. SampleUnit (minorUnit defects)) counts) i Break;
+      entry = λ i. getD (map (λ defects. UnitRecord (minorUnit defects)) counts) i Break;
       size = length counts;
     }
 
@@ -68,14 +68,14 @@ minorGraded table counts i = gradedAt (minorSheet table counts) i (minorUnit (ge
 abbrev pub p1Counts : List ℕ
 p1Counts = 8 ∷ 3 ∷ 2 ∷ 1 ∷ 12 ∷ []
 
-abbrev pub p2Table : Limits → Limits → Table
+abbrev pub p2Table : PlanNumbers → PlanNumbers → Table
 p2Table b c = totalTable (record { start = 10; tolerance = 30; limit = 30 }) b c
 
 -- P8: the counts of P7, then 2,2,1,1,1; 1.5/1.5/3 at A, 1/3/3 at B
 abbrev pub p8Counts : List ℕ
 p8Counts = 1 ∷ 4 ∷ 3 ∷ 2 ∷ 2 ∷ 1 ∷ 1 ∷ 1 ∷ []
 
-abbrev pub p8Table : Limits → Table
+abbrev pub p8Table : PlanNumbers → Table
 p8Table c = totalTable (record { start = 15; tolerance = 15; limit = 30 }) (record { start = 10; tolerance = 30; limit = 30 }) c
 
 -- those five units
@@ -151,20 +151,20 @@ pub record WorkedCases : Type 0 where
   -- "P1: 1/3/3, counts 8,3,2,1,12: CuSums 3 (fails),3,2,0,3 (fails)."
   pub p1 : steps (record { start = 10; tolerance = 30; limit = 30 }) p1Counts ≡ failed 30 ∷ met 30 ∷ met 20 ∷ met 0 ∷ failed 30 ∷ []
   -- "P2: there, T+L at B 10 and at C 13: the 8 grades B, the 12 C." The three units between meet A
-  pub p2 : (b c : Limits) → b .tolerance + b .limit ≡ 100 → c .tolerance + c .limit ≡ 130
+  pub p2 : (b c : PlanNumbers) → b .tolerance + b .limit ≡ 100 → c .tolerance + c .limit ≡ 130
       → map (λ i. minorGraded (p2Table b c) p1Counts i .grade) (0 ∷ 1 ∷ 2 ∷ 3 ∷ 4 ∷ []) ≡ 1 ∷ 0 ∷ 0 ∷ 0 ∷ 2 ∷ []
-  -- "P3: CuSum at L, count equal to T: stays L, meets." Under any limits; the second unit of P1 is a case
-  pub p3 : (limits : Limits) (count : ℕ) → tenthsOf count ≡ limits .tolerance
-      → stepOf limits (record { tenths = limits .limit }) count ≡ met (limits .limit)
-  -- "P4: raw value L+0.1 fails." Under any limits, and the CuSum becomes L; 1/3/3 with 6 defects from the CuSum 0.1 is a case
+  -- "P3: CuSum at L, count equal to T: stays L, meets." Under any numbers; the second unit of P1 is a case
+  pub p3 : (numbers : PlanNumbers) (count : ℕ) → tenthsOf count ≡ numbers .tolerance
+      → stepOf numbers (record { tenths = numbers .limit }) count ≡ met (numbers .limit)
+  -- "P4: raw value L+0.1 fails." Under any numbers, and the CuSum becomes L; 1/3/3 with 6 defects from the CuSum 0.1 is a case
   pub p4 :
-      ((limits : Limits) (old count : ℕ) → rawValue limits old count ≡ pos (limits .limit + 1)
-      → stepOf limits (record { tenths = old }) count ≡ failed (limits .limit))
+      ((numbers : PlanNumbers) (old count : ℕ) → rawValue numbers old count ≡ pos (numbers .limit + 1)
+      → stepOf numbers (record { tenths = old }) count ≡ failed (numbers .limit))
       × (rawValue (record { start = 10; tolerance = 30; limit = 30 }) 1 6 ≡ pos 31)
-  -- "P5: raw -0.1 gives 0." Under any limits, and the class meets; 1/3/3 with no defect from the CuSum 2.9 is a case. negsuc 0 is -1
+  -- "P5: raw -0.1 gives 0." Under any numbers, and the class meets; 1/3/3 with no defect from the CuSum 2.9 is a case. negsuc 0 is -1
   pub p5 :
-      ((limits : Limits) (old count : ℕ) → rawValue limits old count ≡ negsuc 0
-      → stepOf limits (record { tenths = old }) count ≡ met 0)
+      ((numbers : PlanNumbers) (old count : ℕ) → rawValue numbers old count ≡ negsuc 0
+      → stepOf numbers (record { tenths = old }) count ≡ met 0)
       × (rawValue (record { start = 10; tolerance = 30; limit = 30 }) 29 0 ≡ negsuc 0)
   -- "P6: 0/0.5/0.5, counts 1,0,1: 0.5,0,0.5."
   pub p6 : steps (record { start = 0; tolerance = 5; limit = 5 }) (1 ∷ 0 ∷ 1 ∷ []) ≡ met 5 ∷ met 0 ∷ met 5 ∷ []
@@ -172,7 +172,7 @@ pub record WorkedCases : Type 0 where
   pub p7 : steps (record { start = 15; tolerance = 15; limit = 30 }) (1 ∷ 4 ∷ 3 ∷ []) ≡ met 10 ∷ failed 30 ∷ failed 30 ∷ []
   -- "P8: then 2,2,1,1,1 at lower plan 1/3/3 are all zero; the last three qualify, since 2 is above 1.5." Whatever the plan of C: the
   -- plan in force for each unit, and for one after them; the CuSums; which qualify; where step 3 ends
-  pub p8 : (c : Limits) →
+  pub p8 : (c : PlanNumbers) →
       (map (inForceAt (minorSheet (p8Table c) p8Counts)) (0 ∷ 1 ∷ 2 ∷ 3 ∷ 4 ∷ 5 ∷ 6 ∷ 7 ∷ 8 ∷ []) ≡ 0 ∷ 0 ∷ 0 ∷ 1 ∷ 1 ∷ 1 ∷ 1 ∷ 1 ∷ 0 ∷ [])
       × (map (λ i. minorGraded (p8Table c) p8Counts i .cusums) p8Units ≡ zeros ∷ zeros ∷ zeros ∷ zeros ∷ zeros ∷ [])
       × (map (λ i. minorGraded (p8Table c) p8Counts i .qualifies) p8Units ≡ false ∷ false ∷ true ∷ true ∷ true ∷ [])

@@ -6,23 +6,24 @@ use mathlib.Core.List.{List, [], _++_}
 use lib.Dec.{ltb}
 use lib.ListN.{length, drop, set}
 use Rattle.rules.specs.Words.{worse}
-use Rattle.rules.specs.StepThree.{pick}
-use Rattle.rules.specs.Sheet.{Sheet, before, designatedBefore, inForceAt, gradedAt, stepThreeEnds, portionOf, standingOf}
-use Rattle.rules.specs.declared.Sample.{Sample}
+use Rattle.rules.specs.Conditions.{pick}
+use Rattle.rules.specs.Unit.{portionGradeOf}
+use Rattle.rules.specs.Sheet.{Sheet, before, designatedBefore, inForceAt, gradedAt, stepThreeEnds, standingOf}
+use Rattle.rules.specs.declared.SampleUnit.{SampleUnit}
 use Rattle.rules.specs.declared.Entry.{Entry}
-use Rattle.rules.specs.declared.Entry.the-variants.{SampleUnit, Redesignation, Break}
-use Rattle.sheet.specs.Layout.{unitSize, sampleAt, unitsBefore, sheetOf}
-use Rattle.results.specs.Record.{resultSize, portionOffset, standingOffset, resultBytes}
+use Rattle.rules.specs.declared.Entry.the-variants.{UnitRecord, Redesignation, Break}
+use Rattle.sheet.specs.Layout.{unitSize, sampleUnitAt, unitsBefore, sheetOf}
+use Rattle.results.specs.Record.{resultSize, portionGradeOffset, standingOffset, resultBytes}
 use Rattle.results.specs.Codes.{ungraded}
 use Rattle.results.specs.declared.ResultRecord.{ResultRecord}
 use Rattle.tally.specs.declared.Position.{Position}
 
 -- the result record of a unit, graded where the grading stands before record i, recovered or not
-unfoldable pub resultIf : Sheet → ℕ → Sample → Bool → ResultRecord
+unfoldable pub resultIf : Sheet → ℕ → SampleUnit → Bool → ResultRecord
 resultIf sheet i unit recovered =
     record {
       code = unit .code;
-      portion = portionOf (designatedBefore sheet i) (gradedAt sheet i unit .grade) (unit .prerequisite) recovered;
+      portion = portionGradeOf (designatedBefore sheet i) (gradedAt sheet i unit .grade) (unit .prerequisite) recovered;
       plan = inForceAt sheet i;
       standing = standingOf (before sheet i .phase) (gradedAt sheet i unit .fails) recovered;
       cusums = gradedAt sheet i unit .cusums;
@@ -34,12 +35,12 @@ module _ (sheet : Sheet) (m : ℕ) where
   endedAt j = ltb j m && stepThreeEnds sheet j
 
   -- recovered by then
-  unfoldable pub recoveredSoFar : ℕ → Sample → Bool
+  unfoldable pub recoveredSoFar : ℕ → SampleUnit → Bool
   recoveredSoFar i unit = unit .recoverable && (endedAt i || (endedAt (i + 1) || endedAt (i + 2)))
 
   -- what record i has written, and what the first n records have
   unfoldable pub bytesSoFar : ℕ → Entry → List ℕ
-  bytesSoFar i (SampleUnit unit) = resultBytes ungraded (resultIf sheet i unit (recoveredSoFar i unit))
+  bytesSoFar i (UnitRecord unit) = resultBytes ungraded (resultIf sheet i unit (recoveredSoFar i unit))
   bytesSoFar i (Redesignation new) = []
   bytesSoFar i Break = []
 
@@ -53,9 +54,9 @@ writtenSoFar bytes records old m = recordsSoFar (sheetOf bytes records) m m ++ d
 
 -- a portion is recovered in its result record, which starts at this offset of the buffer: the worse of designated grade and
 -- prerequisite grade, and standing 3
-unfoldable pub recoveredIn : List ℕ → ℕ → ℕ → Sample → List ℕ
+unfoldable pub recoveredIn : List ℕ → ℕ → ℕ → SampleUnit → List ℕ
 recoveredIn results start designated unit =
-    pick (unit .recoverable) (set (set results (start + portionOffset) (worse designated (unit .prerequisite))) (start + standingOffset) 3) results
+    pick (unit .recoverable) (set (set results (start + portionGradeOffset) (worse designated (unit .prerequisite))) (start + standingOffset) 3) results
 
 -- before a position there is room for two units in the sheet, and for their result records in the buffer: the differences below
 -- are no less than zero
@@ -70,5 +71,5 @@ pub record TwoBefore (bytes : List ℕ) (position : Position) (size : ℕ) : Typ
 unfoldable pub twoRecovered : List ℕ → Position → ℕ → List ℕ → List ℕ
 twoRecovered bytes position designated results =
     let start = resultSize * position .units in
-    recoveredIn (recoveredIn results (start - 2 * resultSize) designated (sampleAt bytes (position .at - 2 * unitSize)))
-    (start - resultSize) designated (sampleAt bytes (position .at - unitSize))
+    recoveredIn (recoveredIn results (start - 2 * resultSize) designated (sampleUnitAt bytes (position .at - 2 * unitSize)))
+    (start - resultSize) designated (sampleUnitAt bytes (position .at - unitSize))

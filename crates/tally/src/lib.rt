@@ -5,9 +5,9 @@ ghost use mathlib.Core.List.{List};
 ghost use lib.ListN.{length};
 ghost use lib.Seq.{sets};
 ghost use Rattle.rules.specs.StepThree.{opening, graded, next};
-ghost use Rattle.rules.specs.declared.Entry.the-variants.{SampleUnit};
+ghost use Rattle.rules.specs.declared.Entry.the-variants.{UnitRecord};
 ghost use Rattle.sheet.specs.Layout.{planSize, entryAt, unitsBefore, sheetOf};
-ghost use Rattle.sheet.specs.Refusals.{verdict, anyClass, anyLimits};
+ghost use Rattle.sheet.specs.Refusals.{verdict, anyClass, anyNumbers};
 ghost use Rattle.sheet.specs.declared.Verdict.the-variants.{Accepted};
 ghost use Rattle.results.specs.Record.{resultSize, resultBytes};
 ghost use Rattle.results.specs.Codes.{ungraded};
@@ -15,8 +15,8 @@ ghost use Rattle.tally.specs.Outcome.{Outcome, limitTooLarge, outcomeBy,
 ghost use Rattle.tally.specs.Writing.{resultIf, writtenSoFar, recoveredIn, TwoBefore, twoRecovered};
 ghost use Rattle.tally.specs.Position.{positionAt, Walk};
 use cusum::Cusum;
-use cusum::Limits;
-use results::PORTION_OFFSET;
+use cusum::PlanNumbers;
+use results::PORTION_GRADE_OFFSET;
 use results::RESULT_SIZE;
 use results::ResultRecord;
 use results::STANDING_OFFSET;
@@ -24,7 +24,7 @@ use results::grade_codes;
 use rules::Entry;
 use rules::Grading;
 use rules::Row;
-use rules::Sample;
+use rules::SampleUnit;
 use rules::State;
 use rules::Table;
 use rules::row_of;
@@ -36,9 +36,9 @@ use sheet::check;
 use sheet::entry_at;
 use sheet::mark_at;
 use sheet::plan_of;
-use sheet::sample_at;
+use sheet::sample_unit_at;
 use sheet::size_of;
-use sheet::unit_of;
+use sheet::units_in;
 
 // The standing of a recovered portion.
 const RECOVERED: u8 = 3;
@@ -91,7 +91,7 @@ fn past(bytes: &[u8], records: usize, table: Table, position: Position, after: S
     Position {
         index: position.index + 1,
         at: at + size_of(mark),
-        units: position.units + unit_of(mark),
+        units: position.units + units_in(mark),
         state: after,
     }
 }
@@ -102,7 +102,7 @@ fn result_here(
     records: usize,
     table: Table,
     position: Position,
-    unit: Sample,
+    unit: SampleUnit,
     grading: Grading,
     recovered: bool,
 ) -> ResultRecord
@@ -114,7 +114,7 @@ fn result_here(
     let cusums = grading.cusums;
     ResultRecord {
         code: unit.code,
-        portion: rules::portion(
+        portion: rules::portion_grade(
             phase.designated(),
             grading.grade,
             unit.prerequisite,
@@ -127,12 +127,12 @@ fn result_here(
 }
 
 // Recovers the portion of a unit, if it is marked recoverable, in its result record.
-fn recover(unit: Sample, designated: u8, results: &mut [u8], start: usize)
+fn recover(unit: SampleUnit, designated: u8, results: &mut [u8], start: usize)
     requires { ⌜ start + resultSize ≤ length (now results) ⌝ }
     ensures { λ _. ⌜ now (results .exit) ≡ recoveredIn (now (results .entry)) start designated unit ⌝ }
 {
     if unit.recoverable {
-        results[start + PORTION_OFFSET] = worse_of(designated, unit.prerequisite);
+        results[start + PORTION_GRADE_OFFSET] = worse_of(designated, unit.prerequisite);
         results[start + STANDING_OFFSET] = RECOVERED;
     }
 }
@@ -144,8 +144,8 @@ fn recover_two(bytes: &[u8], position: Position, designated: u8, results: &mut [
 {
     let at = position.at;
     let place = RESULT_SIZE * position.units;
-    let first = sample_at(bytes, at - 2 * UNIT_SIZE);
-    let second = sample_at(bytes, at - UNIT_SIZE);
+    let first = sample_unit_at(bytes, at - 2 * UNIT_SIZE);
+    let second = sample_unit_at(bytes, at - UNIT_SIZE);
     recover(first, designated, results, place - 2 * RESULT_SIZE);
     recover(second, designated, results, place - RESULT_SIZE);
 }
@@ -165,11 +165,11 @@ fn write_unit(
     records: usize,
     table: Table,
     position: Position,
-    unit: Sample,
+    unit: SampleUnit,
     results: &mut [u8],
 ) -> State
-    requires { ⌜ Walk (now bytes) records table position × (position .index < records) × (entryAt (now bytes) (position .index) ≡ SampleUnit unit) × (resultSize * unitsBefore (now bytes) (position .index + 1) ≤ length (now results)) ⌝ }
-    ensures state { λ r. ⌜ r ≡ next table (position .state) (SampleUnit unit) ⌝ }
+    requires { ⌜ Walk (now bytes) records table position × (position .index < records) × (entryAt (now bytes) (position .index) ≡ UnitRecord unit) × (resultSize * unitsBefore (now bytes) (position .index + 1) ≤ length (now results)) ⌝ }
+    ensures state { λ r. ⌜ r ≡ next table (position .state) (UnitRecord unit) ⌝ }
     ensures buffer { λ r. ⌜ ((old : List ℕ) → now (results .entry) ≡ writtenSoFar (now (bytes .entry)) records old (position .index) → length old ≡ length (now (results .entry)) → now (results .exit) ≡ writtenSoFar (now (bytes .entry)) records old (position .index + 1)) ⌝ }
 {
     let state = position.state;
@@ -209,7 +209,7 @@ fn write_here(
 {
     let state = position.state;
     match entry_here(bytes, records, table, position) {
-        Entry::SampleUnit(unit) => {
+        Entry::UnitRecord(unit) => {
             let after = write_unit(bytes, records, table, position, unit, results);
             past(bytes, records, table, position, after)
         }
@@ -236,10 +236,10 @@ fn write_records(bytes: &[u8], records: usize, table: Table, start: Position, re
 }
 
 // Whether an L is too large for two bytes. A CuSum is at most its L, so that none is too large where no L is (law `none-overfull`).
-fn limit_too_large(limits: Limits) -> bool
-    ensures { λ r. ⌜ r ≡ limitTooLarge limits ⌝ }
+fn limit_too_large(numbers: PlanNumbers) -> bool
+    ensures { λ r. ⌜ r ≡ limitTooLarge numbers ⌝ }
 {
-    let limit = limits.limit as u32;
+    let limit = numbers.limit as u32;
     Cusum::LARGEST_TENTHS < limit
 }
 
@@ -251,7 +251,7 @@ fn row_overfull(row: Row) -> bool
 }
 
 fn table_overfull(table: Table) -> bool
-    ensures { λ r. ⌜ r ≡ anyLimits limitTooLarge table ⌝ }
+    ensures { λ r. ⌜ r ≡ anyNumbers limitTooLarge table ⌝ }
 {
     row_overfull(row_of(table, 0))
         | (row_overfull(row_of(table, 1)) | row_overfull(row_of(table, 2)))

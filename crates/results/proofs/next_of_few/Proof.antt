@@ -4,7 +4,7 @@ use Prim.Native.Nat.{_-_, _≤_}
 use borrow.Author.Needs.{needs}
 use native.Mathlib.Omega.{arith}
 use mathlib.Core.Path.{refl}
-use Rattle.results.specs.Codes.{NextWith}
+use Rattle.results.specs.OneCode.{NextWith}
 use Rattle.results.proofs.Next.{next-end, next-here, next-behind, next-other}
 use Rattle.results.proofs.next_of_few.Statement.{statement}
 use Rattle.results.proofs.next_of_few.Tie as tie

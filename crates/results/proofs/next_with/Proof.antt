@@ -4,7 +4,7 @@ use Prim.Native.Nat.{_-_, _≤_}
 use mathlib.Core.Path.{refl}
 use native.Mathlib.Omega.{arith}
 use borrow.Author.Needs.{needs}
-use Rattle.results.specs.Codes.{NextWith}
+use Rattle.results.specs.OneCode.{NextWith}
 use Rattle.results.proofs.Next.{next-end, next-within, next-none, next-behind}
 use Rattle.results.proofs.next_with.Statement.{statement}
 use Rattle.results.proofs.next_with.Tie as tie

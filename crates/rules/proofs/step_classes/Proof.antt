@@ -1,6 +1,6 @@
 -- `rules::step_classes` meets its contract.
 -- The return follows from what the callees promise.
-use Rattle.rules.specs.Words.{any}
+use Rattle.rules.specs.Conditions.{any}
 use Rattle.rules.specs.Unit.{steppedIn}
 use Rattle.rules.proofs.Tests.{or-false}
 use borrow.Author.Needs.{needs}

@@ -2,7 +2,8 @@
 -- Each return follows from the tests on the way and what the callees promise.
 use mathlib.Core.Path.{_∙_}
 use borrow.Author.Tests.{lt-ltb, le-ltb}
-use Rattle.rules.specs.Words.{any, hasPlan}
+use Rattle.rules.specs.Conditions.{any}
+use Rattle.rules.specs.Words.{hasPlan}
 use Rattle.rules.specs.Unit.{steppedIn, newCusums, unitFails, classFails, classCusum}
 use borrow.Author.Needs.{needs}
 use Rattle.rules.proofs.step_in_force.Statement.{statement}

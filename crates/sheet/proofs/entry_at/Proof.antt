@@ -9,9 +9,9 @@ use Rattle.sheet.proofs.entry_at.Tie as tie
 enum-told : tie.Need-enum-told
 enum-told c = search needs
 
-sample-at-requires : tie.Need-sample-at-requires
+sample-unit-at-requires : tie.Need-sample-unit-at-requires
 unfolding sizeOf
-sample-at-requires c κs = omega (arith, ap sizeOf (c .enum-told .given .1))
+sample-unit-at-requires c κs = omega (arith, ap sizeOf (c .enum-told .given .1))
 
 enum-told-2 : tie.Need-enum-told-2
 enum-told-2 c = search needs
@@ -31,7 +31,7 @@ enum-told-4 c = search needs
 
 returns : tie.Need-returns
 unfolding entryOf
-returns c = rw (c .before .enum-told .given .1, c .sample-at .ensures)
+returns c = rw (c .before .enum-told .given .1, c .sample-unit-at .ensures)
 
 returns-2 : tie.Need-returns-2
 unfolding entryOf
@@ -50,7 +50,7 @@ entry-at-spec =
     tie.close
     (tie.spec
     enum-told
-    sample-at-requires
+    sample-unit-at-requires
     enum-told-2
     add-t6
     shared-slice-read-t8

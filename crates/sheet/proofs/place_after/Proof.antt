@@ -3,7 +3,7 @@
 use native.Mathlib.Omega.{arith}
 use mathlib.Core.Path.{ap}
 use Rattle.sheet.specs.Layout.{markAt, sizeOf}
-use Rattle.sheet.proofs.Offsets.{size-ge, unit-of-le}
+use Rattle.sheet.proofs.Offsets.{size-ge, units-in-le}
 use borrow.Author.Needs.{needs}
 use Rattle.sheet.proofs.place_after.Statement.{statement}
 use Rattle.sheet.proofs.place_after.Tie as tie
@@ -23,17 +23,17 @@ size-of-requires c κs = search needs
 add-t7 : tie.Need-add-t7
 add-t7 c = omega (arith, c .before .size-of .ensures, ap sizeOf (c .before .before .before .before .mark-at .ensures))
 
-unit-of-requires : tie.Need-unit-of-requires
-unit-of-requires c κs = search needs
+units-in-requires : tie.Need-units-in-requires
+units-in-requires c κs = search needs
 
 add-t9 : tie.Need-add-t9
-add-t9 c = omega (arith, c .before .unit-of .ensures, unit-of-le (c .before .before .before .before .before .before .mark-at .result))
+add-t9 c = omega (arith, c .before .units-in .ensures, units-in-le (c .before .before .before .before .before .before .mark-at .result))
 
 designated-by-requires : tie.Need-designated-by-requires
 designated-by-requires c κs = search needs
 
 returns : tie.Need-returns
-returns c = rw (c .before .before .before .before .size-of .ensures, c .before .before .unit-of .ensures, c .designated-by .ensures, c .before .before .before .before .before .before .entry-at .ensures, c .before .before .before .before .before .before .before .mark-at .ensures)
+returns c = rw (c .before .before .before .before .size-of .ensures, c .before .before .units-in .ensures, c .designated-by .ensures, c .before .before .before .before .before .before .entry-at .ensures, c .before .before .before .before .before .before .before .mark-at .ensures)
 
 pub place-after-spec : {M : Type 1} → statement M
 place-after-spec =
@@ -44,7 +44,7 @@ place-after-spec =
     add-t5
     size-of-requires
     add-t7
-    unit-of-requires
+    units-in-requires
     add-t9
     designated-by-requires
     returns)

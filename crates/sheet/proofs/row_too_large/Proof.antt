@@ -1,5 +1,5 @@
 -- `row_too_large` tests the four classes, as `anyClass` goes through them.
-use Rattle.rules.specs.Words.{any}
+use Rattle.rules.specs.Conditions.{any}
 use Rattle.rules.proofs.Tests.{or-false}
 use Rattle.sheet.specs.Refusals.{anyClass}
 use borrow.Author.Needs.{needs}

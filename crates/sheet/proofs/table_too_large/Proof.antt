@@ -1,7 +1,7 @@
--- `table_too_large` tests the three grades, as `anyLimits` goes through them.
-use Rattle.rules.specs.Words.{any}
+-- `table_too_large` tests the three grades, as `anyNumbers` goes through them.
+use Rattle.rules.specs.Conditions.{any}
 use Rattle.rules.proofs.Tests.{or-false}
-use Rattle.sheet.specs.Refusals.{anyLimits}
+use Rattle.sheet.specs.Refusals.{anyNumbers}
 use borrow.Author.Needs.{needs}
 use Rattle.sheet.proofs.table_too_large.Statement.{statement}
 use Rattle.sheet.proofs.table_too_large.Tie as tie
@@ -25,7 +25,7 @@ row-too-large-requires-3 : tie.Need-row-too-large-requires-3
 row-too-large-requires-3 c κs = search needs
 
 returns : tie.Need-returns
-unfolding anyLimits any
+unfolding anyNumbers any
 returns c = rw (or-false, ← c .before .before .before .before .before .row-of .ensures, ← c .before .before .before .row-of2 .ensures, ← c .before .row-of3 .ensures, c .before .before .before .before .row-too-large .ensures, c .before .before .row-too-large2 .ensures, c .row-too-large3 .ensures)
 
 pub table-too-large-spec : {M : Type 1} → statement M

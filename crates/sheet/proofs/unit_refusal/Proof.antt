@@ -3,7 +3,7 @@ use native.Mathlib.Omega.{arith}
 use Prim.Native.Nat.{_+_}
 use lib.ListN.{length}
 use borrow.Author.Tests.{lt-ltb, le-ltb, le-leb, lt-leb}
-use Rattle.sheet.specs.Refusals.{unitRefusal, row}
+use Rattle.sheet.specs.Refusals.{unitRefusal, refusedIf}
 use borrow.Author.Needs.{needs}
 use Rattle.sheet.proofs.unit_refusal.Statement.{statement}
 use Rattle.sheet.proofs.unit_refusal.Tie as tie
@@ -12,22 +12,22 @@ sub-if1 : tie.Need-sub-if1
 sub-if1 c = search needs
 
 returns : tie.Need-returns
-unfolding unitRefusal row
+unfolding unitRefusal refusedIf
 returns c = rw (lt-ltb (length (c .before .before .args .bytes .now)) (c .before .before .args .at + 14) (omega arith))
 
 returns-2 : tie.Need-returns-2
-unfolding unitRefusal row
+unfolding unitRefusal refusedIf
 returns-2 c = rw (le-ltb (length (c .before .before .before .args .bytes .now)) (c .before .before .before .args .at + 14) (omega arith), le-leb _ _ (c .if2 .taken))
 
-sample-at-requires : tie.Need-sample-at-requires
-sample-at-requires c κs = search needs
+sample-unit-at-requires : tie.Need-sample-unit-at-requires
+sample-unit-at-requires c κs = search needs
 
 count-too-large-requires : tie.Need-count-too-large-requires
 count-too-large-requires c κs = search needs
 
 returns-3 : tie.Need-returns-3
-unfolding unitRefusal row
-returns-3 c = rw (le-ltb (length (c .before .before .before .before .before .before .args .bytes .now)) (c .before .before .before .before .before .before .args .at + 14) (omega arith), lt-leb _ _ (c .before .before .before .if2 .left), ← c .before .before .sample-at .ensures, ← c .before .count-too-large .ensures, c .if3 .taken)
+unfolding unitRefusal refusedIf
+returns-3 c = rw (le-ltb (length (c .before .before .before .before .before .before .args .bytes .now)) (c .before .before .before .before .before .before .args .at + 14) (omega arith), lt-leb _ _ (c .before .before .before .if2 .left), ← c .before .before .sample-unit-at .ensures, ← c .before .count-too-large .ensures, c .if3 .taken)
 
 add-if4 : tie.Need-add-if4
 add-if4 c = search needs
@@ -42,12 +42,12 @@ shared-slice-read-if4-2 : tie.Need-shared-slice-read-if4-2
 shared-slice-read-if4-2 c = search needs
 
 returns-4 : tie.Need-returns-4
-unfolding unitRefusal row
-returns-4 c = rw (le-ltb (length (c .before .before .before .before .before .before .before .before .before .args .bytes .now)) (c .before .before .before .before .before .before .before .before .before .args .at + 14) (omega arith), lt-leb _ _ (c .before .before .before .before .before .before .if2 .left), ← c .before .before .before .before .before .sample-at .ensures, ← c .before .before .before .before .count-too-large .ensures, c .before .before .before .if3 .left, c .if4 .taken)
+unfolding unitRefusal refusedIf
+returns-4 c = rw (le-ltb (length (c .before .before .before .before .before .before .before .before .before .args .bytes .now)) (c .before .before .before .before .before .before .before .before .before .args .at + 14) (omega arith), lt-leb _ _ (c .before .before .before .before .before .before .if2 .left), ← c .before .before .before .before .before .sample-unit-at .ensures, ← c .before .before .before .before .count-too-large .ensures, c .before .before .before .if3 .left, c .if4 .taken)
 
 returns-5 : tie.Need-returns-5
-unfolding unitRefusal row
-returns-5 c = rw (le-ltb (length (c .before .before .before .before .before .before .before .before .before .args .bytes .now)) (c .before .before .before .before .before .before .before .before .before .args .at + 14) (omega arith), lt-leb _ _ (c .before .before .before .before .before .before .if2 .left), ← c .before .before .before .before .before .sample-at .ensures, ← c .before .before .before .before .count-too-large .ensures, c .before .before .before .if3 .left, c .if4 .left)
+unfolding unitRefusal refusedIf
+returns-5 c = rw (le-ltb (length (c .before .before .before .before .before .before .before .before .before .args .bytes .now)) (c .before .before .before .before .before .before .before .before .before .args .at + 14) (omega arith), lt-leb _ _ (c .before .before .before .before .before .before .if2 .left), ← c .before .before .before .before .before .sample-unit-at .ensures, ← c .before .before .before .before .count-too-large .ensures, c .before .before .before .if3 .left, c .if4 .left)
 
 pub unit-refusal-spec : {M : Type 1} → statement M
 unit-refusal-spec =
@@ -56,7 +56,7 @@ unit-refusal-spec =
     sub-if1
     returns
     returns-2
-    sample-at-requires
+    sample-unit-at-requires
     count-too-large-requires
     returns-3
     add-if4

@@ -4,7 +4,7 @@ use mathlib.Core.Path.{sym, _∙_, ap}
 use native.Mathlib.Omega.{arith}
 use Rattle.rules.specs.Words.{tableOf}
 use Rattle.rules.specs.declared.Plan.{Plan}
-use Rattle.sheet.specs.Refusals.{anyLimits}
+use Rattle.sheet.specs.Refusals.{anyNumbers}
 use Rattle.tally.specs.declared.Answer.{Answer}
 use Rattle.tally.specs.Outcome.{limitTooLarge}
 use Rattle.tally.proofs.Walking.{walk-start}
@@ -35,7 +35,7 @@ refusal-requires-2 : tie.Need-refusal-requires-2
 refusal-requires-2 c κs = search needs
 
 returns-2 : tie.Need-returns-2
-returns-2 c = absurd (never-overfull _ (c .before .before .before .before .before .before .before .before .args .results .now) _ _ (c .before .before .before .before .before .before .before .before .pre) (c .before .before .before .before .before .if1 .left) (sym (ap (anyLimits limitTooLarge) (c .before .before .before .table .ensures ∙ ap tableOf (c .before .before .before .before .plan-of .ensures))) ∙ sym (c .before .before .table-overfull .ensures) ∙ c .before .if2 .taken))
+returns-2 c = absurd (never-overfull _ (c .before .before .before .before .before .before .before .before .args .results .now) _ _ (c .before .before .before .before .before .before .before .before .pre) (c .before .before .before .before .before .if1 .left) (sym (ap (anyNumbers limitTooLarge) (c .before .before .before .table .ensures ∙ ap tableOf (c .before .before .before .before .plan-of .ensures))) ∙ sym (c .before .before .table-overfull .ensures) ∙ c .before .if2 .taken))
 
 first-position-requires : tie.Need-first-position-requires
 first-position-requires c κs = search needs

@@ -8,20 +8,20 @@ use Rattle.tally.proofs.recover_two.Tie as tie
 mul-place : tie.Need-mul-place
 mul-place c = search needs
 
-mul-sample-at : tie.Need-mul-sample-at
-mul-sample-at c = search needs
+mul-sample-unit-at : tie.Need-mul-sample-unit-at
+mul-sample-unit-at c = search needs
 
-sub-sample-at : tie.Need-sub-sample-at
-sub-sample-at c = search needs
+sub-sample-unit-at : tie.Need-sub-sample-unit-at
+sub-sample-unit-at c = search needs
 
-sample-at-requires : tie.Need-sample-at-requires
-sample-at-requires c κs = search needs
+sample-unit-at-requires : tie.Need-sample-unit-at-requires
+sample-unit-at-requires c κs = search needs
 
-sub-sample-at-2 : tie.Need-sub-sample-at-2
-sub-sample-at-2 c = search needs
+sub-sample-unit-at-2 : tie.Need-sub-sample-unit-at-2
+sub-sample-unit-at-2 c = search needs
 
-sample-at-requires-2 : tie.Need-sample-at-requires-2
-sample-at-requires-2 c κs = search needs
+sample-unit-at-requires-2 : tie.Need-sample-unit-at-requires-2
+sample-unit-at-requires-2 c κs = search needs
 
 mul-recover : tie.Need-mul-recover
 mul-recover c = search needs
@@ -43,18 +43,18 @@ same-length c = search needs
 
 returns : tie.Need-returns
 unfolding twoRecovered
-returns c = rw (c .before .before .recover2 .ensures, c .before .before .before .before .before .before .recover .ensures, c .before .before .before .before .before .before .before .before .before .sample-at .ensures, c .before .before .before .before .before .before .before .before .sample-at2 .ensures)
+returns c = rw (c .before .before .recover2 .ensures, c .before .before .before .before .before .before .recover .ensures, c .before .before .before .before .before .before .before .before .before .sample-unit-at .ensures, c .before .before .before .before .before .before .before .before .sample-unit-at2 .ensures)
 
 pub recover-two-spec : {M : Type 1} → statement M
 recover-two-spec =
     tie.close
     (tie.spec
     mul-place
-    mul-sample-at
-    sub-sample-at
-    sample-at-requires
-    sub-sample-at-2
-    sample-at-requires-2
+    mul-sample-unit-at
+    sub-sample-unit-at
+    sample-unit-at-requires
+    sub-sample-unit-at-2
+    sample-unit-at-requires-2
     mul-recover
     sub-recover
     recover-requires

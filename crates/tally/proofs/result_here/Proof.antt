@@ -9,8 +9,8 @@ use Rattle.tally.proofs.result_here.Tie as tie
 designated-requires : tie.Need-designated-requires
 designated-requires c κs = search needs
 
-portion-requires : tie.Need-portion-requires
-portion-requires c κs = search needs
+portion-grade-requires : tie.Need-portion-grade-requires
+portion-grade-requires c κs = search needs
 
 in-force-requires : tie.Need-in-force-requires
 in-force-requires c κs = search needs
@@ -20,9 +20,9 @@ standing-requires c κs = search needs
 
 returns : tie.Need-returns
 unfolding resultIf
-returns c = rw (c .standing .ensures, c .before .in-force .ensures, c .before .before .portion .ensures, c .before .before .before .designated .ensures, c .before .before .before .before .before .before .before .pre .1, graded-is _ _ _ _ (c .before .before .before .before .before .before .before .pre .0) (c .before .before .before .before .before .before .before .args .unit), state-is _ _ _ _ (c .before .before .before .before .before .before .before .pre .0))
+returns c = rw (c .standing .ensures, c .before .in-force .ensures, c .before .before .portion-grade .ensures, c .before .before .before .designated .ensures, c .before .before .before .before .before .before .before .pre .1, graded-is _ _ _ _ (c .before .before .before .before .before .before .before .pre .0) (c .before .before .before .before .before .before .before .args .unit), state-is _ _ _ _ (c .before .before .before .before .before .before .before .pre .0))
 
 pub result-here-spec : {M : Type 1} → statement M
 result-here-spec =
     tie.close
-    (tie.spec designated-requires portion-requires in-force-requires standing-requires returns)
+    (tie.spec designated-requires portion-grade-requires in-force-requires standing-requires returns)

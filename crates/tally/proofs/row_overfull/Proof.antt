@@ -1,6 +1,6 @@
 -- `tally::row_overfull` meets its contract.
 -- The return follows from what the callees promise.
-use Rattle.rules.specs.Words.{any}
+use Rattle.rules.specs.Conditions.{any}
 use Rattle.rules.proofs.Tests.{or-false}
 use Rattle.sheet.specs.Refusals.{anyClass}
 use borrow.Author.Needs.{needs}

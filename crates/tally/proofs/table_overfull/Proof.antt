@@ -1,8 +1,8 @@
 -- `tally::table_overfull` meets its contract.
 -- The return follows from what the callees promise.
-use Rattle.rules.specs.Words.{any}
+use Rattle.rules.specs.Conditions.{any}
 use Rattle.rules.proofs.Tests.{or-false}
-use Rattle.sheet.specs.Refusals.{anyLimits}
+use Rattle.sheet.specs.Refusals.{anyNumbers}
 use borrow.Author.Needs.{needs}
 use Rattle.tally.proofs.table_overfull.Statement.{statement}
 use Rattle.tally.proofs.table_overfull.Tie as tie
@@ -26,7 +26,7 @@ row-overfull-requires-3 : tie.Need-row-overfull-requires-3
 row-overfull-requires-3 c κs = search needs
 
 returns : tie.Need-returns
-unfolding anyLimits any
+unfolding anyNumbers any
 returns c = rw (or-false, c .before .before .before .before .row-overfull .ensures, c .before .before .row-overfull2 .ensures, c .row-overfull3 .ensures, c .before .before .before .before .before .row-of .ensures, c .before .before .before .row-of2 .ensures, c .before .row-of3 .ensures)
 
 pub table-overfull-spec : {M : Type 1} → statement M

@@ -1,8 +1,8 @@
--- `sample_at` is `sampleAt`, from what `number_at` ensures of each number.
-use Rattle.sheet.specs.Layout.{sampleAt}
+-- `sample_unit_at` is `sampleUnitAt`, from what `number_at` ensures of each number.
+use Rattle.sheet.specs.Layout.{sampleUnitAt}
 use borrow.Author.Needs.{needs}
-use Rattle.sheet.proofs.sample_at.Statement.{statement}
-use Rattle.sheet.proofs.sample_at.Tie as tie
+use Rattle.sheet.proofs.sample_unit_at.Statement.{statement}
+use Rattle.sheet.proofs.sample_unit_at.Tie as tie
 
 add-number-at : tie.Need-add-number-at
 add-number-at c = search needs
@@ -47,11 +47,11 @@ shared-slice-read-t18 : tie.Need-shared-slice-read-t18
 shared-slice-read-t18 c = search needs
 
 returns : tie.Need-returns
-unfolding sampleAt
+unfolding sampleUnitAt
 returns c = rw (c .before .before .before .before .before .before .number-at .ensures, c .before .before .before .before .before .number-at2 .ensures, c .before .before .before .before .number-at3 .ensures, c .before .before .before .number-at4 .ensures, c .before .before .number-at5 .ensures)
 
-pub sample-at-spec : {M : Type 1} → statement M
-sample-at-spec =
+pub sample-unit-at-spec : {M : Type 1} → statement M
+sample-unit-at-spec =
     tie.close
     (tie.spec
     add-number-at

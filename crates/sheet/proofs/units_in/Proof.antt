@@ -1,8 +1,8 @@
--- `unit_of` is `unitOf`, by cases on the mark.
-use Rattle.sheet.specs.Layout.{unitOf}
+-- `units_in` is `unitsIn`, by cases on the mark.
+use Rattle.sheet.specs.Layout.{unitsIn}
 use borrow.Author.Needs.{needs}
-use Rattle.sheet.proofs.unit_of.Statement.{statement}
-use Rattle.sheet.proofs.unit_of.Tie as tie
+use Rattle.sheet.proofs.units_in.Statement.{statement}
+use Rattle.sheet.proofs.units_in.Tie as tie
 
 enum-told : tie.Need-enum-told
 enum-told c = search needs
@@ -17,22 +17,22 @@ enum-told-4 : tie.Need-enum-told-4
 enum-told-4 c = search needs
 
 returns : tie.Need-returns
-unfolding unitOf
+unfolding unitsIn
 returns c = rw (c .enum-told .given .1)
 
 returns-2 : tie.Need-returns-2
-unfolding unitOf
+unfolding unitsIn
 returns-2 c = rw (c .enum-told2 .given .1)
 
 returns-3 : tie.Need-returns-3
-unfolding unitOf
+unfolding unitsIn
 returns-3 c = rw (c .enum-told3 .given .1)
 
 returns-4 : tie.Need-returns-4
-unfolding unitOf
+unfolding unitsIn
 returns-4 c = rw (c .enum-told4 .given .1)
 
-pub unit-of-spec : {M : Type 1} → statement M
-unit-of-spec =
+pub units-in-spec : {M : Type 1} → statement M
+units-in-spec =
     tie.close
     (tie.spec enum-told enum-told-2 enum-told-3 enum-told-4 returns returns-2 returns-3 returns-4)

@@ -1,7 +1,7 @@
--- `limits_at` reads S, T and L, from what `number_at` ensures of each.
+-- `plan_numbers_at` reads S, T and L, from what `number_at` ensures of each.
 use borrow.Author.Needs.{needs}
-use Rattle.sheet.proofs.limits_at.Statement.{statement}
-use Rattle.sheet.proofs.limits_at.Tie as tie
+use Rattle.sheet.proofs.plan_numbers_at.Statement.{statement}
+use Rattle.sheet.proofs.plan_numbers_at.Tie as tie
 
 number-at-requires : tie.Need-number-at-requires
 number-at-requires c κs = search needs
@@ -21,8 +21,8 @@ number-at-requires-3 c κs = search needs
 returns : tie.Need-returns
 returns c = rw (c .before .before .number-at .ensures, c .before .number-at2 .ensures, c .number-at3 .ensures)
 
-pub limits-at-spec : {M : Type 1} → statement M
-limits-at-spec =
+pub plan-numbers-at-spec : {M : Type 1} → statement M
+plan-numbers-at-spec =
     tie.close
     (tie.spec
     number-at-requires
