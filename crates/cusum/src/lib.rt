@@ -42,6 +42,7 @@ impl Cusum {
         }
     }
 
+    // Rule 2: the CuSum after a unit with this count, and whether the class fails.
     pub fn step(self, numbers: PlanNumbers, count: u32) -> Stepped
         ensures { λ r. ⌜ r ≡ stepOf numbers self count ⌝ }
     {

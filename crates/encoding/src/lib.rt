@@ -13,7 +13,8 @@ pub fn number_at(bytes: &[u8], at: usize) -> u16
     256 * bytes[at] as u16 + bytes[at + 1] as u16
 }
 
-// Whether this number stands at an offset. The two bytes are compared as they lie, with the low byte first.
+// Whether this number stands at an offset. The number is turned round instead of the bytes, so that a loop that compares many places
+// turns it once.
 pub fn holds_at(bytes: &[u8], at: usize, value: u16) -> bool
     requires { ⌜ at + 2 ≤ length (now bytes) ⌝ }
     ensures { λ r. ⌜ r ≡ eqb (number (now (bytes .entry)) at) value ⌝ }

@@ -10,8 +10,7 @@ use Rattle.sheet.specs.Refusals.{mostUnits}
 use Rattle.results.specs.Record.{resultSize}
 use Rattle.tally.specs.declared.Answer.{Answer}
 use Rattle.tally.specs.Outcome.{Outcome, outcome}
-use Rattle.tally.specs.Demand3.{AcceptedAs}
-use Rattle.tally.proofs.AcceptedSheet.{AcceptedSheet, accepted-sheet}
+use Rattle.tally.proofs.AcceptedSheet.{accepted-sheet}
 use Rattle.lines.specs.Lines.{linesOf, refusedLine, textOf, largestInput, tooMuchInput, emptyResults, printed}
 
 pub too-much : (input : List ℕ) → largestInput < length input → printed input ≡ refusedLine tooMuchInput largestInput

@@ -7,7 +7,7 @@ use native.Mathlib.Nat.{add-zero, zero-add}
 use native.Mathlib.Numerals.{add-one}
 use native.Mathlib.Omega.{arith}
 use lib.ListN.{length, take, drop, getD, length-append}
-use lib.Seq.{sets, sets-eq, length-sets, take-all, take-suc, take-append-seam}
+use lib.Seq.{sets-eq, length-sets, take-all, take-suc, take-append-seam}
 use Rattle.results.proofs.Stores.{sets-append}
 use Rattle.lines.specs.Lines.{lineOf, linesOf}
 use Rattle.lines.specs.Wrote.{Wrote}

@@ -31,7 +31,7 @@ unfoldable pub digits : ℕ → ℕ → List ℕ
 digits zero value = []
 digits (suc places) value = cond (ltb value 10) (digit value ∷ []) (digits places (value / 10) ++ (digit (value % 10) ∷ []))
 
--- a number in decimal; it never has more places than this
+-- a number in decimal; it never has more than its value and one places
 unfoldable pub decimal : ℕ → List ℕ
 decimal value = digits (suc value) value
 

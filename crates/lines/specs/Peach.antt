@@ -1,8 +1,8 @@
--- P10 as printed: the peach sheet of paper 01 ("The printing program"), its result records, and its seven lines.
+-- P10 as printed: the seven lines of the peach sheet of paper 01 ("The printing program"); and P1 to P10 as a single group.
 use Prim.Native.Nat.{ℕ}
 use mathlib.Core.Path.{_≡_}
-use mathlib.Core.List.{List, [], _∷_, _++_}
-use Rattle.tally.specs.WorkedCases.{peach, peachResults}
+use mathlib.Core.List.{List, _++_}
+use Rattle.tally.specs.WorkedCases.{WorkedCases, peach, peachResults}
 use Rattle.lines.specs.Ascii.{ascii}
 use Rattle.lines.specs.Lines.{linesOf, printed}
 
@@ -21,3 +21,8 @@ peachLines =
 pub record PeachPrinted : Type 0 where
   pub records-lines : linesOf peachResults 7 ≡ peachLines
   pub sheet-lines : printed peach ≡ peachLines
+
+-- P1 to P10 as a single group: the worked cases over the rules and over bytes, and the printed lines of P10
+pub record SmallSheets : Type 0 where
+  pub worked : WorkedCases
+  pub printed-lines : PeachPrinted

@@ -10,7 +10,7 @@ use lib.Seq.{getD-append-add}
 use Rattle.encoding.specs.Bytes.{byte, number, high, low}
 use Rattle.rules.specs.Words.{tenthsIn}
 use Rattle.results.specs.declared.ResultRecord.{ResultRecord}
-use Rattle.results.specs.Record.{resultSize, codeOffset, portionGradeOffset, codeGradeOffset, cusumsOffset, cusumBytes, resultBytes}
+use Rattle.results.specs.Record.{resultSize, codeOffset, portionGradeOffset, codeGradeOffset, planGradeOffset, standingOffset, cusumsOffset, cusumBytes, resultBytes}
 
 -- ---- numbers of two bytes
 
@@ -41,6 +41,14 @@ module _ (codeGrade : ℕ) (result : ResultRecord) where
     pub code-grade-read : byte (resultBytes codeGrade result ++ rest) codeGradeOffset ≡ codeGrade
     unfolding resultBytes
     code-grade-read = refl
+
+    pub plan-read : byte (resultBytes codeGrade result ++ rest) planGradeOffset ≡ result .plan
+    unfolding resultBytes
+    plan-read = refl
+
+    pub standing-read : byte (resultBytes codeGrade result ++ rest) standingOffset ≡ result .standing
+    unfolding resultBytes
+    standing-read = refl
 
     pub code-read : result .code < 65536 → number (resultBytes codeGrade result ++ rest) codeOffset ≡ result .code
     unfolding resultBytes

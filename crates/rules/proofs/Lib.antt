@@ -6,3 +6,4 @@ pub mod Anchors
 pub mod SideBySide
 pub mod FinishedRun
 pub mod Grades
+pub mod TwoFailures

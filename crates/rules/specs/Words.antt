@@ -1,4 +1,4 @@
--- The line and its words: grades, classes, the plan's table, a sample unit's counts.
+-- The line and its words: grades, classes, the plan's table, a sample unit's counts by class, the CuSum of a class.
 use Prim.Native.Nat.{ℕ, _+_, max}
 use mathlib.Core.Bool.{Bool}
 use mathlib.Core.List.{List, [], _∷_}
@@ -9,7 +9,7 @@ use Rattle.cusum.specs.declared.Cusum.{Cusum}
 use Rattle.rules.specs.declared.Plan.{Plan}
 use Rattle.rules.specs.declared.SampleUnit.{SampleUnit}
 
--- grades run A, B, C, Substandard, best first, coded 0, 1, 2, 3
+-- grades run A, B, C, Substandard, best first, coded 0, 1, 2, 3; the designated grade is A, B or C
 abbrev pub substandard : ℕ
 substandard = 3
 

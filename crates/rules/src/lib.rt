@@ -5,7 +5,7 @@ ghost use lib.Dec.{leb};
 ghost use Rattle.cusum.specs.Step.{tenthsOf};
 ghost use Rattle.rules.specs.Words.{tableOf, rowOf, countsOf, worse};
 ghost use Rattle.rules.specs.Unit.{starting, steppedIn, admits, withinTolerance, allZero, newCusums, unitFails, bestLower, gradingOf};
-ghost use Rattle.rules.specs.StepThree.{designatedIn, inForce, afterDesignated, endsStepThree, afterStepThree, phaseAfterUnit, phaseAfterRedesignation, phaseAfterBreak, unitEndsStepThree, unitStartsStepThree, unitRestarts, redesignationRestarts, opening, graded, stateWith, next};
+ghost use Rattle.rules.specs.StepThree.{designatedIn, inForce, afterDesignated, afterStepThree, phaseAfterUnit, phaseAfterRedesignation, phaseAfterBreak, unitEndsStepThree, unitStartsStepThree, unitRestarts, redesignationRestarts, opening, graded, stateWith, next};
 ghost use Rattle.rules.specs.declared.Entry.the-variants.{Redesignation, Break};
 ghost use Rattle.rules.specs.Unit.{portionGradeOf};
 ghost use Rattle.rules.specs.Sheet.{standingOf};
@@ -41,7 +41,8 @@ pub struct Plan {
     pub numbers: [PlanNumbers; CELLS],
 }
 
-// A sample unit.
+// A sample unit: production code, counts of defects, prerequisite grade; recoverable if its portion, the production that it stands
+// for, is separately coded and within reach.
 pub struct SampleUnit {
     pub code: u16,
     pub critical: u16,
@@ -59,7 +60,7 @@ pub enum Entry {
     Break,
 }
 
-// Whether the unit just before failed the designated plan, and its defect grade.
+// Whether the unit just before, with no break or redesignation since, failed the designated plan, and its defect grade.
 pub enum Previous {
     NoFailure,
     Failure(u8),
@@ -92,6 +93,7 @@ struct SteppedClasses {
 }
 
 impl Plan {
+    // The cells as a table, row by row.
     pub fn table(self) -> Table
         ensures { λ r. ⌜ r ≡ tableOf self ⌝ }
     {
@@ -104,6 +106,7 @@ impl Plan {
     }
 }
 
+// The plan of a grade; zeros where there is none.
 pub fn row_of(table: Table, grade: u8) -> Row
     ensures { λ r. ⌜ r ≡ rowOf table grade ⌝ }
 {
@@ -128,6 +131,7 @@ fn counts_of(unit: SampleUnit) -> Counts
     [critical, severe, major, critical + severe + major + minor]
 }
 
+// The worse of two grades has the larger code.
 pub fn worse_of(first: u8, second: u8) -> u8
     ensures { λ r. ⌜ r ≡ worse first second ⌝ }
 {
@@ -508,6 +512,7 @@ fn state_with(table: Table, phase: Phase, restarts: bool, cusums: Cusums) -> Sta
 }
 
 impl State {
+    // The designated plan in force, every class at its S.
     pub fn opening(table: Table, designated: u8) -> State
         ensures { λ r. ⌜ r ≡ opening table designated ⌝ }
     {
@@ -521,6 +526,7 @@ impl State {
         }
     }
 
+    // A unit graded under the plan in force.
     pub fn grade(self, table: Table, unit: SampleUnit) -> Grading
         ensures { λ r. ⌜ r ≡ graded table self unit ⌝ }
     {

@@ -5,3 +5,4 @@ pub mod Accepted
 pub mod Past
 pub mod Ranges
 pub mod Designated
+pub mod Listed

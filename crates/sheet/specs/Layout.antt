@@ -1,6 +1,5 @@
 -- The tally sheet in bytes: the plan, and the records behind it by their number.
 use Prim.Native.Nat.{ℕ, zero, suc, _+_, _*_}
-use mathlib.Core.Bool.{Bool}
 use mathlib.Core.List.{List, [], _∷_, map}
 use lib.Dec.{eqb}
 use Rattle.cusum.specs.declared.PlanNumbers.{PlanNumbers}
@@ -46,7 +45,7 @@ unitSize = 14
 abbrev pub codeOffset : ℕ
 codeOffset = 2
 
--- the counts by kind: critical, severe, major, minor
+-- how many counts a unit has: of critical, severe, major and minor
 abbrev pub kinds : ℕ
 kinds = 4
 
@@ -79,6 +78,7 @@ rowAt bytes at = planNumbersAt bytes at ∷ planNumbersAt bytes (at + planNumber
 abbrev pub cells : List ℕ
 cells = 0 ∷ 1 ∷ 2 ∷ 3 ∷ 4 ∷ 5 ∷ 6 ∷ 7 ∷ 8 ∷ 9 ∷ 10 ∷ 11 ∷ []
 
+-- the plan of a sheet: its designated grade (A, B or C, else number 2), and its table
 unfoldable pub planOf : List ℕ → Plan
 planOf bytes =
     record { designated = byte bytes gradeOffset; numbers = map (λ cell. planNumbersAt bytes (tableOffset + planNumbersSize * cell)) cells }
@@ -95,7 +95,7 @@ markOf mark =
 unfoldable pub markAt : List ℕ → ℕ → Mark
 markAt bytes at = markOf (number bytes at)
 
--- the size of a record by its mark; where there is no mark, that of a mark
+-- the size of a record by its mark; two bytes where there is none, so that the next offset is always a later one
 unfoldable pub sizeOf : Mark → ℕ
 sizeOf UnitMark = unitSize
 sizeOf RedesignationMark = redesignationSize
@@ -128,13 +128,14 @@ unfoldable pub offset : List ℕ → ℕ → ℕ
 offset bytes zero = planSize
 offset bytes (suc i) = offset bytes i + sizeOf (markAt bytes (offset bytes i))
 
+-- the mark of record i, and the record
 abbrev pub mark : List ℕ → ℕ → Mark
 mark bytes i = markAt bytes (offset bytes i)
 
 unfoldable pub entryAt : List ℕ → ℕ → Entry
 entryAt bytes i = entryOf bytes (offset bytes i) (mark bytes i)
 
--- a record counts as one sample unit, or none
+-- how many sample units a record is: one or none
 unfoldable pub unitsIn : Mark → ℕ
 unitsIn UnitMark = 1
 unitsIn RedesignationMark = 0

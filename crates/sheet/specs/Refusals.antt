@@ -17,7 +17,7 @@ use Rattle.sheet.specs.declared.Mark.the-variants.{UnitMark, Redesignati
 use Rattle.sheet.specs.declared.Verdict.{Verdict}
 use Rattle.sheet.specs.declared.Verdict.the-variants.{Accepted, Refused}
 
--- a row of the table: its number if its condition is met, else what the rows after it say; 0 if none is met
+-- a row of the table: its number if its condition is met, else what the rows after it say, which is 0 at their end
 unfoldable pub refusedIf : Bool → ℕ → ℕ → ℕ
 refusedIf true number rest = number
 refusedIf false number rest = rest
@@ -34,9 +34,9 @@ mostUnits = 1000
 
 -- ---- the plan, at offset 0
 
--- a condition holds of a class in the plan of a grade
+-- a condition holds of a class in the plan of a grade, and in that of any grade
 unfoldable pub anyClass : (PlanNumbers → Bool) → List PlanNumbers → Bool
-anyClass condition numbers = any (λ class. condition (inClass numbers class)) classes
+anyClass condition row = any (λ class. condition (inClass row class)) classes
 
 unfoldable pub anyNumbers : (PlanNumbers → Bool) → Table → Bool
 anyNumbers condition table = any (λ grade. anyClass condition (rowOf table grade)) (0 ∷ 1 ∷ 2 ∷ [])

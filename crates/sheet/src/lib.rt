@@ -75,6 +75,7 @@ struct Place {
     designated: u8,
 }
 
+// Which record a mark opens.
 pub enum Mark {
     UnitMark,
     RedesignationMark,
@@ -111,6 +112,7 @@ fn row_at(bytes: &[u8], at: usize) -> Row
     ]
 }
 
+// The plan of a sheet that is long enough for it.
 pub fn plan_of(bytes: &[u8]) -> Plan
     requires { ⌜ planSize ≤ length (now bytes) ⌝ }
     ensures { λ r. ⌜ r ≡ planOf (now (bytes .entry)) ⌝ }
@@ -237,6 +239,7 @@ fn plan_refusal(bytes: &[u8]) -> u8
     table_refusal(plan.table())
 }
 
+// The mark at an offset.
 pub fn mark_at(bytes: &[u8], at: usize) -> Mark
     requires { ⌜ at + markSize ≤ length (now bytes) ⌝ }
     ensures { λ r. ⌜ r ≡ markAt (now (bytes .entry)) at ⌝ }
@@ -254,6 +257,7 @@ pub fn mark_at(bytes: &[u8], at: usize) -> Mark
     Mark::NoMark
 }
 
+// The size of a record by its mark.
 pub fn size_of(mark: Mark) -> usize
     ensures { λ r. ⌜ r ≡ sizeOf mark ⌝ }
 {

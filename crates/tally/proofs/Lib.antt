@@ -6,6 +6,7 @@ pub mod Writing
 pub mod Coding
 pub mod Cases
 pub mod AcceptedSheet
+pub mod Listed
 pub mod Recorded
 pub mod FirstHalf
 pub mod AlikeSheets

@@ -17,7 +17,7 @@ use Rattle.rules.specs.Conditions.{any}
 use Rattle.rules.specs.Words.{substandard, classes, tenthsIn, countsOf}
 use Rattle.rules.specs.Unit.{classCusum, newCusums}
 use Rattle.rules.specs.StepThree.{graded}
-use Rattle.rules.specs.Sheet.{Sheet, before, inForceAt, gradedAt, portionGrade, codeGrade}
+use Rattle.rules.specs.Sheet.{Sheet, before, inForceAt, gradedAt, portionGrade, standing, codeGrade}
 use Rattle.rules.specs.declared.SampleUnit.{SampleUnit}
 use Rattle.rules.specs.declared.Entry.the-variants.{UnitRecord}
 use Rattle.rules.proofs.LargestForm.{at-class}
@@ -29,8 +29,8 @@ use Rattle.sheet.proofs.Rows.{or-first, or-second}
 use Rattle.sheet.proofs.Accepted.{Facts}
 use Rattle.sheet.proofs.Past.{past-mark}
 use Rattle.sheet.proofs.Ranges.{designated-le, unit-in-range, new-grade-le}
-use Rattle.results.specs.Record.{resultSize, resultBytes, portionGradeOffset, codeGradeOffset, cusumsOffset}
-use Rattle.results.proofs.Fields.{portion-read, code-grade-read, cusum-read}
+use Rattle.results.specs.Record.{resultSize, resultBytes, codeOffset, portionGradeOffset, codeGradeOffset, planGradeOffset, standingOffset, cusumsOffset, codeIn, planGradeIn, standingIn}
+use Rattle.results.proofs.Fields.{portion-read, code-grade-read, plan-read, standing-read, code-read, cusum-read}
 use Rattle.tally.specs.declared.Answer.{Answer}
 use Rattle.tally.specs.Outcome.{resultOf, anyTooLarge, overfullBy, overfullBefore}
 use Rattle.tally.specs.Demand3.{AcceptedAs, recordsIn, sheetIn, UnitAt, recordedCusum, recordedPortionGrade, recordedCodeGrade, numbersInForce}
@@ -160,6 +160,24 @@ module _ (bytes buffer : List ℕ) (answer : Answer) (results : List ℕ) (accep
     pub recorded-code-grade : recordedCodeGrade bytes results i ≡ codeGrade (sheetIn bytes) (sampleUnitAt bytes (offset bytes i) .code)
     recorded-code-grade =
         recorded-byte codeGradeOffset _ (λ rest. code-grade-read (grades (unit .code)) (resultOf (sheetIn bytes) i unit) rest)
+
+    pub recorded-plan : planGradeIn results (unitsBefore bytes i) ≡ inForceAt (sheetIn bytes) i
+    unfolding resultOf
+    recorded-plan = recorded-byte planGradeOffset _ (λ rest. plan-read (grades (unit .code)) (resultOf (sheetIn bytes) i unit) rest)
+
+    -- standing 3 is that of a recovered portion
+    pub recorded-standing : standingIn results (unitsBefore bytes i) ≡ standing (sheetIn bytes) i (sampleUnitAt bytes (offset bytes i))
+    unfolding resultOf
+    recorded-standing =
+        recorded-byte standingOffset _ (λ rest. standing-read (grades (unit .code)) (resultOf (sheetIn bytes) i unit) rest)
+
+    -- the bytes of a sheet are below 256, so that its codes have two bytes
+    pub recorded-code : ((place : ℕ) → byte bytes place < 256) → codeIn results (unitsBefore bytes i) ≡ sampleUnitAt bytes (offset bytes i) .code
+    unfolding resultOf sampleUnitAt
+    recorded-code small =
+        recorded-number codeOffset _
+        (λ rest. code-read (grades (unit .code)) (resultOf (sheetIn bytes) i unit) rest
+        (omega (arith, small (offset bytes i + codeOffset), small (offset bytes i + codeOffset + 1))))
 
     -- every CuSum fits in its two bytes
     pub cusum-in-two-bytes : (class : ℕ) → class < length classes → tenthsIn (gradedAt (sheetIn bytes) i (sampleUnitAt bytes (offset bytes i)) .cusums) class ≤ largestTenths

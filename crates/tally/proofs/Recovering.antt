@@ -12,7 +12,7 @@ use Rattle.rules.specs.Words.{worse}
 use Rattle.rules.specs.Conditions.{pick}
 use Rattle.rules.specs.StepThree.{designatedIn}
 use Rattle.rules.specs.Unit.{portionGradeOf}
-use Rattle.rules.specs.Sheet.{Sheet, before, designatedBefore, stepThreeEnds, inFinishedRun, recovered, portionGrade, standingOf, standing}
+use Rattle.rules.specs.Sheet.{Sheet, designatedBefore, stepThreeEnds, inFinishedRun, recovered, portionGrade, standingOf, standing}
 use Rattle.rules.specs.declared.SampleUnit.{SampleUnit}
 use Rattle.rules.specs.declared.Phase.{Phase}
 use Rattle.rules.specs.declared.Phase.the-variants.{Designated, StepThree}

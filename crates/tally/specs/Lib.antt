@@ -1,4 +1,5 @@
 pub mod Outcome
+pub mod Demand1
 pub mod Demand3
 pub mod WorkedCases
 pub mod Position

@@ -1,0 +1,36 @@
+-- Demand 1: any file at all is accepted, or refused by one of the listed refusals with the place where it stopped. A refused sheet
+-- changes nothing in the result buffer, an accepted one changes only its result records.
+use Prim.Native.Nat.{ℕ, _*_, _<_, _≤_}
+use mathlib.Core.Path.{_≡_}
+use mathlib.Core.List.{List}
+use mathlib.Core.Logic.{_⊎_}
+use lib.ListN.{length, drop}
+use Rattle.results.specs.Record.{resultSize}
+use Rattle.tally.specs.declared.Answer.{Answer}
+use Rattle.tally.specs.Outcome.{Outcome, outcome}
+
+-- accepted: 0 and the sheet's length. Refused: 1 to 5 for the plan, at offset 0; 6 to 12 for a record, at an offset inside the sheet;
+-- 13 or 14 for the result buffer, at the sheet's length
+unfoldable pub Listed : List ℕ → Answer → Type 0
+Listed bytes answer =
+    ((answer .number ≡ 0) × (answer .offset ≡ length bytes))
+    ⊎ (((1 ≤ answer .number) × (answer .number ≤ 5) × (answer .offset ≡ 0))
+    ⊎ (((6 ≤ answer .number) × (answer .number ≤ 12) × (answer .offset < length bytes))
+    ⊎ ((13 ≤ answer .number) × (answer .number ≤ 14) × (answer .offset ≡ length bytes))))
+
+-- of an answer and the result buffer before and after
+pub record FirstDemand (bytes buffer : List ℕ) (answer : Answer) (results : List ℕ) : Type 0 where
+  pub listed : Listed bytes answer
+  -- refused: no units, and every byte of the buffer is kept
+  pub refused-units : (answer .number ≡ 0 → ⊥) → answer .units ≡ 0
+  pub refused-buffer : (answer .number ≡ 0 → ⊥) → results ≡ buffer
+  -- accepted: there is room for the result records, and every byte behind them is kept
+  pub accepted-room : answer .number ≡ 0 → resultSize * answer .units ≤ length buffer
+  pub accepted-rest : answer .number ≡ 0 → drop (resultSize * answer .units) results ≡ drop (resultSize * answer .units) buffer
+  pub same-length : length results ≡ length buffer
+
+-- for every sheet and every buffer, as the promise of `grade` says
+abbrev pub Demand1 : Type 0
+Demand1 =
+    (bytes buffer : List ℕ) (answer : Answer) (results : List ℕ)
+    → _≡_ {A = Outcome} (record { answer = answer; buffer = results }) (outcome bytes buffer) → FirstDemand bytes buffer answer results
