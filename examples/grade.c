@@ -49,8 +49,8 @@ static void print_record(const uint8_t *record)
 {
     printf("%04x %04x %02x %02x %02x %02x %04x %04x %04x %04x\n",
            two(record), two(record + HATMUYON_RESULT_CODE),
-           record[HATMUYON_RESULT_PORTION], record[HATMUYON_RESULT_CODE_GRADE],
-           record[HATMUYON_RESULT_PLAN], record[HATMUYON_RESULT_STANDING],
+           record[HATMUYON_RESULT_PORTION_GRADE], record[HATMUYON_RESULT_CODE_GRADE],
+           record[HATMUYON_RESULT_PLAN_GRADE], record[HATMUYON_RESULT_STANDING],
            two(record + HATMUYON_RESULT_CRITICAL), two(record + HATMUYON_RESULT_SEVERE),
            two(record + HATMUYON_RESULT_MAJOR), two(record + HATMUYON_RESULT_TOTAL));
 }

@@ -44,19 +44,19 @@ extern "C" {
 #define HATMUYON_BREAK_SIZE 2
 #define HATMUYON_RESULT_SIZE 16
 
-/* Limits of the numbers on a sheet. A result buffer for any sheet has
+/* The largest numbers on a sheet. A result buffer for any sheet has
  * HATMUYON_RESULT_SIZE * HATMUYON_MOST_UNITS bytes. */
 #define HATMUYON_MOST_UNITS 1000
 #define HATMUYON_LARGEST_COUNT 2000
-#define HATMUYON_LARGEST_LIMIT 9999 /* of S, T and L, in tenths */
+#define HATMUYON_LARGEST_PLAN_NUMBER 9999 /* of S, T and L, in tenths */
 
 /* Offsets of the fields of a result record, which opens with the mark 47 52. */
-#define HATMUYON_RESULT_CODE 2       /* 2 bytes: production code */
-#define HATMUYON_RESULT_PORTION 4    /* 1 byte: grade of the portion */
-#define HATMUYON_RESULT_CODE_GRADE 5 /* 1 byte: worst portion grade of the code on the sheet */
-#define HATMUYON_RESULT_PLAN 6       /* 1 byte: grade of the plan in force for the unit, 3 if none */
-#define HATMUYON_RESULT_STANDING 7   /* 1 byte: a standing, see below */
-#define HATMUYON_RESULT_CRITICAL 8   /* 2 bytes each: the CuSums in tenths, 0 if no plan is in force */
+#define HATMUYON_RESULT_CODE 2          /* 2 bytes: production code */
+#define HATMUYON_RESULT_PORTION_GRADE 4 /* 1 byte: grade of the portion */
+#define HATMUYON_RESULT_CODE_GRADE 5    /* 1 byte: worst portion grade of the code on the sheet */
+#define HATMUYON_RESULT_PLAN_GRADE 6    /* 1 byte: grade of the plan in force for the unit, 3 if none */
+#define HATMUYON_RESULT_STANDING 7      /* 1 byte: a standing, see below */
+#define HATMUYON_RESULT_CRITICAL 8      /* 2 bytes each: the CuSums in tenths, 0 if no plan is in force */
 #define HATMUYON_RESULT_SEVERE 10
 #define HATMUYON_RESULT_MAJOR 12
 #define HATMUYON_RESULT_TOTAL 14
@@ -66,7 +66,7 @@ enum hatmuyon_grade_code {
     HATMUYON_GRADE_A = 0,
     HATMUYON_GRADE_B = 1,
     HATMUYON_GRADE_C = 2,
-    HATMUYON_SUBSTANDARD = 3
+    HATMUYON_GRADE_SUBSTANDARD = 3
 };
 
 /* The standing of a unit. */
@@ -87,20 +87,20 @@ enum hatmuyon_standing {
  */
 enum hatmuyon_number {
     HATMUYON_ACCEPTED = 0,
-    HATMUYON_REFUSED_NO_PLAN = 1,          /* shorter than 75 bytes, or first mark not 50 4C */
-    HATMUYON_REFUSED_DESIGNATED_GRADE = 2, /* designated grade above 2 */
-    HATMUYON_REFUSED_LIMIT = 3,            /* an S, T or L above 9,999 */
-    HATMUYON_REFUSED_START = 4,            /* an S above its L */
-    HATMUYON_REFUSED_FALLING_PLAN = 5,     /* in a class, T or T+L smaller at B than at A, or at C than at B */
-    HATMUYON_REFUSED_MARK = 6,             /* one byte left, or a mark not of a unit, redesignation or break */
-    HATMUYON_REFUSED_CUT_SHORT = 7,        /* record cut short */
-    HATMUYON_REFUSED_COUNT = 8,            /* a count above 2,000 */
-    HATMUYON_REFUSED_UNIT_FIELD = 9,       /* prerequisite above 3 or recoverable above 1 */
-    HATMUYON_REFUSED_NEW_GRADE = 10,       /* new grade above 2 */
-    HATMUYON_REFUSED_SAME_GRADE = 11,      /* new grade equals the one designated just before this record */
-    HATMUYON_REFUSED_TOO_MANY_UNITS = 12,  /* a unit after the 1,000th */
-    HATMUYON_REFUSED_RESULTS = 13,         /* result buffer shorter than 16 times the units */
-    HATMUYON_REFUSED_CUSUM = 14            /* a CuSum too large for two bytes; no sheet leads to it */
+    HATMUYON_REFUSED_NO_PLAN = 1,                  /* shorter than 75 bytes, or first mark not 50 4C */
+    HATMUYON_REFUSED_BAD_DESIGNATED_GRADE = 2,     /* designated grade above 2 */
+    HATMUYON_REFUSED_PLAN_NUMBER_TOO_LARGE = 3,    /* an S, T or L above 9,999 */
+    HATMUYON_REFUSED_START_ABOVE_LIMIT = 4,        /* an S above its L */
+    HATMUYON_REFUSED_SMALLER_AT_LOWER_GRADE = 5,   /* in a class, T or T+L smaller at B than at A, or at C than at B */
+    HATMUYON_REFUSED_UNKNOWN_MARK = 6,             /* one byte left, or a mark not of a unit, redesignation or break */
+    HATMUYON_REFUSED_CUT_SHORT = 7,                /* record cut short */
+    HATMUYON_REFUSED_COUNT_TOO_LARGE = 8,          /* a count above 2,000 */
+    HATMUYON_REFUSED_BAD_UNIT_FIELD = 9,           /* prerequisite above 3 or recoverable above 1 */
+    HATMUYON_REFUSED_BAD_NEW_GRADE = 10,           /* new grade above 2 */
+    HATMUYON_REFUSED_SAME_GRADE = 11,              /* new grade equals the one designated just before this record */
+    HATMUYON_REFUSED_TOO_MANY_UNITS = 12,          /* a unit after the 1,000th */
+    HATMUYON_REFUSED_RESULT_BUFFER_TOO_SHORT = 13, /* result buffer shorter than 16 times the units */
+    HATMUYON_REFUSED_CUSUM_TOO_LARGE = 14          /* a CuSum too large for two bytes; no sheet leads to it */
 };
 
 /* What the grading answers. */

@@ -7,7 +7,7 @@
 
 use grader::generate::{table, PEACH};
 use grader::sheet::{Record, Sheet, Unit};
-use hatmuyon::ffi::{RESULT_CODE, RESULT_CODE_GRADE, RESULT_PORTION, RESULT_STANDING};
+use hatmuyon::ffi::{RESULT_CODE, RESULT_CODE_GRADE, RESULT_PORTION_GRADE, RESULT_STANDING};
 use hatmuyon::RESULT_SIZE;
 use std::hint::black_box;
 use std::time::Instant;
@@ -56,7 +56,7 @@ fn grade_codes(results: &mut [u8]) {
             let mut worst = 0;
             for record in results[start..].chunks_exact(RESULT_SIZE) {
                 if code(record) == this {
-                    worst = worst.max(record[RESULT_PORTION]);
+                    worst = worst.max(record[RESULT_PORTION_GRADE]);
                 }
             }
             for record in results[start..].chunks_exact_mut(RESULT_SIZE) {

@@ -3,11 +3,11 @@
 /// Offset of the production code in a result record, 2 bytes with the high byte first.
 pub const RESULT_CODE: usize = 2;
 /// Offset of the portion grade, 1 byte.
-pub const RESULT_PORTION: usize = 4;
+pub const RESULT_PORTION_GRADE: usize = 4;
 /// Offset of the code grade, 1 byte.
 pub const RESULT_CODE_GRADE: usize = 5;
 /// Offset of the grade of the plan in force, 1 byte, 3 if there is none.
-pub const RESULT_PLAN: usize = 6;
+pub const RESULT_PLAN_GRADE: usize = 6;
 /// Offset of the standing, 1 byte.
 pub const RESULT_STANDING: usize = 7;
 /// Offset of the CuSum of critical defects, 2 bytes, tenths.

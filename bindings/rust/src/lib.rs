@@ -21,7 +21,7 @@
 //! assert_eq!(graded.units(), 1);
 //! for record in &graded {
 //!     assert_eq!(record.code, 7);
-//!     assert_eq!(record.portion, Grade::A);
+//!     assert_eq!(record.portion_grade, Grade::A);
 //!     assert_eq!(record.standing, Standing::Met);
 //!     assert_eq!(record.cusums, [0, 0, 0, 10]); // tenths
 //! }
@@ -163,11 +163,11 @@ pub struct Record {
     /// The production code.
     pub code: u16,
     /// The grade of the portion that the unit stands for.
-    pub portion: Grade,
+    pub portion_grade: Grade,
     /// The grade of the code: the worst portion grade among all units of the sheet with it.
     pub code_grade: Grade,
     /// The grade of the plan in force for the unit, A, B or C, or none.
-    pub plan: Option<Grade>,
+    pub plan_grade: Option<Grade>,
     /// How the unit stands to the designated plan.
     pub standing: Standing,
     /// The CuSums of the classes critical, severe, major and total, in tenths of a defect; zero if
@@ -182,9 +182,9 @@ impl Record {
         let two = |at: usize| u16::from_be_bytes([bytes[at], bytes[at + 1]]);
         Record {
             code: two(RESULT_CODE),
-            portion: Grade::from_byte(bytes[RESULT_PORTION]),
+            portion_grade: Grade::from_byte(bytes[RESULT_PORTION_GRADE]),
             code_grade: Grade::from_byte(bytes[RESULT_CODE_GRADE]),
-            plan: match Grade::from_byte(bytes[RESULT_PLAN]) {
+            plan_grade: match Grade::from_byte(bytes[RESULT_PLAN_GRADE]) {
                 Grade::Substandard => None,
                 grade => Some(grade),
             },
@@ -283,57 +283,59 @@ impl std::error::Error for Refusal {}
 /// A ground on which a sheet is refused.
 ///
 /// The plan is checked first, for grounds 1 to 5 in turn; then the records from left to right, each
-/// wholly before the next, for 6, 7, 12, 8, 9, 10, 11 in this order; then the result buffer.
+/// wholly before the next, for 6, 7, 12, 8, 9, 10, 11 in this order; then the result buffer. More
+/// grounds may follow.
 #[derive(Clone, Copy, Debug, PartialEq, Eq, Hash)]
 #[repr(u32)]
+#[non_exhaustive]
 pub enum Ground {
     /// The sheet is shorter than 75 bytes, or its first mark is not 50 4C.
     NoPlan = 1,
     /// The designated grade is above 2.
-    DesignatedGrade = 2,
+    BadDesignatedGrade = 2,
     /// An S, T or L is above 9,999.
-    Limit = 3,
+    PlanNumberTooLarge = 3,
     /// An S is above its L.
-    Start = 4,
+    StartAboveLimit = 4,
     /// In a class, T or T+L is smaller at B than at A, or at C than at B.
-    FallingPlan = 5,
+    SmallerAtLowerGrade = 5,
     /// One byte is left, or a mark is not of a unit, redesignation or break.
-    Mark = 6,
+    UnknownMark = 6,
     /// A record is cut short.
     CutShort = 7,
     /// A count is above 2,000.
-    Count = 8,
+    CountTooLarge = 8,
     /// A prerequisite is above 3, or a recoverable above 1.
-    UnitField = 9,
+    BadUnitField = 9,
     /// A new grade is above 2.
-    NewGrade = 10,
+    BadNewGrade = 10,
     /// A new grade equals the one designated just before its record.
     SameGrade = 11,
     /// A unit stands after the 1,000th.
     TooManyUnits = 12,
     /// The result buffer is shorter than 16 times the units.
-    Results = 13,
+    ResultBufferTooShort = 13,
     /// A CuSum is too large for two bytes; no sheet leads to it.
-    Cusum = 14,
+    CusumTooLarge = 14,
 }
 
 impl Ground {
     /// Every ground, by its number.
-    pub const ALL: [Ground; 14] = [
+    pub const ALL: &'static [Ground] = &[
         Ground::NoPlan,
-        Ground::DesignatedGrade,
-        Ground::Limit,
-        Ground::Start,
-        Ground::FallingPlan,
-        Ground::Mark,
+        Ground::BadDesignatedGrade,
+        Ground::PlanNumberTooLarge,
+        Ground::StartAboveLimit,
+        Ground::SmallerAtLowerGrade,
+        Ground::UnknownMark,
         Ground::CutShort,
-        Ground::Count,
-        Ground::UnitField,
-        Ground::NewGrade,
+        Ground::CountTooLarge,
+        Ground::BadUnitField,
+        Ground::BadNewGrade,
         Ground::SameGrade,
         Ground::TooManyUnits,
-        Ground::Results,
-        Ground::Cusum,
+        Ground::ResultBufferTooShort,
+        Ground::CusumTooLarge,
     ];
 
     /// The number of the refusal, 1 to 14.
@@ -346,11 +348,11 @@ impl Ground {
     /// ```
     /// use hatmuyon::Ground;
     ///
-    /// assert_eq!(Ground::from_number(8), Some(Ground::Count));
+    /// assert_eq!(Ground::from_number(8), Some(Ground::CountTooLarge));
     /// assert_eq!(Ground::from_number(0), None);
     /// ```
     pub fn from_number(number: u32) -> Option<Ground> {
-        Ground::ALL.into_iter().find(|ground| ground.number() == number)
+        Ground::ALL.iter().copied().find(|ground| ground.number() == number)
     }
 }
 
@@ -358,19 +360,21 @@ impl fmt::Display for Ground {
     fn fmt(&self, f: &mut fmt::Formatter<'_>) -> fmt::Result {
         f.write_str(match self {
             Ground::NoPlan => "shorter than 75 bytes, or first mark not 50 4C",
-            Ground::DesignatedGrade => "designated grade above 2",
-            Ground::Limit => "an S, T or L above 9,999",
-            Ground::Start => "an S above its L",
-            Ground::FallingPlan => "in a class, T or T+L smaller at B than at A, or at C than at B",
-            Ground::Mark => "one byte left, or a mark not of a unit, redesignation or break",
+            Ground::BadDesignatedGrade => "designated grade above 2",
+            Ground::PlanNumberTooLarge => "an S, T or L above 9,999",
+            Ground::StartAboveLimit => "an S above its L",
+            Ground::SmallerAtLowerGrade => {
+                "in a class, T or T+L smaller at B than at A, or at C than at B"
+            }
+            Ground::UnknownMark => "one byte left, or a mark not of a unit, redesignation or break",
             Ground::CutShort => "record cut short",
-            Ground::Count => "a count above 2,000",
-            Ground::UnitField => "prerequisite above 3 or recoverable above 1",
-            Ground::NewGrade => "new grade above 2",
+            Ground::CountTooLarge => "a count above 2,000",
+            Ground::BadUnitField => "prerequisite above 3 or recoverable above 1",
+            Ground::BadNewGrade => "new grade above 2",
             Ground::SameGrade => "new grade equals the one designated just before this record",
             Ground::TooManyUnits => "a unit after the 1,000th",
-            Ground::Results => "result buffer shorter than 16 times the units",
-            Ground::Cusum => "a CuSum too large for two bytes",
+            Ground::ResultBufferTooShort => "result buffer shorter than 16 times the units",
+            Ground::CusumTooLarge => "a CuSum too large for two bytes",
         })
     }
 }

@@ -55,9 +55,9 @@ fn refused(sheet: &[u8], room: usize) -> (u32, usize) {
 fn peach_sheet() {
     let record = |code, portion, code_grade, standing, plan, cusums| Record {
         code,
-        portion,
+        portion_grade: portion,
         code_grade,
-        plan: Some(plan),
+        plan_grade: Some(plan),
         standing,
         cusums,
     };
@@ -86,7 +86,7 @@ fn pea_sheet() {
     let failed: Vec<_> =
         (1..).zip(&graded).filter(|(_, unit)| unit.standing != Standing::Met).collect();
     let [(23, unit)] = failed[..] else { panic!("not the 23rd unit alone: {failed:?}") };
-    assert_eq!((unit.portion, unit.cusums), (Grade::B, [0, 5, 10, 60]));
+    assert_eq!((unit.portion_grade, unit.cusums), (Grade::B, [0, 5, 10, 60]));
     assert_eq!(graded.records().nth(23).unwrap().cusums, [0, 0, 0, 30]);
 }
 
@@ -102,7 +102,10 @@ fn no_plan_in_force() {
     let sheet = sheet(&[&bad, &bad, &unit(9, [0; 4])]);
     let mut results = [0; 3 * RESULT_SIZE];
     let last = grade(&sheet, &mut results).unwrap().records().next_back().unwrap();
-    assert_eq!((last.plan, last.portion, last.cusums), (None, Grade::Substandard, [0; 4]));
+    assert_eq!(
+        (last.plan_grade, last.portion_grade, last.cusums),
+        (None, Grade::Substandard, [0; 4])
+    );
     assert_eq!(last.standing, Standing::InStepThree);
 }
 
@@ -184,7 +187,17 @@ fn largest_sheet() {
     assert_eq!(graded.units(), MOST_UNITS);
     assert!(graded
         .into_iter()
-        .all(|unit| unit.code == 65_535 && unit.portion == Grade::Substandard));
+        .all(|unit| unit.code == 65_535 && unit.portion_grade == Grade::Substandard));
+}
+
+#[test]
+fn fifteen_and_sixteen_result_bytes_for_one_unit() {
+    let sheet = sheet(&[&unit(1, [0; 4])]);
+    let mut results = [0xEE; 16];
+    let refusal = grade(&sheet, &mut results[..15]).unwrap_err();
+    assert_eq!((refusal.ground, refusal.offset), (Ground::ResultBufferTooShort, sheet.len()));
+    assert_eq!(results, [0xEE; 16]);
+    assert_eq!(grade(&sheet, &mut results).unwrap().units(), 1);
 }
 
 #[test]
@@ -214,7 +227,7 @@ fn records_from_both_ends() {
 
 #[test]
 fn grounds_and_errors() {
-    for (number, ground) in (1..).zip(Ground::ALL) {
+    for (number, &ground) in (1..).zip(Ground::ALL) {
         assert_eq!(ground.number(), number);
         assert_eq!(Ground::from_number(number), Some(ground));
         assert!(!ground.to_string().is_empty());

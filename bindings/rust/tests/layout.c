@@ -33,9 +33,9 @@ int main(void)
     value("most units", HATMUYON_MOST_UNITS);
 
     value("code at", HATMUYON_RESULT_CODE);
-    value("portion at", HATMUYON_RESULT_PORTION);
+    value("portion grade at", HATMUYON_RESULT_PORTION_GRADE);
     value("code grade at", HATMUYON_RESULT_CODE_GRADE);
-    value("plan at", HATMUYON_RESULT_PLAN);
+    value("plan grade at", HATMUYON_RESULT_PLAN_GRADE);
     value("standing at", HATMUYON_RESULT_STANDING);
     value("critical at", HATMUYON_RESULT_CRITICAL);
     value("severe at", HATMUYON_RESULT_SEVERE);
@@ -45,7 +45,7 @@ int main(void)
     value("A", HATMUYON_GRADE_A);
     value("B", HATMUYON_GRADE_B);
     value("C", HATMUYON_GRADE_C);
-    value("Substandard", HATMUYON_SUBSTANDARD);
+    value("Substandard", HATMUYON_GRADE_SUBSTANDARD);
 
     value("Met", HATMUYON_MET);
     value("Failed", HATMUYON_FAILED);
@@ -53,18 +53,18 @@ int main(void)
     value("Recovered", HATMUYON_RECOVERED);
 
     value("NoPlan", HATMUYON_REFUSED_NO_PLAN);
-    value("DesignatedGrade", HATMUYON_REFUSED_DESIGNATED_GRADE);
-    value("Limit", HATMUYON_REFUSED_LIMIT);
-    value("Start", HATMUYON_REFUSED_START);
-    value("FallingPlan", HATMUYON_REFUSED_FALLING_PLAN);
-    value("Mark", HATMUYON_REFUSED_MARK);
+    value("BadDesignatedGrade", HATMUYON_REFUSED_BAD_DESIGNATED_GRADE);
+    value("PlanNumberTooLarge", HATMUYON_REFUSED_PLAN_NUMBER_TOO_LARGE);
+    value("StartAboveLimit", HATMUYON_REFUSED_START_ABOVE_LIMIT);
+    value("SmallerAtLowerGrade", HATMUYON_REFUSED_SMALLER_AT_LOWER_GRADE);
+    value("UnknownMark", HATMUYON_REFUSED_UNKNOWN_MARK);
     value("CutShort", HATMUYON_REFUSED_CUT_SHORT);
-    value("Count", HATMUYON_REFUSED_COUNT);
-    value("UnitField", HATMUYON_REFUSED_UNIT_FIELD);
-    value("NewGrade", HATMUYON_REFUSED_NEW_GRADE);
+    value("CountTooLarge", HATMUYON_REFUSED_COUNT_TOO_LARGE);
+    value("BadUnitField", HATMUYON_REFUSED_BAD_UNIT_FIELD);
+    value("BadNewGrade", HATMUYON_REFUSED_BAD_NEW_GRADE);
     value("SameGrade", HATMUYON_REFUSED_SAME_GRADE);
     value("TooManyUnits", HATMUYON_REFUSED_TOO_MANY_UNITS);
-    value("Results", HATMUYON_REFUSED_RESULTS);
-    value("Cusum", HATMUYON_REFUSED_CUSUM);
+    value("ResultBufferTooShort", HATMUYON_REFUSED_RESULT_BUFFER_TOO_SHORT);
+    value("CusumTooLarge", HATMUYON_REFUSED_CUSUM_TOO_LARGE);
     return 0;
 }

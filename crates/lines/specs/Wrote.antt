@@ -1,4 +1,4 @@
--- What a function that writes text into the caller's buffer promises.
+-- For contracts of private functions: what a function that writes text into the caller's buffer promises.
 use Prim.Native.Nat.{ℕ, _+_, _≤_}
 use mathlib.Core.Path.{_≡_}
 use mathlib.Core.List.{List}

@@ -4,7 +4,7 @@ use Prim.Native.Nat.{ℕ, _+_, _*_}
 use mathlib.Core.List.{List, [], _∷_}
 use Rattle.cusum.specs.declared.Cusum.{Cusum}
 use Rattle.encoding.specs.Bytes.{byte, number, high, low}
-use Rattle.rules.specs.Words.{tenthsIn}
+use Rattle.rules.specs.Words.{classes, tenthsIn}
 use Rattle.results.specs.declared.ResultRecord.{ResultRecord}
 
 -- ---- size of the record, and offsets of its fields
@@ -33,16 +33,15 @@ cusumsOffset = 8
 -- ---- its bytes
 
 -- the two bytes of each CuSum, class by class
-unfoldable pub cusumBytes : List Cusum → List ℕ
-cusumBytes cusums =
-    high (tenthsIn cusums 0) ∷ low (tenthsIn cusums 0) ∷ high (tenthsIn cusums 1) ∷ low (tenthsIn cusums 1)
-    ∷ high (tenthsIn cusums 2) ∷ low (tenthsIn cusums 2) ∷ high (tenthsIn cusums 3) ∷ low (tenthsIn cusums 3) ∷ []
+unfoldable pub cusumBytes : List ℕ → List Cusum → List ℕ
+cusumBytes [] cusums = []
+cusumBytes (class ∷ others) cusums = high (tenthsIn cusums class) ∷ low (tenthsIn cusums class) ∷ cusumBytes others cusums
 
 -- a record with a code grade, which is known last of all
 unfoldable pub resultBytes : ℕ → ResultRecord → List ℕ
 resultBytes codeGrade result =
     0x47 ∷ 0x52 ∷ high (result .code) ∷ low (result .code)
-    ∷ result .portion ∷ codeGrade ∷ result .plan ∷ result .standing ∷ cusumBytes (result .cusums)
+    ∷ result .portion ∷ codeGrade ∷ result .plan ∷ result .standing ∷ cusumBytes classes (result .cusums)
 
 -- ---- a field of the record of unit j, read back from the result buffer
 

@@ -1,9 +1,9 @@
 -- The line and its words: grades, classes, the plan's table, a sample unit's counts by class, the CuSum of a class.
-use Prim.Native.Nat.{ℕ, _+_, max}
+use Prim.Native.Nat.{ℕ, _+_, _*_, max}
 use mathlib.Core.Bool.{Bool}
-use mathlib.Core.List.{List, [], _∷_}
+use mathlib.Core.List.{List, [], _∷_, map}
 use lib.Dec.{ltb}
-use lib.ListN.{getD}
+use lib.ListN.{getD, length}
 use Rattle.cusum.specs.declared.PlanNumbers.{PlanNumbers}
 use Rattle.cusum.specs.declared.Cusum.{Cusum}
 use Rattle.rules.specs.declared.Plan.{Plan}
@@ -16,6 +16,9 @@ substandard = 3
 -- there is a plan for A, B and C, and none for Substandard
 unfoldable pub hasPlan : ℕ → Bool
 hasPlan grade = ltb grade substandard
+
+abbrev pub plannedGrades : List ℕ
+plannedGrades = 0 ∷ 1 ∷ 2 ∷ []
 
 -- the worse of two grades
 abbrev pub worse : ℕ → ℕ → ℕ
@@ -34,7 +37,7 @@ abbrev pub noNumbers : PlanNumbers
 noNumbers = record { start = 0; tolerance = 0; limit = 0 }
 
 abbrev pub noRow : List PlanNumbers
-noRow = noNumbers ∷ noNumbers ∷ noNumbers ∷ noNumbers ∷ []
+noRow = map (λ class. noNumbers) classes
 
 abbrev pub rowOf : Table → ℕ → List PlanNumbers
 rowOf table grade = getD table grade noRow
@@ -53,11 +56,7 @@ cellOf plan cell = getD (plan .numbers) cell noNumbers
 
 -- the table of a plan
 abbrev pub tableOf : Plan → Table
-tableOf plan =
-    (cellOf plan 0 ∷ cellOf plan 1 ∷ cellOf plan 2 ∷ cellOf plan 3 ∷ [])
-    ∷ (cellOf plan 4 ∷ cellOf plan 5 ∷ cellOf plan 6 ∷ cellOf plan 7 ∷ [])
-    ∷ (cellOf plan 8 ∷ cellOf plan 9 ∷ cellOf plan 10 ∷ cellOf plan 11 ∷ [])
-    ∷ []
+tableOf plan = map (λ grade. map (λ class. cellOf plan (length classes * grade + class)) classes) plannedGrades
 
 -- a unit's counts by class: total is the sum of critical, severe, major and minor
 abbrev pub countsOf : SampleUnit → List ℕ

@@ -6,3 +6,4 @@ pub mod Past
 pub mod Ranges
 pub mod Designated
 pub mod Listed
+mod Sizes

@@ -5,7 +5,7 @@ use lib.Dec.{eqb}
 use Rattle.cusum.specs.declared.PlanNumbers.{PlanNumbers}
 use Rattle.encoding.specs.Bytes.{byte, number}
 use Rattle.rules.specs.Conditions.{pick}
-use Rattle.rules.specs.Words.{tableOf}
+use Rattle.rules.specs.Words.{classes, tableOf}
 use Rattle.rules.specs.Sheet.{Sheet}
 use Rattle.rules.specs.declared.Plan.{Plan}
 use Rattle.rules.specs.declared.SampleUnit.{SampleUnit}
@@ -72,7 +72,7 @@ planNumbersAt bytes at = record { start = number bytes at; tolerance = number by
 
 -- the four classes of a grade
 abbrev pub rowAt : List ℕ → ℕ → List PlanNumbers
-rowAt bytes at = planNumbersAt bytes at ∷ planNumbersAt bytes (at + planNumbersSize) ∷ planNumbersAt bytes (at + 2 * planNumbersSize) ∷ planNumbersAt bytes (at + 3 * planNumbersSize) ∷ []
+rowAt bytes at = map (λ class. planNumbersAt bytes (at + planNumbersSize * class)) classes
 
 -- the cells of the table, grade by grade and in each class by class
 abbrev pub cells : List ℕ

@@ -1,13 +1,13 @@
 -- Where a sheet is turned away: numbers 1 to 12, in the order of the table. A refusal is its number and an offset.
 use Prim.Native.Nat.{ℕ, zero, suc, _+_}
 use mathlib.Core.Bool.{Bool, true, false, not, _||_}
-use mathlib.Core.List.{List, [], _∷_}
+use mathlib.Core.List.{List}
 use lib.Dec.{ltb, leb, eqb}
 use lib.ListN.{length}
 use Rattle.cusum.specs.declared.PlanNumbers.{PlanNumbers}
 use Rattle.encoding.specs.Bytes.{byte, number}
 use Rattle.rules.specs.Conditions.{any, pick}
-use Rattle.rules.specs.Words.{classes, Table, inClass, rowOf, numbersOf, tableOf}
+use Rattle.rules.specs.Words.{plannedGrades, classes, Table, inClass, rowOf, numbersOf, tableOf}
 use Rattle.rules.specs.declared.Entry.{Entry}
 use Rattle.rules.specs.declared.Entry.the-variants.{UnitRecord, Redesignation, Break}
 use Rattle.rules.specs.declared.SampleUnit.{SampleUnit}
@@ -39,7 +39,7 @@ unfoldable pub anyClass : (PlanNumbers → Bool) → List PlanNumbers → Bool
 anyClass condition row = any (λ class. condition (inClass row class)) classes
 
 unfoldable pub anyNumbers : (PlanNumbers → Bool) → Table → Bool
-anyNumbers condition table = any (λ grade. anyClass condition (rowOf table grade)) (0 ∷ 1 ∷ 2 ∷ [])
+anyNumbers condition table = any (λ grade. anyClass condition (rowOf table grade)) plannedGrades
 
 -- 1: shorter than 75 bytes, or first mark not 50 4C
 unfoldable pub noPlanRecord : List ℕ → Bool

@@ -61,10 +61,6 @@ unfoldable pub overfullBefore : Sheet → ℕ → Bool
 overfullBefore sheet zero = false
 overfullBefore sheet (suc n) = overfullBefore sheet n || overfullBy sheet n (sheet .entry n)
 
--- an L too large for two bytes
-unfoldable pub limitTooLarge : PlanNumbers → Bool
-limitTooLarge numbers = ltb largestTenths (numbers .limit)
-
 -- ---- the outcome
 
 -- the answer, and the result buffer as it is left
@@ -84,7 +80,8 @@ acceptance bytes buffer records units =
       buffer = written (codeGrade (sheetOf bytes records)) (sheetOf bytes records) records ++ drop (resultSize * units) buffer;
     }
 
--- number, units and offset for each case of the check's verdict: 1 to 12 by the check of the sheet; then 13, a buffer shorter than 16 times the units; then 14; both at the sheet's length
+-- number, units and offset for each case of the check's verdict: 1 to 12 by the check of the sheet; then 13, a buffer shorter than 16
+-- times the units; then 14; both at the sheet's length
 unfoldable pub outcomeBy : List ℕ → List ℕ → Verdict → Outcome
 outcomeBy bytes buffer (Refused number offset) = refusal number offset buffer
 outcomeBy bytes buffer (Accepted records units) =
@@ -92,5 +89,12 @@ outcomeBy bytes buffer (Accepted records units) =
     (pick (overfullBefore (sheetOf bytes records) records) (refusal 14 (length bytes) buffer)
     (acceptance bytes buffer records units))
 
+-- for every sheet and every buffer
 unfoldable pub outcome : List ℕ → List ℕ → Outcome
 outcome bytes buffer = outcomeBy bytes buffer (verdict bytes)
+
+-- ---- for contracts of private functions
+
+-- an L too large for two bytes: no CuSum is above its L, so that number 14 is decided by these (law `none-overfull`)
+unfoldable pub limitTooLarge : PlanNumbers → Bool
+limitTooLarge numbers = ltb largestTenths (numbers .limit)

@@ -1,4 +1,4 @@
--- Where a walk over the records of a sheet stands.
+-- For contracts of private functions: where a walk over the records of a sheet stands.
 use Prim.Native.Nat.{ℕ, _≤_}
 use mathlib.Core.Path.{_≡_}
 use mathlib.Core.List.{List}

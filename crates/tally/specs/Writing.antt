@@ -1,5 +1,5 @@
--- The writing pass: what the result buffer holds once the first m records are done. Portions are recovered when step 3 ends, in
--- records that are written by then; no code is graded yet.
+-- For contracts of private functions: what the result buffer holds once the first m records are done. Portions are recovered when
+-- step 3 ends, in records that are written by then; no code is graded yet.
 use Prim.Native.Nat.{ℕ, zero, suc, _+_, _*_, _-_, _≤_}
 use mathlib.Core.Bool.{Bool, _&&_, _||_}
 use mathlib.Core.List.{List, [], _++_}
@@ -13,6 +13,7 @@ use Rattle.rules.specs.declared.SampleUnit.{SampleUnit}
 use Rattle.rules.specs.declared.Entry.{Entry}
 use Rattle.rules.specs.declared.Entry.the-variants.{UnitRecord, Redesignation, Break}
 use Rattle.sheet.specs.Layout.{unitSize, sampleUnitAt, unitsBefore, sheetOf}
+use Rattle.sheet.specs.Refusals.{mostUnits}
 use Rattle.results.specs.Record.{resultSize, portionGradeOffset, standingOffset, resultBytes}
 use Rattle.results.specs.Codes.{ungraded}
 use Rattle.results.specs.declared.ResultRecord.{ResultRecord}
@@ -64,7 +65,8 @@ pub record TwoBefore (bytes : List ℕ) (position : Position) (size : ℕ) : Typ
   pub two-units : 2 * unitSize ≤ position .at
   pub inside : position .at ≤ length bytes
   pub two-results : 2 ≤ position .units
-  pub few : position .units ≤ 1000
+  -- so that no offset is too large for its type
+  pub few : position .units ≤ mostUnits
   pub room : resultSize * position .units ≤ size
 
 -- the two units right before a position recovered
