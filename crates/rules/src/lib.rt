@@ -16,12 +16,15 @@ use cusum::PlanNumbers;
 pub const CLASSES: usize = 4;
 
 // Grades A, B and C, coded 0 to 2, have a plan; Substandard, coded 3, has none.
-pub const GRADES: usize = 3;
+const GRADES: usize = 3;
 
-pub const SUBSTANDARD: u8 = 3;
+const SUBSTANDARD: u8 = 3;
+
+// The standing of a recovered portion.
+pub const RECOVERED: u8 = 3;
 
 // The cells of a plan's table: a class of a grade.
-pub const CELLS: usize = 12;
+const CELLS: usize = GRADES * CLASSES;
 
 // The plan of a grade: S, T and L of each class.
 pub type Row = [PlanNumbers; CLASSES];
@@ -33,7 +36,7 @@ pub type Table = [Row; GRADES];
 pub type Cusums = [Cusum; CLASSES];
 
 // A count of each class.
-pub type Counts = [u32; CLASSES];
+type Counts = [u32; CLASSES];
 
 // The designated grade, and S, T and L of grades A, B, C, in each by class.
 pub struct Plan {
@@ -463,7 +466,7 @@ impl Phase {
         ensures { λ r. ⌜ r ≡ standingOf self fails recovered ⌝ }
     {
         if recovered {
-            return 3;
+            return RECOVERED;
         }
         match self {
             Phase::Designated {

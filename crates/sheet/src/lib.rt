@@ -16,13 +16,13 @@ use rules::Table;
 use rules::row_of;
 
 // Sizes of the records, and offsets of their fields.
-pub const MARK_SIZE: usize = 2;
+const MARK_SIZE: usize = 2;
 
-pub const PLAN_SIZE: usize = 75;
+pub const PLAN_SIZE: usize = C_OFFSET + ROW_SIZE;
 
 pub const UNIT_SIZE: usize = 14;
 
-pub const REDESIGNATION_SIZE: usize = 3;
+const REDESIGNATION_SIZE: usize = 3;
 
 // The designated grade of a plan, the new one of a redesignation.
 const GRADE_OFFSET: usize = 2;

@@ -33,6 +33,7 @@ use Rattle.tally.specs.declared.Position.{Position}
 use Rattle.tally.specs.Position.{Walk}
 use Rattle.tally.specs.Outcome.{written}
 use Rattle.tally.specs.Writing.{resultIf, recoveredSoFar, bytesSoFar, recordsSoFar, writtenSoFar, recoveredIn, TwoBefore, twoRecovered}
+use Rattle.tally.proofs.Written.{length-joined}
 use Rattle.tally.proofs.Recorded.{entry-unit}
 use Rattle.tally.proofs.Recovering.{records-stay, records-before-run, recovered-now, recovered-first, recovered-second, not-marked, one-recovered, same-designated, records-all}
 use Rattle.tally.proofs.Walking.{walk-facts, at-is, units-are, state-is, no-end}
@@ -94,11 +95,11 @@ length-by bytes sheet m i at BreakMark = refl
 length-by bytes sheet m i at NoMark = refl
 
 pub length-records : (bytes : List ℕ) (records m n : ℕ) → length (recordsSoFar (sheetOf bytes records) m n) ≡ resultSize * unitsBefore bytes n
-unfolding recordsSoFar unitsBefore sheetOf entryAt
-length-records bytes records m zero = refl
-length-records bytes records m (suc n) =
+unfolding recordsSoFar sheetOf entryAt
+length-records bytes records m n =
     let sheet = sheetOf bytes records in
-    omega (arith, length-append (recordsSoFar sheet m n) (bytesSoFar sheet m n (entryAt bytes n)), length-records bytes records m n, length-by bytes sheet m n (offset bytes n) (mark bytes n))
+    length-joined bytes (recordsSoFar sheet m) (λ i. bytesSoFar sheet m i (entryAt bytes i)) refl (λ i. refl)
+    (λ i. length-by bytes sheet m i (offset bytes i) (mark bytes i)) n
 
 pub length-so-far : (bytes : List ℕ) (records : ℕ) (old : List ℕ) (m : ℕ) → resultSize * unitsBefore bytes m ≤ length old → length (writtenSoFar bytes records old m) ≡ length old
 unfolding writtenSoFar

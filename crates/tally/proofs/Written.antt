@@ -27,13 +27,22 @@ length-by grades bytes sheet i at RedesignationMark = refl
 length-by grades bytes sheet i at BreakMark = refl
 length-by grades bytes sheet i at NoMark = refl
 
+-- what records write one behind the other, if each unit writes a result record and the others nothing
+pub length-joined : (bytes : List ℕ) (whole own : ℕ → List ℕ) → whole 0 ≡ [] → ((n : ℕ) → whole (suc n) ≡ whole n ++ own n)
+    → ((n : ℕ) → length (own n) ≡ resultSize * unitsIn (mark bytes n)) → (n : ℕ) → length (whole n) ≡ resultSize * unitsBefore bytes n
+unfolding unitsBefore
+length-joined bytes whole own first next each zero = ap length first
+length-joined bytes whole own first next each (suc n) =
+    ap length (next n)
+    ∙ omega (arith, length-append (whole n) (own n), length-joined bytes whole own first next each n, each n)
+
 -- the records of n sheet records fill exactly 16 times their units
 pub length-written : (grades : ℕ → ℕ) (bytes : List ℕ) (records n : ℕ) → length (written grades (sheetOf bytes records) n) ≡ resultSize * unitsBefore bytes n
-unfolding written unitsBefore sheetOf entryAt
-length-written grades bytes records zero = refl
-length-written grades bytes records (suc n) =
+unfolding written sheetOf entryAt
+length-written grades bytes records n =
     let sheet = sheetOf bytes records in
-    omega (arith, length-append (written grades sheet n) (bytesBy grades sheet n (entryAt bytes n)), length-written grades bytes records n, length-by grades bytes sheet n (offset bytes n) (mark bytes n))
+    length-joined bytes (written grades sheet) (λ i. bytesBy grades sheet i (entryAt bytes i)) refl (λ i. refl)
+    (λ i. length-by grades bytes sheet i (offset bytes i) (mark bytes i)) n
 
 -- what n records write begins with what those before record i write, then what record i writes
 pub written-around : (grades : ℕ → ℕ) (sheet : Sheet) (i n : ℕ) → i < n

@@ -23,6 +23,7 @@ use results::STANDING_OFFSET;
 use results::grade_codes;
 use rules::Entry;
 use rules::Grading;
+use rules::RECOVERED;
 use rules::Row;
 use rules::SampleUnit;
 use rules::State;
@@ -39,9 +40,6 @@ use sheet::plan_of;
 use sheet::sample_unit_at;
 use sheet::size_of;
 use sheet::units_in;
-
-// The standing of a recovered portion.
-const RECOVERED: u8 = 3;
 
 // Acceptance: 0, the number of units, the sheet's length. A refusal: its number, no units, an offset in the sheet.
 #[repr(C)]
