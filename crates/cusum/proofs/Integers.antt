@@ -7,7 +7,7 @@ use mathlib.Core.List.{List, [], _∷_, map}
 use native.Mathlib.Omega.{arith}
 use lib.Dec.{T, ltb, ltb→lt, nltb→le, leb, leb→le, nleb→lt}
 use lib.IntN.{ℤ, pos, negsuc, _+ℤ_, _-ℤ_, subℕ, +ℤ-assoc, +ℤ-idl}
-use Rattle.cusum.specs.Integers.{maxℤ, largest, sumℤ, runs}
+use Rattle.cusum.specs.Integers.{maxℤ, largestOfZeroAnd, sumℤ, runsToEnd}
 
 -- ---- an integer as a difference of two naturals, for omega
 unfoldable pub up : ℤ → ℕ
@@ -101,21 +101,21 @@ difference-is a (suc b) = omega (arith, sub-is a (suc b))
 -- ---- the largest of a list
 
 -- the sum of the whole list is at most the largest over its runs, zero among them
-sum-le : (xs : List ℤ) → Le (sumℤ xs) (largest (map sumℤ (runs xs)))
-unfolding sumℤ largest runs
+sum-le : (xs : List ℤ) → Le (sumℤ xs) (largestOfZeroAnd (map sumℤ (runsToEnd xs)))
+unfolding sumℤ largestOfZeroAnd runsToEnd
 sum-le [] = omega arith
 sum-le (x ∷ xs) =
-    let m = largest (map sumℤ (runs xs)) in
+    let m = largestOfZeroAnd (map sumℤ (runsToEnd xs)) in
     let s = x +ℤ sumℤ xs in
     omega (arith, up-max s m, down-max s m)
 
 -- Lindley's step, unrolled once more at the front
 pub unroll : (a : ℕ) (d : ℤ) (ds : List ℤ) →
-    maxℤ (maxℤ (pos 0) (pos a +ℤ d) +ℤ sumℤ ds) (largest (map sumℤ (runs ds)))
-    ≡ largest ((pos a +ℤ sumℤ (d ∷ ds)) ∷ map sumℤ (runs (d ∷ ds)))
-unfolding sumℤ largest runs up down
+    maxℤ (maxℤ (pos 0) (pos a +ℤ d) +ℤ sumℤ ds) (largestOfZeroAnd (map sumℤ (runsToEnd ds)))
+    ≡ largestOfZeroAnd ((pos a +ℤ sumℤ (d ∷ ds)) ∷ map sumℤ (runsToEnd (d ∷ ds)))
+unfolding sumℤ largestOfZeroAnd runsToEnd up down
 unroll a d ds =
-    let m = largest (map sumℤ (runs ds)) in
+    let m = largestOfZeroAnd (map sumℤ (runsToEnd ds)) in
     let s = sumℤ ds in
     let w = pos a +ℤ d +ℤ s in
     ap (λ (x : ℤ). maxℤ x m) (max-plus (pos 0) (pos a +ℤ d) s ∙ ap (λ (x : ℤ). maxℤ x w) (+ℤ-idl s) ∙ max-comm s w)

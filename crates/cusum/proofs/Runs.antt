@@ -6,7 +6,7 @@ use mathlib.Core.Bool.{false}
 use mathlib.Core.List.{List, [], _∷_, _++_, map}
 use native.Mathlib.Omega.{arith}
 use lib.IntN.{ℤ, pos, _+ℤ_}
-use Rattle.cusum.specs.Integers.{maxℤ, largest, sumℤ, runs}
+use Rattle.cusum.specs.Integers.{maxℤ, largestOfZeroAnd, sumℤ, runsToEnd}
 use Rattle.cusum.specs.Step.{fails, newCusum}
 use Rattle.cusum.specs.LargestForm.{defectsLessT, largestForm}
 use Rattle.cusum.specs.declared.PlanNumbers.{PlanNumbers}
@@ -24,11 +24,11 @@ Meets l a [] = Unit {0}
 Meets l a (c ∷ cs) = (fails l a c ≡ false) × Meets l (newCusum l a c) cs
 
 pub run-largest : (l : PlanNumbers) (a : ℕ) (cs : List ℕ) → Meets l a cs → pos (after l a cs) ≡ largestForm l a cs
-unfolding after Meets largestForm sumℤ largest runs
+unfolding after Meets largestForm sumℤ largestOfZeroAnd runsToEnd
 run-largest l a [] m = ap pos (omega arith)
 run-largest l a (c ∷ cs) m =
     run-largest l (newCusum l a c) cs (m .1)
-    ∙ ap (λ (x : ℤ). maxℤ (x +ℤ sumℤ (map (defectsLessT l) cs)) (largest (map sumℤ (runs (map (defectsLessT l) cs))))) (met-at l a c (m .0))
+    ∙ ap (λ (x : ℤ). maxℤ (x +ℤ sumℤ (map (defectsLessT l) cs)) (largestOfZeroAnd (map sumℤ (runsToEnd (map (defectsLessT l) cs))))) (met-at l a c (m .0))
     ∙ unroll a (defectsLessT l c) (map (defectsLessT l) cs)
 
 -- one count more at the end

@@ -11,9 +11,9 @@ maxℤ (negsuc a) (pos b) = pos b
 maxℤ (negsuc a) (negsuc b) = negsuc (min a b)
 
 -- the largest of zero and the integers of a list
-unfoldable pub largest : List ℤ → ℤ
-largest [] = pos 0
-largest (x ∷ xs) = maxℤ x (largest xs)
+unfoldable pub largestOfZeroAnd : List ℤ → ℤ
+largestOfZeroAnd [] = pos 0
+largestOfZeroAnd (x ∷ xs) = maxℤ x (largestOfZeroAnd xs)
 
 -- the sum of a list; over no member it is zero
 unfoldable pub sumℤ : List ℤ → ℤ
@@ -21,6 +21,6 @@ sumℤ [] = pos 0
 sumℤ (x ∷ xs) = x +ℤ sumℤ xs
 
 -- each run of one or more neighbours that ends with the last member: the list, the list without its first, and so on
-unfoldable pub runs {ℓ} : {A : Type ℓ} → List A → List (List A)
-runs [] = []
-runs (x ∷ xs) = (x ∷ xs) ∷ runs xs
+unfoldable pub runsToEnd {ℓ} : {A : Type ℓ} → List A → List (List A)
+runsToEnd [] = []
+runsToEnd (x ∷ xs) = (x ∷ xs) ∷ runsToEnd xs

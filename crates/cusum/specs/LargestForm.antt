@@ -2,7 +2,7 @@
 use Prim.Native.Nat.{ℕ}
 use mathlib.Core.List.{List, _∷_, map}
 use lib.IntN.{ℤ, pos, _+ℤ_, _-ℤ_}
-use Rattle.cusum.specs.Integers.{largest, sumℤ, runs}
+use Rattle.cusum.specs.Integers.{largestOfZeroAnd, sumℤ, runsToEnd}
 use Rattle.cusum.specs.Step.{tenthsOf}
 use Rattle.cusum.specs.declared.PlanNumbers.{PlanNumbers}
 
@@ -15,4 +15,4 @@ defectsLessT numbers count = pos (tenthsOf count) -ℤ pos (numbers .tolerance)
 unfoldable pub largestForm : PlanNumbers → ℕ → List ℕ → ℤ
 largestForm numbers anchor counts =
     let since = map (defectsLessT numbers) counts in
-    largest ((pos anchor +ℤ sumℤ since) ∷ map sumℤ (runs since))
+    largestOfZeroAnd ((pos anchor +ℤ sumℤ since) ∷ map sumℤ (runsToEnd since))

@@ -18,8 +18,8 @@ use Rattle.rules.specs.declared.Phase.{Phase}
 use Rattle.rules.specs.declared.Phase.the-variants.{Designated, StepThree}
 use Rattle.rules.specs.declared.State.{State}
 use Rattle.rules.specs.Words.{Table}
-use Rattle.rules.specs.StepThree.{afterDesignated, endsStepThree, afterStepThree, phaseAfterUnit, phaseAfterRedesignation, phaseAfterBreak, unitEndsStepThree, opening, graded, phaseAfter, endsAt, stateWith, next}
-use Rattle.rules.specs.Sheet.{Sheet, before, stepThreeEnds, inFinishedRun}
+use Rattle.rules.specs.StepThree.{afterDesignated, endsStepThree, afterStepThree, phaseAfterUnit, phaseAfterRedesignation, phaseAfterBreak, unitEndsStepThree, opening, graded, phaseAfter, recordEndsStepThree, stateWith, next}
+use Rattle.rules.specs.Sheet.{Sheet, before, stepThreeEndsAt, inFinishedRun}
 
 -- a phase is step 3 with this designated grade, lower grade and run
 unfoldable pub InStepThree : Phase → ℕ → ℕ → ℕ → Type 0
@@ -98,9 +98,9 @@ module _ (sheet : Sheet) where
       let (q, b) = one-back (sheet .table) (before sheet j .phase) (before sheet j .cusums) (sheet .entry j) d l n h in
       (j, refl, q, b)
 
-  ends-unit : (phase : Phase) (cusums : List Cusum) (entry : Entry) → endsAt (sheet .table) (record { phase = phase; cusums = cusums }) entry ≡ true
+  ends-unit : (phase : Phase) (cusums : List Cusum) (entry : Entry) → recordEndsStepThree (sheet .table) (record { phase = phase; cusums = cusums }) entry ≡ true
       → (d : ℕ) × (l : ℕ) × (n : ℕ) × (2 ≤ n) × Qualifying (sheet .table) (record { phase = phase; cusums = cusums }) entry d l n
-  unfolding endsAt unitEndsStepThree endsStepThree InStepThree
+  unfolding recordEndsStepThree unitEndsStepThree endsStepThree InStepThree
   ends-unit (Designated designated previous) cusums (UnitRecord unit) e = absurd (false≢true e)
   ends-unit (StepThree designated lower run) cusums (UnitRecord unit) e = go _ refl e
     where
@@ -116,8 +116,8 @@ module _ (sheet : Sheet) where
   run-at-most-two i d l zero h = omega arith
   run-at-most-two i d l (suc n) h = let (j, e, q, b) = back i d l n h in omega arith
 
-  pub finished-run : (i : ℕ) → stepThreeEnds sheet i ≡ true → FinishedRun sheet i
-  unfolding stepThreeEnds
+  pub finished-run : (i : ℕ) → stepThreeEndsAt sheet i ≡ true → FinishedRun sheet i
+  unfolding stepThreeEndsAt
   finished-run i e = go (ends-unit (before sheet i .phase) (before sheet i .cusums) (sheet .entry i) e)
     where
       go : (d : ℕ) × (l : ℕ) × (n : ℕ) × (2 ≤ n) × Qualifying (sheet .table) (before sheet i) (sheet .entry i) d l n → FinishedRun sheet i
@@ -142,12 +142,12 @@ module _ (sheet : Sheet) where
 pub record InRun (sheet : Sheet) (i : ℕ) : Type 0 where
   pub last : ℕ
   pub run : FinishedRun sheet last
-  pub ends : stepThreeEnds sheet last ≡ true
+  pub ends : stepThreeEndsAt sheet last ≡ true
   pub from : run .start ≤ i
   pub to : i ≤ last
 
 module _ (sheet : Sheet) (i : ℕ) where
-  run-at : (j : ℕ) → stepThreeEnds sheet j ≡ true → i ≤ j → j ≤ i + 2 → InRun sheet i
+  run-at : (j : ℕ) → stepThreeEndsAt sheet j ≡ true → i ≤ j → j ≤ i + 2 → InRun sheet i
   run-at j e h k =
       let run = finished-run sheet j e in
       record { last = j; run = run; ends = e; from = omega (arith, run .ends-here); to = h }
@@ -155,9 +155,9 @@ module _ (sheet : Sheet) (i : ℕ) where
   -- the definition's three places are the three records of a finished run
   pub in-run : inFinishedRun sheet i ≡ true → InRun sheet i
   unfolding inFinishedRun
-  in-run e = go (stepThreeEnds sheet i) refl (stepThreeEnds sheet (i + 1)) refl (stepThreeEnds sheet (i + 2)) refl e
+  in-run e = go (stepThreeEndsAt sheet i) refl (stepThreeEndsAt sheet (i + 1)) refl (stepThreeEndsAt sheet (i + 2)) refl e
     where
-      go : (a : Bool) → stepThreeEnds sheet i ≡ a → (b : Bool) → stepThreeEnds sheet (i + 1) ≡ b → (c : Bool) → stepThreeEnds sheet (i + 2) ≡ c → (a || (b || c)) ≡ true → InRun sheet i
+      go : (a : Bool) → stepThreeEndsAt sheet i ≡ a → (b : Bool) → stepThreeEndsAt sheet (i + 1) ≡ b → (c : Bool) → stepThreeEndsAt sheet (i + 2) ≡ c → (a || (b || c)) ≡ true → InRun sheet i
       go true e b f c g h = run-at i e (omega arith) (omega arith)
       go false e true f c g h = run-at (i + 1) f (omega arith) (omega arith)
       go false e false f true g h = run-at (i + 2) g (omega arith) (omega arith)
@@ -177,13 +177,13 @@ module _ (sheet : Sheet) (i : ℕ) where
       or-true false b e = e
 
       go : (s : Bool) → leb (r .last) i ≡ s → (t : Bool) → leb (r .last) (i + 1) ≡ t
-          → (stepThreeEnds sheet i || (stepThreeEnds sheet (i + 1) || stepThreeEnds sheet (i + 2))) ≡ true
+          → (stepThreeEndsAt sheet i || (stepThreeEndsAt sheet (i + 1) || stepThreeEndsAt sheet (i + 2))) ≡ true
       go true p t q =
           let e : r .last ≡ i = omega (arith, leb-true (r .last) i p, r .to) in
-          true-or (stepThreeEnds sheet i) _ (sym (ap (stepThreeEnds sheet) e) ∙ r .ends)
+          true-or (stepThreeEndsAt sheet i) _ (sym (ap (stepThreeEndsAt sheet) e) ∙ r .ends)
       go false p true q =
           let e : r .last ≡ i + 1 = omega (arith, leb-false (r .last) i p, leb-true (r .last) (i + 1) q) in
-          or-true (stepThreeEnds sheet i) _ (true-or (stepThreeEnds sheet (i + 1)) _ (sym (ap (stepThreeEnds sheet) e) ∙ r .ends))
+          or-true (stepThreeEndsAt sheet i) _ (true-or (stepThreeEndsAt sheet (i + 1)) _ (sym (ap (stepThreeEndsAt sheet) e) ∙ r .ends))
       go false p false q =
           let e : r .last ≡ i + 2 = omega (arith, leb-false (r .last) (i + 1) q, r .run .ends-here, r .from) in
-          or-true (stepThreeEnds sheet i) _ (or-true (stepThreeEnds sheet (i + 1)) _ (sym (ap (stepThreeEnds sheet) e) ∙ r .ends))
+          or-true (stepThreeEndsAt sheet i) _ (or-true (stepThreeEndsAt sheet (i + 1)) _ (sym (ap (stepThreeEndsAt sheet) e) ∙ r .ends))

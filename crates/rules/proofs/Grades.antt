@@ -22,7 +22,7 @@ use Rattle.rules.specs.Unit.{classCusum, unitFails, admits, bestLower, d
 use Rattle.rules.specs.Conditions.{pick}
 use Rattle.rules.specs.StepThree.{designatedIn, inForce, afterDesignated, endsStepThree, afterStepThree, phaseAfterUnit, phaseAfterRedesignation, phaseAfterBreak, opening, graded, phaseAfter, stateWith, next}
 use Rattle.rules.specs.Unit.{portionGradeOf}
-use Rattle.rules.specs.Sheet.{Sheet, before, designatedBefore, inForceAt, gradedAt, recovered, portionGrade, portionGradeWith, worstBefore, codeGrade}
+use Rattle.rules.specs.Sheet.{Sheet, before, designatedAt, inForceAt, gradedAt, recovered, portionGrade, portionGradeWith, worstBefore, codeGrade}
 
 -- a CuSum is at most its L
 pub class-cusum-le : (table : Table) (grade : ℕ) (cusums : List Cusum) (counts : List ℕ) (class : ℕ)
@@ -123,7 +123,7 @@ module _ (sheet : Sheet) (designated : sheet .designated ≤ 2) (new-grades : (i
   bounded zero = (designated, tt)
   bounded (suc i) = after-entry (sheet .table) (before sheet i) (sheet .entry i) (new-grades i) (bounded i)
 
-  pub designated-at-most : (i : ℕ) → designatedBefore sheet i ≤ 2
+  pub designated-at-most : (i : ℕ) → designatedAt sheet i ≤ 2
   designated-at-most i = designated-bounded (before sheet i .phase) (bounded i)
 
   -- the grade of the plan in force is at most 3
@@ -136,7 +136,7 @@ module _ (sheet : Sheet) (designated : sheet .designated ≤ 2) (new-grades : (i
   portion-at-most i unit h =
       let d = designated-at-most i in
       let g = defect-grade-at-most (sheet .table) (inForceAt sheet i) (before sheet i .cusums) (countsOf unit) (in-force-at-most i) in
-      let c = choice-le (recovered sheet i unit) (designatedBefore sheet i) (gradedAt sheet i unit .grade) 3 (omega arith) g in
+      let c = choice-le (recovered sheet i unit) (designatedAt sheet i) (gradedAt sheet i unit .grade) 3 (omega arith) g in
       omega arith
 
   -- and so are code grades

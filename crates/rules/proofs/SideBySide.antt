@@ -19,9 +19,9 @@ use Rattle.rules.specs.declared.State.{State}
 use Rattle.rules.specs.Words.{substandard, Table, rowOf, countsOf}
 use Rattle.rules.specs.Unit.{starting, classCusum, gradingOf}
 use Rattle.rules.specs.Conditions.{pick}
-use Rattle.rules.specs.StepThree.{designatedIn, inForce, afterDesignated, phaseAfterUnit, phaseAfterBreak, unitEndsStepThree, unitStartsStepThree, unitRestarts, opening, graded, phaseAfter, endsAt, restarts, cusumsAfter, stateWith, next}
+use Rattle.rules.specs.StepThree.{designatedIn, inForce, afterDesignated, phaseAfterUnit, phaseAfterBreak, unitEndsStepThree, unitStartsStepThree, unitRestarts, opening, graded, phaseAfter, recordEndsStepThree, restarts, cusumsAfter, stateWith, next}
 use Rattle.rules.specs.Unit.{portionGradeOf}
-use Rattle.rules.specs.Sheet.{Sheet, before, inForceAt, stepThreeEnds, inFinishedRun, recovered, portionGrade, portionGradeWith, worstBefore, codeGrade}
+use Rattle.rules.specs.Sheet.{Sheet, before, inForceAt, stepThreeEndsAt, inFinishedRun, recovered, portionGrade, portionGradeWith, worstBefore, codeGrade}
 use Rattle.rules.specs.Anchor.{failsAt, failureAt}
 use Rattle.rules.specs.TwoInARow.{failsDesignated, failedUnit, failedBefore, secondInARow}
 use Rattle.rules.proofs.Tests.{and-false}
@@ -185,8 +185,8 @@ module _ (table : Table) (designated : ℕ) (es fs : ℕ → Entry) (size : ℕ)
   both-stay x b g g' (Designated d p) (StepThree d' lower run) h = absurd h
   both-stay x b g g' (StepThree d lower run) phase' h = absurd h
 
-  no-end : (s : State) (e : Entry) → ((g : Grading) → unitEndsStepThree (s .phase) g ≡ false) → endsAt table s e ≡ false
-  unfolding endsAt
+  no-end : (s : State) (e : Entry) → ((g : Grading) → unitEndsStepThree (s .phase) g ≡ false) → recordEndsStepThree table s e ≡ false
+  unfolding recordEndsStepThree
   no-end s (UnitRecord u) h = h _
   no-end s (Redesignation g) h = refl
   no-end s Break h = refl
@@ -195,12 +195,12 @@ module _ (table : Table) (designated : ℕ) (es fs : ℕ → Entry) (size : ℕ)
     always : (i : ℕ) → Both designated (failedBefore second i) (before first i .phase) (before second i .phase) × NoHigher (before first i .cusums) (before second i .cusums)
     always i = together i (λ j h. never j)
 
-    ends-first : (i : ℕ) → stepThreeEnds first i ≡ false
-    unfolding stepThreeEnds
+    ends-first : (i : ℕ) → stepThreeEndsAt first i ≡ false
+    unfolding stepThreeEndsAt
     ends-first i = no-end (before first i) (es i) (λ g. both-stay designated (failedBefore second i) g g (before first i .phase) (before second i .phase) (always i .0) .0)
 
-    ends-second : (i : ℕ) → stepThreeEnds second i ≡ false
-    unfolding stepThreeEnds
+    ends-second : (i : ℕ) → stepThreeEndsAt second i ≡ false
+    unfolding stepThreeEndsAt
     ends-second i = no-end (before second i) (fs i) (λ g. both-stay designated (failedBefore second i) g g (before first i .phase) (before second i .phase) (always i .0) .1)
 
     recovered-first : (i : ℕ) (u : SampleUnit) → recovered first i u ≡ false

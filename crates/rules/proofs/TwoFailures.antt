@@ -10,7 +10,7 @@ use Rattle.rules.specs.Conditions.{pick}
 use Rattle.rules.specs.Words.{worse, Table, countsOf}
 use Rattle.rules.specs.Unit.{unitFails}
 use Rattle.rules.specs.StepThree.{inForce, designatedIn, afterDesignated, afterStepThree, phaseAfterUnit, phaseAfterRedesignation, phaseAfterBreak, unitStartsStepThree, opening, graded, phaseAfter, stateWith, next}
-use Rattle.rules.specs.Sheet.{Sheet, before, designatedBefore, gradedAt}
+use Rattle.rules.specs.Sheet.{Sheet, before, designatedAt, gradedAt}
 use Rattle.rules.specs.TwoInARow.{failsDesignated, failedUnit, failedBefore, secondInARow}
 use Rattle.rules.specs.declared.SampleUnit.{SampleUnit}
 use Rattle.rules.specs.declared.Entry.{Entry}
@@ -117,7 +117,7 @@ module _ (sheet : Sheet) where
   pub lower-is-worse : (i : ℕ) (first second : SampleUnit) → sheet .entry i ≡ UnitRecord first → sheet .entry (suc i) ≡ UnitRecord second
       → secondInARow sheet (suc i) ≡ true
       → before sheet (suc (suc i)) .phase
-      ≡ StepThree (designatedBefore sheet (suc i)) (worse (gradedAt sheet i first .grade) (gradedAt sheet (suc i) second .grade)) 0
+      ≡ StepThree (designatedAt sheet (suc i)) (worse (gradedAt sheet i first .grade) (gradedAt sheet (suc i) second .grade)) 0
   unfolding secondInARow failedBefore failedUnit before next stateWith
   lower-is-worse i first second is-first is-second in-a-row =
       let (one, two) = both (failedUnit sheet i) (failedUnit sheet (suc i)) in-a-row in

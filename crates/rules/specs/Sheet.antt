@@ -4,7 +4,7 @@ use mathlib.Core.Bool.{Bool, true, false, cond, _&&_, _||_}
 use lib.Dec.{eqb}
 use Rattle.rules.specs.Words.{worse, Table}
 use Rattle.rules.specs.Unit.{portionGradeOf}
-use Rattle.rules.specs.StepThree.{designatedIn, inForce, opening, graded, endsAt, next}
+use Rattle.rules.specs.StepThree.{designatedIn, inForce, opening, graded, recordEndsStepThree, next}
 use Rattle.rules.specs.declared.SampleUnit.{SampleUnit}
 use Rattle.rules.specs.declared.Grading.{Grading}
 use Rattle.rules.specs.declared.Entry.{Entry}
@@ -34,8 +34,8 @@ module _ (sheet : Sheet) where
   before (suc i) = next (sheet .table) (before i) (sheet .entry i)
 
   -- the grade designated just before record i (law `designated-before`: the refusals use the same), and that of the plan in force
-  abbrev pub designatedBefore : ℕ → ℕ
-  designatedBefore i = designatedIn (before i .phase)
+  abbrev pub designatedAt : ℕ → ℕ
+  designatedAt i = designatedIn (before i .phase)
 
   abbrev pub inForceAt : ℕ → ℕ
   inForceAt i = inForce (before i .phase)
@@ -45,20 +45,20 @@ module _ (sheet : Sheet) where
   gradedAt i unit = graded (sheet .table) (before i) unit
 
   -- step 3 ends at record i
-  unfoldable pub stepThreeEnds : ℕ → Bool
-  stepThreeEnds i = endsAt (sheet .table) (before i) (sheet .entry i)
+  unfoldable pub stepThreeEndsAt : ℕ → Bool
+  stepThreeEndsAt i = recordEndsStepThree (sheet .table) (before i) (sheet .entry i)
 
   -- record i is one of the three qualifying units in a row at whose last step 3 ends: that last one is record i, i + 1 or i + 2, as
   -- the three stand side by side: a break, a redesignation or a unit that does not qualify sets the run to none (laws `finished-run`, `in-run` and `run-in`)
   unfoldable pub inFinishedRun : ℕ → Bool
-  inFinishedRun i = stepThreeEnds i || (stepThreeEnds (i + 1) || stepThreeEnds (i + 2))
+  inFinishedRun i = stepThreeEndsAt i || (stepThreeEndsAt (i + 1) || stepThreeEndsAt (i + 2))
 
   -- each of those three portions marked recoverable is recovered
   unfoldable pub recovered : ℕ → SampleUnit → Bool
   recovered i unit = unit .recoverable && inFinishedRun i
 
   unfoldable pub portionGrade : ℕ → SampleUnit → ℕ
-  portionGrade i unit = portionGradeOf (designatedBefore i) (gradedAt i unit .grade) (unit .prerequisite) (recovered i unit)
+  portionGrade i unit = portionGradeOf (designatedAt i) (gradedAt i unit .grade) (unit .prerequisite) (recovered i unit)
 
   unfoldable pub standing : ℕ → SampleUnit → ℕ
   standing i unit = standingOf (before i .phase) (gradedAt i unit .fails) (recovered i unit)

@@ -95,10 +95,10 @@ module _ (table : Table) where
   phaseAfter state Break = phaseAfterBreak (state .phase)
 
   -- step 3 ends at this record
-  unfoldable pub endsAt : State → Entry → Bool
-  endsAt state (UnitRecord unit) = unitEndsStepThree (state .phase) (graded state unit)
-  endsAt state (Redesignation new) = false
-  endsAt state Break = false
+  unfoldable pub recordEndsStepThree : State → Entry → Bool
+  recordEndsStepThree state (UnitRecord unit) = unitEndsStepThree (state .phase) (graded state unit)
+  recordEndsStepThree state (Redesignation new) = false
+  recordEndsStepThree state Break = false
 
   -- the restarts are a break, the start of step 3, its end, and every redesignation but one that keeps the CuSums; a restart that a
   -- unit brings about comes after that unit's record

@@ -25,10 +25,10 @@ an-anchor-at bytes i class =
     let within = anchor-le (sheetIn bytes) class i (anchor .place) (anchor .failed) (anchor .lies) in
     record {
       from = anchor .place;
-      n = suc i - anchor .place;
-      failed = anchor .failed;
-      reaches = omega arith;
-      lies = anchor .lies;
+      records = suc i - anchor .place;
+      at-failure = anchor .failed;
+      to-this-unit = omega arith;
+      is-anchor = anchor .lies;
       latest = anchor .latest;
     }
 
@@ -41,5 +41,5 @@ demand3-first bytes buffer answer results accepted i at planned class in-range =
       largest-of = λ anchor.
           ap pos (recorded-cusum bytes buffer answer results accepted i at class in-range)
           ∙ largest-form-by-place (sheetIn bytes) class in-range i (sampleUnitAt bytes (offset bytes i)) (entry-unit bytes i (at .is-unit)) planned
-          (anchor .from) (anchor .n) (anchor .failed) (anchor .reaches) (anchor .lies) (anchor .latest);
+          (anchor .from) (anchor .records) (anchor .at-failure) (anchor .to-this-unit) (anchor .is-anchor) (anchor .latest);
     }

@@ -12,7 +12,7 @@ use Rattle.rules.specs.Words.{worse}
 use Rattle.rules.specs.Conditions.{pick}
 use Rattle.rules.specs.StepThree.{designatedIn}
 use Rattle.rules.specs.Unit.{portionGradeOf}
-use Rattle.rules.specs.Sheet.{Sheet, designatedBefore, stepThreeEnds, inFinishedRun, recovered, portionGrade, standingOf, standing}
+use Rattle.rules.specs.Sheet.{Sheet, designatedAt, stepThreeEndsAt, inFinishedRun, recovered, portionGrade, standingOf, standing}
 use Rattle.rules.specs.declared.SampleUnit.{SampleUnit}
 use Rattle.rules.specs.declared.Phase.{Phase}
 use Rattle.rules.specs.declared.Phase.the-variants.{Designated, StepThree}
@@ -29,7 +29,7 @@ use Rattle.tally.specs.Writing.{resultIf, endedAt, recoveredSoFar, bytes
 -- ---- ends among the first records
 
 module _ (sheet : Sheet) where
-  ended-below : (m j : ℕ) → j < m → endedAt sheet m j ≡ stepThreeEnds sheet j
+  ended-below : (m j : ℕ) → j < m → endedAt sheet m j ≡ stepThreeEndsAt sheet j
   unfolding endedAt
   ended-below m j h = rw (lt-ltb j m h)
 
@@ -38,7 +38,7 @@ module _ (sheet : Sheet) where
   ended-behind m j h = rw (le-ltb j m h)
 
   -- one record more, where step 3 does not end
-  ended-same : (m : ℕ) → stepThreeEnds sheet m ≡ false → (j : ℕ) → endedAt sheet m j ≡ endedAt sheet (suc m) j
+  ended-same : (m : ℕ) → stepThreeEndsAt sheet m ≡ false → (j : ℕ) → endedAt sheet m j ≡ endedAt sheet (suc m) j
   ended-same m e j = go (leb m j) refl (leb (suc m) j) refl
     where
       go : (s : Bool) → leb m j ≡ s → (t : Bool) → leb (suc m) j ≡ t → endedAt sheet m j ≡ endedAt sheet (suc m) j
@@ -46,7 +46,7 @@ module _ (sheet : Sheet) where
       go true p true q = ended-behind m j (leb-true m j p) ∙ sym (ended-behind (suc m) j (leb-true (suc m) j q))
       go true p false q =
           let here : j ≡ m = omega (arith, leb-true m j p, leb-false (suc m) j q) in
-          ended-behind m j (leb-true m j p) ∙ sym (ended-below (suc m) j (omega arith) ∙ ap (stepThreeEnds sheet) here ∙ e)
+          ended-behind m j (leb-true m j p) ∙ sym (ended-below (suc m) j (omega arith) ∙ ap (stepThreeEndsAt sheet) here ∙ e)
 
   -- ---- records that stay
 
@@ -65,7 +65,7 @@ module _ (sheet : Sheet) where
       (bytes-same m m' n (sheet .entry n) (h n (omega arith)) (h (n + 1) (omega arith)) (h (n + 2) (omega arith)))
 
   -- where step 3 does not end at record m, nothing written changes
-  pub records-stay : (m : ℕ) → stepThreeEnds sheet m ≡ false → recordsSoFar sheet m m ≡ recordsSoFar sheet (suc m) m
+  pub records-stay : (m : ℕ) → stepThreeEndsAt sheet m ≡ false → recordsSoFar sheet m m ≡ recordsSoFar sheet (suc m) m
   records-stay m e = records-same m (suc m) m (λ j h. ended-same m e j)
 
   -- where it ends, nothing before the finished run changes
@@ -75,7 +75,7 @@ module _ (sheet : Sheet) where
   -- ---- whether a unit is recovered so far
 
   -- the unit that is record m itself
-  pub recovered-now : (m : ℕ) (unit : SampleUnit) → (unit .recoverable && stepThreeEnds sheet m) ≡ recoveredSoFar sheet (suc m) m unit
+  pub recovered-now : (m : ℕ) (unit : SampleUnit) → (unit .recoverable && stepThreeEndsAt sheet m) ≡ recoveredSoFar sheet (suc m) m unit
   unfolding recoveredSoFar
   recovered-now m unit =
       rw (ended-below (suc m) m (omega arith), ended-behind (suc m) (m + 1) (omega arith), ended-behind (suc m) (m + 2) (omega arith), or-false)
@@ -84,11 +84,11 @@ module _ (sheet : Sheet) where
   three-or a b c e = rw e
 
   -- the units of a finished run that ends at record m: those marked recoverable
-  pub recovered-first : (k : ℕ) (unit : SampleUnit) → stepThreeEnds sheet (suc (suc k)) ≡ true → recoveredSoFar sheet (suc (suc (suc k))) k unit ≡ unit .recoverable
+  pub recovered-first : (k : ℕ) (unit : SampleUnit) → stepThreeEndsAt sheet (suc (suc k)) ≡ true → recoveredSoFar sheet (suc (suc (suc k))) k unit ≡ unit .recoverable
   unfolding recoveredSoFar
   recovered-first k unit e =
       let two : k + 2 ≡ suc (suc k) = omega arith in
-      let ended : endedAt sheet (suc (suc (suc k))) (k + 2) ≡ true = ended-below _ (k + 2) (omega arith) ∙ ap (stepThreeEnds sheet) two ∙ e in
+      let ended : endedAt sheet (suc (suc (suc k))) (k + 2) ≡ true = ended-below _ (k + 2) (omega arith) ∙ ap (stepThreeEndsAt sheet) two ∙ e in
       rw (ended, true-last (endedAt sheet (suc (suc (suc k))) k) (endedAt sheet (suc (suc (suc k))) (k + 1))) (and-true (unit .recoverable))
     where
       true-last : (a b : Bool) → (a || (b || true)) ≡ true
@@ -96,11 +96,11 @@ module _ (sheet : Sheet) where
       true-last false true = refl
       true-last false false = refl
 
-  pub recovered-second : (k : ℕ) (unit : SampleUnit) → stepThreeEnds sheet (suc (suc k)) ≡ true → recoveredSoFar sheet (suc (suc (suc k))) (suc k) unit ≡ unit .recoverable
+  pub recovered-second : (k : ℕ) (unit : SampleUnit) → stepThreeEndsAt sheet (suc (suc k)) ≡ true → recoveredSoFar sheet (suc (suc (suc k))) (suc k) unit ≡ unit .recoverable
   unfolding recoveredSoFar
   recovered-second k unit e =
       let one : suc k + 1 ≡ suc (suc k) = omega arith in
-      let ended : endedAt sheet (suc (suc (suc k))) (suc k + 1) ≡ true = ended-below _ (suc k + 1) (omega arith) ∙ ap (stepThreeEnds sheet) one ∙ e in
+      let ended : endedAt sheet (suc (suc (suc k))) (suc k + 1) ≡ true = ended-below _ (suc k + 1) (omega arith) ∙ ap (stepThreeEndsAt sheet) one ∙ e in
       rw (ended, true-middle (endedAt sheet (suc (suc (suc k))) (suc k))) (and-true (unit .recoverable))
     where
       true-middle : (a : Bool) → (a || true) ≡ true
@@ -114,11 +114,11 @@ module _ (sheet : Sheet) where
 
   -- ---- when all records are done
 
-  module _ (n : ℕ) (none-behind : (j : ℕ) → n ≤ j → stepThreeEnds sheet j ≡ false) where
-    ended-all : (j : ℕ) → endedAt sheet n j ≡ stepThreeEnds sheet j
+  module _ (n : ℕ) (none-behind : (j : ℕ) → n ≤ j → stepThreeEndsAt sheet j ≡ false) where
+    ended-all : (j : ℕ) → endedAt sheet n j ≡ stepThreeEndsAt sheet j
     ended-all j = go (leb n j) refl
       where
-        go : (t : Bool) → leb n j ≡ t → endedAt sheet n j ≡ stepThreeEnds sheet j
+        go : (t : Bool) → leb n j ≡ t → endedAt sheet n j ≡ stepThreeEndsAt sheet j
         go true e = ended-behind n j (leb-true n j e) ∙ sym (none-behind j (leb-true n j e))
         go false e = ended-below n j (leb-false n j e)
 
@@ -139,7 +139,7 @@ set-two : (xs ys : List ℕ) (p s : ℕ) → set (set (xs ++ ys) (length xs + po
 set-two xs ys p s =
     ap (λ (l : List ℕ). set l (length xs + standingOffset) s) (set-behind xs ys portionGradeOffset p) ∙ set-behind xs (set ys portionGradeOffset p) standingOffset s
 
-pub one-recovered : (sheet : Sheet) (j designated : ℕ) (unit : SampleUnit) (flag : Bool) (xs rest : List ℕ) → designated ≡ designatedBefore sheet j
+pub one-recovered : (sheet : Sheet) (j designated : ℕ) (unit : SampleUnit) (flag : Bool) (xs rest : List ℕ) → designated ≡ designatedAt sheet j
     → (unit .recoverable ≡ false → flag ≡ false)
     → recoveredIn (xs ++ (resultBytes ungraded (resultIf sheet j unit flag) ++ rest)) (length xs) designated unit
     ≡ xs ++ (resultBytes ungraded (resultIf sheet j unit (unit .recoverable)) ++ rest)
@@ -162,7 +162,7 @@ in-phase (Designated designated previous) d l n h = absurd h
 in-phase (StepThree designated lower run) d l n h = h .0
 
 pub same-designated : (sheet : Sheet) (m : ℕ) (run : FinishedRun sheet m)
-    → (designatedBefore sheet (run .start) ≡ designatedBefore sheet m) × (designatedBefore sheet (suc (run .start)) ≡ designatedBefore sheet m)
+    → (designatedAt sheet (run .start) ≡ designatedAt sheet m) × (designatedAt sheet (suc (run .start)) ≡ designatedAt sheet m)
 same-designated sheet m run =
-    let third : designatedBefore sheet m ≡ run .designated = ap (λ (x : ℕ). designatedBefore sheet x) (run .ends-here) ∙ in-phase _ _ _ _ (run .third .in-step-three) in
+    let third : designatedAt sheet m ≡ run .designated = ap (λ (x : ℕ). designatedAt sheet x) (run .ends-here) ∙ in-phase _ _ _ _ (run .third .in-step-three) in
     (in-phase _ _ _ _ (run .first .in-step-three) ∙ sym third, in-phase _ _ _ _ (run .second .in-step-three) ∙ sym third)

@@ -8,8 +8,8 @@ use native.Mathlib.Numerals.{add-one}
 use native.Mathlib.Omega.{arith}
 use lib.ListN.{length}
 use Rattle.rules.specs.Words.{Table, tableOf}
-use Rattle.rules.specs.StepThree.{opening, graded, endsAt, next}
-use Rattle.rules.specs.Sheet.{before, gradedAt, stepThreeEnds}
+use Rattle.rules.specs.StepThree.{opening, graded, recordEndsStepThree, next}
+use Rattle.rules.specs.Sheet.{before, gradedAt, stepThreeEndsAt}
 use Rattle.rules.specs.declared.State.{State}
 use Rattle.rules.specs.declared.SampleUnit.{SampleUnit}
 use Rattle.sheet.specs.Layout.{planSize, planOf, markAt, sizeOf, entryOf, offset, entryAt, unitsIn, unitsBefore, sheetOf}
@@ -107,6 +107,6 @@ module _ (bytes : List ℕ) (records : ℕ) (table : Table) (position : Position
         }
 
 -- behind the last record nothing ends
-pub no-end : (bytes : List ℕ) (records : ℕ) → Facts bytes records → (i : ℕ) → records ≤ i → stepThreeEnds (sheetOf bytes records) i ≡ false
-unfolding stepThreeEnds endsAt sheetOf
-no-end bytes records f i h = ap (endsAt (tableOf (planOf bytes)) (before (sheetOf bytes records) i)) (past-entry bytes records f i h)
+pub no-end : (bytes : List ℕ) (records : ℕ) → Facts bytes records → (i : ℕ) → records ≤ i → stepThreeEndsAt (sheetOf bytes records) i ≡ false
+unfolding stepThreeEndsAt recordEndsStepThree sheetOf
+no-end bytes records f i h = ap (recordEndsStepThree (tableOf (planOf bytes)) (before (sheetOf bytes records) i)) (past-entry bytes records f i h)

@@ -14,9 +14,9 @@ use Rattle.cusum.proofs.Laws.{step-within}
 use Rattle.rules.specs.Conditions.{any, all, pick}
 use Rattle.rules.specs.Words.{hasPlan}
 use Rattle.rules.specs.Unit.{starting, admits, withinTolerance, allZero, classFails, classCusum, newCusums, unitFails, bestLower, defectGrade, qualifies}
-use Rattle.rules.specs.StepThree.{designatedIn, inForce, afterDesignated, endsStepThree, afterStepThree, phaseAfterUnit, unitEndsStepThree, unitStartsStepThree, unitRestarts, opening, graded, phaseAfter, endsAt, restarts, cusumsAfter, stateWith, next}
+use Rattle.rules.specs.StepThree.{designatedIn, inForce, afterDesignated, endsStepThree, afterStepThree, phaseAfterUnit, unitEndsStepThree, unitStartsStepThree, unitRestarts, opening, graded, phaseAfter, recordEndsStepThree, restarts, cusumsAfter, stateWith, next}
 use Rattle.rules.specs.Unit.{portionGradeOf}
-use Rattle.rules.specs.Sheet.{standingOf, before, stepThreeEnds, inFinishedRun, recovered, portionGrade, standing, portionGradeWith, worstBefore, codeGrade}
+use Rattle.rules.specs.Sheet.{standingOf, before, stepThreeEndsAt, inFinishedRun, recovered, portionGrade, standing, portionGradeWith, worstBefore, codeGrade}
 use Rattle.sheet.specs.Layout.{planOf, markOf, markAt, sizeOf, sampleUnitAt, entryOf, offset, entryAt, unitsIn, unitsBefore, sheetOf}
 use Rattle.sheet.specs.Refusals.{refusedIf, anyClass, anyNumbers, noPlanRecord, tooLarge, startAboveLimit, smaller, anySmaller, tableRefusal, planRefusal, countTooLarge, unitRefusal, refusalBy, refusalAt, recordRefusal, checkFrom, verdict}
 use Rattle.sheet.specs.declared.Verdict.the-variants.{Accepted}
@@ -50,8 +50,8 @@ unfolding
     rawValue aboveLimit cusumOf fails newCusum
     hasPlan any all starting admits withinTolerance allZero classFails classCusum newCusums unitFails bestLower defectGrade qualifies
     designatedIn inForce pick afterDesignated endsStepThree afterStepThree phaseAfterUnit unitEndsStepThree unitStartsStepThree
-    unitRestarts opening graded phaseAfter endsAt restarts cusumsAfter stateWith next
-    standingOf portionGradeOf before stepThreeEnds inFinishedRun recovered portionGrade standing portionGradeWith worstBefore codeGrade
+    unitRestarts opening graded phaseAfter recordEndsStepThree restarts cusumsAfter stateWith next
+    standingOf portionGradeOf before stepThreeEndsAt inFinishedRun recovered portionGrade standing portionGradeWith worstBefore codeGrade
     planOf markOf markAt sizeOf sampleUnitAt entryOf offset entryAt unitsIn unitsBefore sheetOf
     refusedIf anyClass anyNumbers noPlanRecord tooLarge startAboveLimit smaller anySmaller tableRefusal planRefusal countTooLarge unitRefusal refusalBy
     refusalAt recordRefusal checkFrom verdict

@@ -11,8 +11,8 @@ use native.Mathlib.Omega.{arith}
 use lib.ListN.{length, drop, length-append, length-drop}
 use lib.Seq.{sets}
 use Rattle.rules.specs.Words.{Table}
-use Rattle.rules.specs.StepThree.{designatedIn, graded, unitEndsStepThree, endsAt}
-use Rattle.rules.specs.Sheet.{Sheet, before, designatedBefore, stepThreeEnds}
+use Rattle.rules.specs.StepThree.{designatedIn, graded, unitEndsStepThree, recordEndsStepThree}
+use Rattle.rules.specs.Sheet.{Sheet, before, designatedAt, stepThreeEndsAt}
 use Rattle.rules.specs.declared.State.{State}
 use Rattle.rules.specs.declared.Grading.{Grading}
 use Rattle.rules.specs.declared.SampleUnit.{SampleUnit}
@@ -114,7 +114,7 @@ nothing-yet bytes records old = refl
 -- ---- a record that writes nothing
 
 module _ (bytes : List ℕ) (records : ℕ) (old : List ℕ) (i : ℕ) where
-  pub silent : unitsIn (mark bytes i) ≡ 0 → stepThreeEnds (sheetOf bytes records) i ≡ false
+  pub silent : unitsIn (mark bytes i) ≡ 0 → stepThreeEndsAt (sheetOf bytes records) i ≡ false
       → bytesSoFar (sheetOf bytes records) (suc i) i (entryAt bytes i) ≡ [] → writtenSoFar bytes records old i ≡ writtenSoFar bytes records old (i + 1)
   unfolding writtenSoFar recordsSoFar unitsBefore sheetOf
   silent u stays nothing =
@@ -131,8 +131,8 @@ module _ (bytes : List ℕ) (records : ℕ) (old : List ℕ) (i : ℕ) where
   no-unit-mark at BreakMark entry e h = refl
   no-unit-mark at NoMark entry e h = refl
 
-  no-unit-ends : (state : State) (table : Table) (entry : Entry) → NoUnit entry → endsAt table state entry ≡ false
-  unfolding endsAt NoUnit
+  no-unit-ends : (state : State) (table : Table) (entry : Entry) → NoUnit entry → recordEndsStepThree table state entry ≡ false
+  unfolding recordEndsStepThree NoUnit
   no-unit-ends state table (UnitRecord unit) h = absurd h
   no-unit-ends state table (Redesignation new) h = refl
   no-unit-ends state table Break h = refl
@@ -145,7 +145,7 @@ module _ (bytes : List ℕ) (records : ℕ) (old : List ℕ) (i : ℕ) where
 
   -- a redesignation or a break
   pub no-unit : (entry : Entry) → entryAt bytes i ≡ entry → NoUnit entry → writtenSoFar bytes records old i ≡ writtenSoFar bytes records old (i + 1)
-  unfolding entryAt stepThreeEnds sheetOf
+  unfolding entryAt stepThreeEndsAt sheetOf
   no-unit entry e h =
       let sheet = sheetOf bytes records in
       silent (no-unit-mark (offset bytes i) (mark bytes i) entry e h)
@@ -154,9 +154,9 @@ module _ (bytes : List ℕ) (records : ℕ) (old : List ℕ) (i : ℕ) where
 
 -- ---- the finished run recovered
 
-module _ (bytes : List ℕ) (records k : ℕ) (ends : stepThreeEnds (sheetOf bytes records) (suc (suc k)) ≡ true)
+module _ (bytes : List ℕ) (records k : ℕ) (ends : stepThreeEndsAt (sheetOf bytes records) (suc (suc k)) ≡ true)
     (m0 : mark bytes k ≡ UnitMark) (m1 : mark bytes (suc k) ≡ UnitMark) (designated : ℕ)
-    (d0 : designated ≡ designatedBefore (sheetOf bytes records) k) (d1 : designated ≡ designatedBefore (sheetOf bytes records) (suc k)) where
+    (d0 : designated ≡ designatedAt (sheetOf bytes records) k) (d1 : designated ≡ designatedAt (sheetOf bytes records) (suc k)) where
   abbrev sheet : Sheet
   sheet = sheetOf bytes records
 
@@ -224,15 +224,15 @@ module _ (bytes : List ℕ) (records : ℕ) (table : Table) (position : Position
     room-for-unit size room = omega (arith, units-next)
 
     -- step 3 ends at it
-    pub ends-is : (grading : Grading) → grading ≡ graded table (position .state) unit → unitEndsStepThree (position .state .phase) grading ≡ stepThreeEnds (sheetOf bytes records) i
-    unfolding stepThreeEnds endsAt sheetOf
+    pub ends-is : (grading : Grading) → grading ≡ graded table (position .state) unit → unitEndsStepThree (position .state .phase) grading ≡ stepThreeEndsAt (sheetOf bytes records) i
+    unfolding stepThreeEndsAt recordEndsStepThree sheetOf
     ends-is grading e =
         ap (unitEndsStepThree (position .state .phase)) e
         ∙ ap₂ (λ (t : Table) (s : State). unitEndsStepThree (s .phase) (graded t s unit)) (walk .same-table) (state-is bytes records table position walk)
-        ∙ sym (ap (endsAt (sheetOf bytes records .table) (before (sheetOf bytes records) i)) is-unit)
+        ∙ sym (ap (recordEndsStepThree (sheetOf bytes records .table) (before (sheetOf bytes records) i)) is-unit)
 
     -- where step 3 ends at it, the finished run stands right before it
-    module _ (ends : stepThreeEnds (sheetOf bytes records) i ≡ true) where
+    module _ (ends : stepThreeEndsAt (sheetOf bytes records) i ≡ true) where
       pub run : FinishedRun (sheetOf bytes records) i
       run = finished-run (sheetOf bytes records) i ends
 
@@ -266,7 +266,7 @@ module _ (bytes : List ℕ) (records : ℕ) (table : Table) (position : Position
 
     module _ (old results : List ℕ) (so-far : results ≡ writtenSoFar bytes records old i) (same-length : length old ≡ length results)
         (room : resultSize * unitsBefore bytes (i + 1) ≤ length results) (result : ResultRecord)
-        (is-result : result ≡ resultIf (sheetOf bytes records) i unit (unit .recoverable && stepThreeEnds (sheetOf bytes records) i)) where
+        (is-result : result ≡ resultIf (sheetOf bytes records) i unit (unit .recoverable && stepThreeEndsAt (sheetOf bytes records) i)) where
       abbrev whole : Sheet
       whole = sheetOf bytes records
 
@@ -300,18 +300,18 @@ module _ (bytes : List ℕ) (records : ℕ) (table : Table) (position : Position
           ∙ sym (ap (λ (n : ℕ). recordsSoFar whole n n ++ rest) (add-one i))
 
       -- where step 3 does not end that is all
-      pub plain : stepThreeEnds whole i ≡ false → recordsSoFar whole i i ++ (bytesSoFar whole (suc i) i (UnitRecord unit) ++ rest) ≡ writtenSoFar bytes records old (i + 1)
+      pub plain : stepThreeEndsAt whole i ≡ false → recordsSoFar whole i i ++ (bytesSoFar whole (suc i) i (UnitRecord unit) ++ rest) ≡ writtenSoFar bytes records old (i + 1)
       unfolding writtenSoFar recordsSoFar sheetOf
       plain stays =
           ap (λ (l : List ℕ). l ++ (bytesSoFar whole (suc i) i (UnitRecord unit) ++ rest)) (records-stay whole i stays)
           ∙ finish
 
       -- and the two before it are recovered
-      pub ended : (ends : stepThreeEnds whole i ≡ true) (designated : ℕ) → designated ≡ designatedIn (position .state .phase)
+      pub ended : (ends : stepThreeEndsAt whole i ≡ true) (designated : ℕ) → designated ≡ designatedIn (position .state .phase)
           → twoRecovered bytes position designated (recordsSoFar whole i i ++ (bytesSoFar whole (suc i) i (UnitRecord unit) ++ rest)) ≡ writtenSoFar bytes records old (i + 1)
       unfolding twoRecovered
       ended ends designated d =
-          let here : designated ≡ designatedBefore whole i = d ∙ ap (λ (x : State). designatedIn (x .phase)) (state-is bytes records table position walk) in
+          let here : designated ≡ designatedAt whole i = d ∙ ap (λ (x : State). designatedIn (x .phase)) (state-is bytes records table position walk) in
           let same = same-designated whole i (run ends) in
           let tail = bytesSoFar whole (suc i) i (UnitRecord unit) ++ rest in
           let e : resultSize * position .units - 2 * resultSize ≡ resultSize * unitsBefore bytes (run ends .start) = omega (arith, units-is ends) in
@@ -321,7 +321,7 @@ module _ (bytes : List ℕ) (records : ℕ) (table : Table) (position : Position
           rw (e, f, o, q)
           (ap (λ (n : ℕ). recoveredIn (recoveredIn (recordsSoFar whole n n ++ tail) (resultSize * unitsBefore bytes (run ends .start)) designated (sampleUnitAt bytes (offset bytes (run ends .start))))
           (resultSize * unitsBefore bytes (suc (run ends .start))) designated (sampleUnitAt bytes (offset bytes (suc (run ends .start))))) (run ends .ends-here)
-          ∙ run-recovered bytes records (run ends .start) (subst (λ (n : ℕ). stepThreeEnds whole n ≡ true) (run ends .ends-here) ends) (run-mark-first ends) (run-mark-second ends) designated
+          ∙ run-recovered bytes records (run ends .start) (subst (λ (n : ℕ). stepThreeEndsAt whole n ≡ true) (run ends .ends-here) ends) (run-mark-first ends) (run-mark-second ends) designated
           (here ∙ sym (same .0)) (here ∙ sym (same .1)) tail
           ∙ sym (ap (λ (n : ℕ). recordsSoFar whole (suc n) n ++ tail) (run ends .ends-here))
           ∙ finish)

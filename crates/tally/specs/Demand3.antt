@@ -61,13 +61,14 @@ numbersInForce bytes i class = numbersOf (sheetIn bytes .table) (inForceAt (shee
 
 -- ---- the first half
 
--- the latest anchor of a class for the unit that is record i: L (true) or S, with n records from record `from` to this unit
+-- the latest anchor of a class for the unit that is record i, right before record `from`: L at a failure, else S. So many records are
+-- since it, this unit's included
 pub record AnchorAt (bytes : List ℕ) (i class : ℕ) : Type 0 where
   pub from : ℕ
-  pub n : ℕ
-  pub failed : Bool
-  pub reaches : from + n ≡ suc i
-  pub lies : Anchor (sheetIn bytes) class i from failed
+  pub records : ℕ
+  pub at-failure : Bool
+  pub to-this-unit : from + records ≡ suc i
+  pub is-anchor : Anchor (sheetIn bytes) class i from at-failure
   pub latest : Latest (sheetIn bytes) class i from
 
 -- there is such an anchor, and with any such anchor the recorded CuSum is the largest of zero, the anchor plus the sum of defects less
@@ -76,7 +77,9 @@ pub record FirstHalf (bytes results : List ℕ) (i class : ℕ) : Type 0 where
   pub an-anchor : AnchorAt bytes i class
   pub largest-of : (anchor : AnchorAt bytes i class) →
       pos (recordedCusum bytes results i class)
-      ≡ largestForm (numbersInForce bytes i class) (anchorValue (numbersInForce bytes i class) (anchor .failed)) (countsFrom (sheetIn bytes) class (anchor .from) (anchor .n))
+      ≡ largestForm (numbersInForce bytes i class)
+      (anchorValue (numbersInForce bytes i class) (anchor .at-failure))
+      (countsFrom (sheetIn bytes) class (anchor .from) (anchor .records))
 
 -- for every accepted sheet, whatever it lists: at any unit that has a plan in force, for every class
 abbrev pub Demand3First : Type 0

@@ -13,7 +13,7 @@ use Rattle.cusum.specs.declared.Stepped.{Stepped}
 use Rattle.cusum.specs.Step.{tenthsOf, startOf, rawValue, stepOf}
 use Rattle.encoding.specs.Bytes.{high, low}
 use Rattle.rules.specs.Words.{Table, zeroCusum}
-use Rattle.rules.specs.Sheet.{Sheet, inForceAt, gradedAt, stepThreeEnds}
+use Rattle.rules.specs.Sheet.{Sheet, inForceAt, gradedAt, stepThreeEndsAt}
 use Rattle.rules.specs.declared.SampleUnit.{SampleUnit}
 use Rattle.rules.specs.declared.Grading.{Grading}
 use Rattle.rules.specs.declared.Entry.the-variants.{UnitRecord, Break}
@@ -176,7 +176,7 @@ pub record WorkedCases : Type 0 where
       (map (inForceAt (minorSheet (p8Table c) p8Counts)) (0 ∷ 1 ∷ 2 ∷ 3 ∷ 4 ∷ 5 ∷ 6 ∷ 7 ∷ 8 ∷ []) ≡ 0 ∷ 0 ∷ 0 ∷ 1 ∷ 1 ∷ 1 ∷ 1 ∷ 1 ∷ 0 ∷ [])
       × (map (λ i. minorGraded (p8Table c) p8Counts i .cusums) p8Units ≡ zeros ∷ zeros ∷ zeros ∷ zeros ∷ zeros ∷ [])
       × (map (λ i. minorGraded (p8Table c) p8Counts i .qualifies) p8Units ≡ false ∷ false ∷ true ∷ true ∷ true ∷ [])
-      × (map (stepThreeEnds (minorSheet (p8Table c) p8Counts)) p8Units ≡ false ∷ false ∷ false ∷ false ∷ true ∷ [])
+      × (map (stepThreeEndsAt (minorSheet (p8Table c) p8Counts)) p8Units ≡ false ∷ false ∷ false ∷ false ∷ true ∷ [])
   -- "P9: count 2,001 is refused with 8, 2,000 is not." The refusal is at the unit's mark, for each of its counts and every buffer
   pub p9 : (buffer : List ℕ) →
       (outcome (oneUnit 2001 0 0 0) buffer ≡ refusal 8 75 buffer)

@@ -8,7 +8,7 @@ use lib.ListN.{length, drop, set}
 use Rattle.rules.specs.Words.{worse}
 use Rattle.rules.specs.Conditions.{pick}
 use Rattle.rules.specs.Unit.{portionGradeOf}
-use Rattle.rules.specs.Sheet.{Sheet, before, designatedBefore, inForceAt, gradedAt, stepThreeEnds, standingOf}
+use Rattle.rules.specs.Sheet.{Sheet, before, designatedAt, inForceAt, gradedAt, stepThreeEndsAt, standingOf}
 use Rattle.rules.specs.declared.SampleUnit.{SampleUnit}
 use Rattle.rules.specs.declared.Entry.{Entry}
 use Rattle.rules.specs.declared.Entry.the-variants.{UnitRecord, Redesignation, Break}
@@ -24,7 +24,7 @@ unfoldable pub resultIf : Sheet → ℕ → SampleUnit → Bool → ResultRecord
 resultIf sheet i unit recovered =
     record {
       code = unit .code;
-      portion = portionGradeOf (designatedBefore sheet i) (gradedAt sheet i unit .grade) (unit .prerequisite) recovered;
+      portion = portionGradeOf (designatedAt sheet i) (gradedAt sheet i unit .grade) (unit .prerequisite) recovered;
       plan = inForceAt sheet i;
       standing = standingOf (before sheet i .phase) (gradedAt sheet i unit .fails) recovered;
       cusums = gradedAt sheet i unit .cusums;
@@ -33,7 +33,7 @@ resultIf sheet i unit recovered =
 module _ (sheet : Sheet) (m : ℕ) where
   -- step 3 ends at record j, and that is among the first m
   unfoldable pub endedAt : ℕ → Bool
-  endedAt j = ltb j m && stepThreeEnds sheet j
+  endedAt j = ltb j m && stepThreeEndsAt sheet j
 
   -- recovered by then
   unfoldable pub recoveredSoFar : ℕ → SampleUnit → Bool
