@@ -99,6 +99,18 @@ fn note(counts: &mut Counts, sheet: &[u8], room: usize, answer: Answer, graded: 
         let [recovered, other]: &mut [bool; 2] = codes.entry(row.unit.code).or_default();
         *(if row.standing == RECOVERED { recovered } else { other }) = true;
     }
+    // The library looks for a code's next record eight at a time: it must be found in each place.
+    let mut last = std::collections::BTreeMap::new();
+    let mut apart = [0; 10];
+    for (unit, row) in rows.iter().enumerate() {
+        if let Some(before) = last.insert(row.unit.code, unit) {
+            apart[(unit - before).min(9)] += 1;
+        }
+    }
+    for (units, times) in apart.into_iter().enumerate().skip(1) {
+        let more = if units == 9 { " or more" } else { "" };
+        add(&format!("code met again {units}{more} units on"), times);
+    }
     let with = |wanted: [bool; 2]| codes.values().filter(|has| **has == wanted).count();
     add("code of a recovered and an unrecovered unit", with([true, true]));
     add("code of recovered units only", with([true, false]));
