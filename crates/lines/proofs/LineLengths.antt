@@ -6,7 +6,7 @@ use mathlib.Core.List.{List, [], _∷_, map}
 use native.Mathlib.Omega.{arith}
 use lib.ListN.{length, length-append}
 use Rattle.encoding.specs.Bytes.{byte}
-use Rattle.rules.specs.Words.{classes}
+use Rattle.units.specs.Words.{classes}
 use Rattle.results.specs.Record.{resultSize, codeOffset, cusumsOffset, codeIn, cusumIn}
 use Rattle.lines.specs.Lines.{decimal, oneDecimal, lineWith, lineOf, lineSize}
 use Rattle.lines.proofs.Decimals.{length-decimal, length-tenths}

@@ -5,7 +5,7 @@ use mathlib.Core.Bool.{cond}
 use mathlib.Core.List.{List, [], _∷_, _++_, map}
 use lib.Dec.{eqb, ltb}
 use lib.ListN.{length, getD, replicate}
-use Rattle.rules.specs.Words.{classes}
+use Rattle.units.specs.Words.{classes}
 use Rattle.sheet.specs.Refusals.{mostUnits}
 use Rattle.results.specs.Record.{resultSize, codeIn, portionGradeIn, codeGradeIn, planGradeIn, standingIn, cusumIn}
 use Rattle.tally.specs.declared.Answer.{Answer}

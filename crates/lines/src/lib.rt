@@ -5,7 +5,7 @@ ghost use Prim.Native.Nat.{_+_, _*_, _≤_};
 ghost use mathlib.Core.List.{[], _∷_, map};
 ghost use lib.ListN.{length};
 ghost use Rattle.encoding.specs.Bytes.{byte, number};
-ghost use Rattle.rules.specs.Words.{classes};
+ghost use Rattle.units.specs.Words.{classes};
 ghost use Rattle.results.specs.Record.{resultSize, portionGradeIn, codeGradeIn, planGradeIn, standingIn, cusumIn};
 ghost use Rattle.lines.specs.Lines.{space, decimal, oneDecimal, gradeLetter, standingLetter, lineWith, lineOf, linesOf, refusedLine, printed, lineSize, textSize};
 ghost use Rattle.lines.specs.Wrote.{Wrote};

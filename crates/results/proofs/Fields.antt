@@ -8,7 +8,7 @@ use native.Mathlib.Omega.{arith}
 use lib.ListN.{length}
 use lib.Seq.{getD-append-add}
 use Rattle.encoding.specs.Bytes.{byte, number, high, low}
-use Rattle.rules.specs.Words.{tenthsIn}
+use Rattle.units.specs.Words.{tenthsIn}
 use Rattle.results.specs.declared.ResultRecord.{ResultRecord}
 use Rattle.results.specs.Record.{resultSize, codeOffset, portionGradeOffset, codeGradeOffset, planGradeOffset, standingOffset, cusumsOffset, cusumBytes, resultBytes}
 

@@ -8,7 +8,7 @@ use native.Mathlib.Nat.{zero-add, suc-add}
 use native.Mathlib.Omega.{arith}
 use lib.Dec.{eqb}
 use lib.ListN.{length, set, length-set}
-use Rattle.rules.specs.Words.{substandard}
+use Rattle.units.specs.Words.{substandard}
 use Rattle.results.specs.declared.ResultRecord.{ResultRecord}
 use Rattle.results.specs.Record.{codeGradeOffset, codeIn, portionGradeIn, resultBytes}
 use Rattle.results.specs.Codes.{portionGradeIf, worstIn, withCodeGrades, codesGraded}

@@ -9,8 +9,8 @@ use native.Mathlib.Omega.{arith}
 use borrow.Author.Tests.{ltb-true, ltb-false, eqb-true, eqb-false, eq-eqb, ne-eqb}
 use lib.Dec.{ltb, eqb}
 use lib.ListN.{length}
-use Rattle.rules.specs.Words.{substandard}
-use Rattle.rules.proofs.Tests.{or-false}
+use Rattle.units.specs.Words.{substandard}
+use Rattle.units.proofs.Tests.{or-false}
 use Rattle.results.specs.Record.{resultSize, codeIn, codeGradeIn}
 use Rattle.results.specs.Codes.{ungraded, worstIn, withCodeGrades, codesGraded, Ungraded}
 use Rattle.results.specs.OneCode.{FirstWithCode, gradeWith}

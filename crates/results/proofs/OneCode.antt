@@ -7,7 +7,7 @@ use native.Mathlib.Numerals.{add-one}
 use native.Mathlib.Omega.{arith}
 use borrow.Author.Tests.{eq-eqb, ne-eqb}
 use lib.ListN.{length, set}
-use Rattle.rules.specs.Words.{worse}
+use Rattle.units.specs.Words.{worse}
 use Rattle.results.specs.Record.{resultSize, codeGradeOffset, codeIn, portionGradeIn, codeGradeIn}
 use Rattle.results.specs.Codes.{portionGradeIf, worstIn, withCodeGrades}
 use Rattle.results.specs.OneCode.{FirstWithCode, NextWith, gradeWith}

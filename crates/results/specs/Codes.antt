@@ -5,7 +5,7 @@ use mathlib.Core.Bool.{cond}
 use mathlib.Core.List.{List}
 use lib.Dec.{eqb}
 use lib.ListN.{set}
-use Rattle.rules.specs.Words.{worse, substandard}
+use Rattle.units.specs.Words.{worse, substandard}
 use Rattle.results.specs.Record.{resultSize, codeGradeOffset, codeIn, portionGradeIn, codeGradeIn}
 
 -- stands for the code grade in a record whose code is not graded yet; no grade

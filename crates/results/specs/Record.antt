@@ -4,7 +4,7 @@ use Prim.Native.Nat.{ℕ, _+_, _*_}
 use mathlib.Core.List.{List, [], _∷_}
 use Rattle.cusum.specs.declared.Cusum.{Cusum}
 use Rattle.encoding.specs.Bytes.{byte, number, high, low}
-use Rattle.rules.specs.Words.{classes, tenthsIn}
+use Rattle.units.specs.Words.{classes, tenthsIn}
 use Rattle.results.specs.declared.ResultRecord.{ResultRecord}
 
 -- ---- size of the record, and offsets of its fields

@@ -6,9 +6,9 @@ ghost use lib.Seq.{sets};
 ghost use Rattle.results.specs.Record.{resultSize, resultBytes};
 ghost use Rattle.results.specs.Codes.{ungraded, worstIn, withCodeGrades, codesGraded, Ungraded};
 ghost use Rattle.results.specs.OneCode.{FirstWithCode, NextWith, gradeWith};
-use rules::CLASSES;
-use rules::Cusums;
-use rules::worse_of;
+use units::CLASSES;
+use units::Cusums;
+use units::worse_of;
 
 // Bytes of a result record, and offsets of its fields.
 pub const RESULT_SIZE: usize = CUSUMS_OFFSET + 2 * CLASSES;

@@ -10,10 +10,10 @@ use native.Mathlib.Omega.{arith}
 use lib.ListN.{length}
 use lib.IntN.{pos}
 use Rattle.cusum.specs.LargestForm.{largestForm}
-use Rattle.rules.specs.declared.SampleUnit.{SampleUnit}
+use Rattle.units.specs.declared.SampleUnit.{SampleUnit}
 use Rattle.rules.specs.declared.Entry.the-variants.{UnitRecord}
-use Rattle.rules.specs.Words.{hasPlan, classes, numbersOf, countsOf}
-use Rattle.rules.specs.Unit.{classCusum}
+use Rattle.units.specs.Words.{hasPlan, classes, numbersOf, countsOf}
+use Rattle.units.specs.Unit.{classCusum}
 use Rattle.rules.specs.Sheet.{Sheet, before, inForceAt}
 use Rattle.rules.specs.Anchor.{anchorValue, countAt, restartAt, failureAt, countsFrom, Anchor, opening, restart, failure, Latest}
 use Rattle.rules.proofs.LargestForm.{Trail, restarted, failedHere, trailWith, trailBefore, trailAt, largest-form}

@@ -9,7 +9,7 @@ use lib.Dec.{ltb, leb, eqb}
 use Rattle.cusum.specs.declared.Cusum.{Cusum}
 use Rattle.cusum.specs.Step.{newCusum}
 use Rattle.cusum.proofs.Laws.{new-cusum-le-limit}
-use Rattle.rules.specs.declared.SampleUnit.{SampleUnit}
+use Rattle.units.specs.declared.SampleUnit.{SampleUnit}
 use Rattle.rules.specs.declared.Entry.{Entry}
 use Rattle.rules.specs.declared.Entry.the-variants.{UnitRecord, Redesignation, Break}
 use Rattle.rules.specs.declared.Previous.{Previous}
@@ -17,11 +17,11 @@ use Rattle.rules.specs.declared.Previous.the-variants.{NoFailure, Failur
 use Rattle.rules.specs.declared.Phase.{Phase}
 use Rattle.rules.specs.declared.Phase.the-variants.{Designated, StepThree}
 use Rattle.rules.specs.declared.State.{State}
-use Rattle.rules.specs.Words.{substandard, hasPlan, Table, rowOf, numbersOf, countsOf, countIn, tenthsIn}
-use Rattle.rules.specs.Unit.{classCusum, unitFails, admits, bestLower, defectGrade}
-use Rattle.rules.specs.Conditions.{pick}
+use Rattle.units.specs.Words.{substandard, hasPlan, Table, rowOf, numbersOf, countsOf, countIn, tenthsIn}
+use Rattle.units.specs.Unit.{classCusum, unitFails, admits, bestLower, defectGrade}
+use Rattle.units.specs.Conditions.{pick}
 use Rattle.rules.specs.StepThree.{designatedIn, inForce, afterDesignated, endsStepThree, afterStepThree, phaseAfterUnit, phaseAfterRedesignation, phaseAfterBreak, opening, graded, phaseAfter, stateWith, next}
-use Rattle.rules.specs.Unit.{portionGradeOf}
+use Rattle.units.specs.Unit.{portionGradeOf}
 use Rattle.rules.specs.Sheet.{Sheet, before, designatedAt, inForceAt, gradedAt, recovered, portionGrade, portionGradeWith, worstBefore, codeGrade}
 
 -- a CuSum is at most its L

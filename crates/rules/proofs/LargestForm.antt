@@ -14,8 +14,8 @@ use Rattle.cusum.specs.Step.{fails, newCusum}
 use Rattle.cusum.specs.LargestForm.{largestForm}
 use Rattle.cusum.proofs.Laws.{failed-at}
 use Rattle.cusum.proofs.Runs.{after, Meets, after-snoc, meets-snoc, run-largest}
-use Rattle.rules.specs.declared.SampleUnit.{SampleUnit}
-use Rattle.rules.specs.declared.Grading.{Grading}
+use Rattle.units.specs.declared.SampleUnit.{SampleUnit}
+use Rattle.units.specs.declared.Grading.{Grading}
 use Rattle.rules.specs.declared.Entry.{Entry}
 use Rattle.rules.specs.declared.Entry.the-variants.{UnitRecord, Redesignation, Break}
 use Rattle.rules.specs.declared.Previous.{Previous}
@@ -23,9 +23,9 @@ use Rattle.rules.specs.declared.Previous.the-variants.{NoFailure, Failur
 use Rattle.rules.specs.declared.Phase.{Phase}
 use Rattle.rules.specs.declared.Phase.the-variants.{Designated, StepThree}
 use Rattle.rules.specs.declared.State.{State}
-use Rattle.rules.specs.Words.{hasPlan, classes, Table, rowOf, numbersOf, countsOf, countIn, tenthsIn}
-use Rattle.rules.specs.Unit.{starting, classFails, classCusum, newCusums}
-use Rattle.rules.specs.Conditions.{pick}
+use Rattle.units.specs.Words.{hasPlan, classes, Table, rowOf, numbersOf, countsOf, countIn, tenthsIn}
+use Rattle.units.specs.Unit.{starting, classFails, classCusum, newCusums}
+use Rattle.units.specs.Conditions.{pick}
 use Rattle.rules.specs.StepThree.{inForce, afterDesignated, endsStepThree, afterStepThree, phaseAfterUnit, phaseAfterRedesignation, unitEndsStepThree, unitStartsStepThree, unitRestarts, redesignationRestarts, opening, graded, phaseAfter, restarts, cusumsAfter, stateWith, next}
 use Rattle.rules.specs.Sheet.{Sheet, before, inForceAt}
 use Rattle.rules.specs.Anchor.{failsAt, countAt, anchorValue}

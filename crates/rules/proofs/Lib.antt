@@ -1,6 +1,3 @@
-pub mod Tests
-pub mod Lists
-pub mod Monotone
 pub mod LargestForm
 pub mod Anchors
 pub mod SideBySide

@@ -7,8 +7,8 @@ use mathlib.Core.List.{List}
 use native.Mathlib.Omega.{arith}
 use lib.Dec.{eqb}
 use Rattle.cusum.specs.declared.Cusum.{Cusum}
-use Rattle.rules.specs.declared.SampleUnit.{SampleUnit}
-use Rattle.rules.specs.declared.Grading.{Grading}
+use Rattle.units.specs.declared.SampleUnit.{SampleUnit}
+use Rattle.units.specs.declared.Grading.{Grading}
 use Rattle.rules.specs.declared.Entry.{Entry}
 use Rattle.rules.specs.declared.Entry.the-variants.{UnitRecord, Redesignation, Break}
 use Rattle.rules.specs.declared.Previous.{Previous}
@@ -16,16 +16,16 @@ use Rattle.rules.specs.declared.Previous.the-variants.{NoFailure, Failur
 use Rattle.rules.specs.declared.Phase.{Phase}
 use Rattle.rules.specs.declared.Phase.the-variants.{Designated, StepThree}
 use Rattle.rules.specs.declared.State.{State}
-use Rattle.rules.specs.Words.{substandard, Table, rowOf, countsOf}
-use Rattle.rules.specs.Unit.{starting, classCusum, gradingOf}
-use Rattle.rules.specs.Conditions.{pick}
+use Rattle.units.specs.Words.{substandard, Table, rowOf, countsOf}
+use Rattle.units.specs.Unit.{starting, classCusum, gradingOf}
+use Rattle.units.specs.Conditions.{pick}
 use Rattle.rules.specs.StepThree.{designatedIn, inForce, afterDesignated, phaseAfterUnit, phaseAfterBreak, unitEndsStepThree, unitStartsStepThree, unitRestarts, opening, graded, phaseAfter, recordEndsStepThree, restarts, cusumsAfter, stateWith, next}
-use Rattle.rules.specs.Unit.{portionGradeOf}
+use Rattle.units.specs.Unit.{portionGradeOf}
 use Rattle.rules.specs.Sheet.{Sheet, before, inForceAt, stepThreeEndsAt, inFinishedRun, recovered, portionGrade, portionGradeWith, worstBefore, codeGrade}
 use Rattle.rules.specs.Anchor.{failsAt, failureAt}
 use Rattle.rules.specs.TwoInARow.{failsDesignated, failedUnit, failedBefore, secondInARow}
-use Rattle.rules.proofs.Tests.{and-false}
-use Rattle.rules.proofs.Monotone.{Fewer, counts-fewer, NoHigher, same-no-higher, class-cusum-mono, cusums-mono, class-fails-mono, unit-fails-mono, defect-grade-mono}
+use Rattle.units.proofs.Tests.{and-false}
+use Rattle.units.proofs.Monotone.{Fewer, counts-fewer, NoHigher, same-no-higher, class-cusum-mono, cusums-mono, class-fails-mono, unit-fails-mono, defect-grade-mono}
 
 -- ---- what is compared
 

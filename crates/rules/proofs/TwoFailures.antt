@@ -6,13 +6,13 @@ use mathlib.Core.Bool.{Bool, true, false, _&&_, false≢true}
 use mathlib.Core.List.{List}
 use lib.Dec.{ltb}
 use Rattle.cusum.specs.declared.Cusum.{Cusum}
-use Rattle.rules.specs.Conditions.{pick}
-use Rattle.rules.specs.Words.{worse, Table, countsOf}
-use Rattle.rules.specs.Unit.{unitFails}
+use Rattle.units.specs.Conditions.{pick}
+use Rattle.units.specs.Words.{worse, Table, countsOf}
+use Rattle.units.specs.Unit.{unitFails}
 use Rattle.rules.specs.StepThree.{inForce, designatedIn, afterDesignated, afterStepThree, phaseAfterUnit, phaseAfterRedesignation, phaseAfterBreak, unitStartsStepThree, opening, graded, phaseAfter, stateWith, next}
 use Rattle.rules.specs.Sheet.{Sheet, before, designatedAt, gradedAt}
 use Rattle.rules.specs.TwoInARow.{failsDesignated, failedUnit, failedBefore, secondInARow}
-use Rattle.rules.specs.declared.SampleUnit.{SampleUnit}
+use Rattle.units.specs.declared.SampleUnit.{SampleUnit}
 use Rattle.rules.specs.declared.Entry.{Entry}
 use Rattle.rules.specs.declared.Entry.the-variants.{UnitRecord, Redesignation, Break}
 use Rattle.rules.specs.declared.Previous.{Previous}

@@ -4,8 +4,8 @@ use mathlib.Core.Path.{_≡_}
 use mathlib.Core.Bool.{Bool, true, false}
 use mathlib.Core.List.{List, [], _∷_, _++_}
 use Rattle.cusum.specs.declared.PlanNumbers.{PlanNumbers}
-use Rattle.rules.specs.Words.{Table, countsOf, countIn}
-use Rattle.rules.specs.Unit.{classFails}
+use Rattle.units.specs.Words.{Table, countsOf, countIn}
+use Rattle.units.specs.Unit.{classFails}
 use Rattle.rules.specs.StepThree.{inForce, restarts}
 use Rattle.rules.specs.Sheet.{Sheet, before}
 use Rattle.rules.specs.declared.Entry.{Entry}

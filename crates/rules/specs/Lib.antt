@@ -1,6 +1,3 @@
-pub mod Conditions
-pub mod Words
-pub mod Unit
 pub mod StepThree
 pub mod Sheet
 pub mod Anchor

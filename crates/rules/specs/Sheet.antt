@@ -2,11 +2,11 @@
 use Prim.Native.Nat.{ℕ, zero, suc, _+_}
 use mathlib.Core.Bool.{Bool, true, false, cond, _&&_, _||_}
 use lib.Dec.{eqb}
-use Rattle.rules.specs.Words.{worse, Table}
-use Rattle.rules.specs.Unit.{portionGradeOf}
+use Rattle.units.specs.Words.{worse, Table}
+use Rattle.units.specs.Unit.{portionGradeOf}
 use Rattle.rules.specs.StepThree.{designatedIn, inForce, opening, graded, recordEndsStepThree, next}
-use Rattle.rules.specs.declared.SampleUnit.{SampleUnit}
-use Rattle.rules.specs.declared.Grading.{Grading}
+use Rattle.units.specs.declared.SampleUnit.{SampleUnit}
+use Rattle.units.specs.declared.Grading.{Grading}
 use Rattle.rules.specs.declared.Entry.{Entry}
 use Rattle.rules.specs.declared.Entry.the-variants.{UnitRecord, Redesignation, Break}
 use Rattle.rules.specs.declared.Phase.{Phase}

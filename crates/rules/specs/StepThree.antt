@@ -4,11 +4,11 @@ use mathlib.Core.Bool.{Bool, true, false, cond, not, _&&_, _||_}
 use mathlib.Core.List.{List}
 use lib.Dec.{ltb, leb}
 use Rattle.cusum.specs.declared.Cusum.{Cusum}
-use Rattle.rules.specs.Conditions.{pick}
-use Rattle.rules.specs.Words.{worse, Table, rowOf, countsOf}
-use Rattle.rules.specs.Unit.{starting, gradingOf}
-use Rattle.rules.specs.declared.SampleUnit.{SampleUnit}
-use Rattle.rules.specs.declared.Grading.{Grading}
+use Rattle.units.specs.Conditions.{pick}
+use Rattle.units.specs.Words.{worse, Table, rowOf, countsOf}
+use Rattle.units.specs.Unit.{starting, gradingOf}
+use Rattle.units.specs.declared.SampleUnit.{SampleUnit}
+use Rattle.units.specs.declared.Grading.{Grading}
 use Rattle.rules.specs.declared.Entry.{Entry}
 use Rattle.rules.specs.declared.Entry.the-variants.{UnitRecord, Redesignation, Break}
 use Rattle.rules.specs.declared.Previous.{Previous}

@@ -3,8 +3,8 @@ use Prim.Native.Nat.{ℕ, zero, suc}
 use mathlib.Core.Bool.{Bool, false, _&&_}
 use mathlib.Core.List.{List}
 use Rattle.cusum.specs.declared.Cusum.{Cusum}
-use Rattle.rules.specs.Words.{Table, countsOf}
-use Rattle.rules.specs.Unit.{unitFails}
+use Rattle.units.specs.Words.{Table, countsOf}
+use Rattle.units.specs.Unit.{unitFails}
 use Rattle.rules.specs.Sheet.{Sheet, before}
 use Rattle.rules.specs.declared.Entry.{Entry}
 use Rattle.rules.specs.declared.Entry.the-variants.{UnitRecord, Redesignation, Break}

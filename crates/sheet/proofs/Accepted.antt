@@ -10,7 +10,7 @@ use native.Mathlib.Omega.{arith}
 use lib.Dec.{leb, eqb}
 use lib.ListN.{length}
 use borrow.Author.Tests.{leb-true, leb-false, eqb-true, eqb-false}
-use Rattle.rules.specs.Conditions.{pick}
+use Rattle.units.specs.Conditions.{pick}
 use Rattle.sheet.specs.Layout.{planSize, sizeOf, offset, mark, unitsBefore}
 use Rattle.sheet.specs.Refusals.{planRefusal, designatedBefore, recordRefusal, checkFrom, verdict}
 use Rattle.sheet.specs.declared.Verdict.{Verdict}

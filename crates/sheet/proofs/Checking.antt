@@ -8,7 +8,7 @@ use native.Mathlib.Omega.{arith}
 use native.Mathlib.Numerals.{add-one}
 use lib.ListN.{length}
 use borrow.Author.Tests.{le-leb, lt-leb, eq-eqb, ne-eqb}
-use Rattle.rules.specs.Conditions.{pick}
+use Rattle.units.specs.Conditions.{pick}
 use Rattle.encoding.specs.Bytes.{byte}
 use Rattle.sheet.specs.Layout.{planSize, planOf, markAt, sizeOf, entryOf, entryAt, offset, unitsIn, unitsBefore}
 use Rattle.sheet.specs.Refusals.{refusalAt, designatedBy, designatedBefore, recordRefusal, checkFrom}

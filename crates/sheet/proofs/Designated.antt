@@ -5,13 +5,13 @@ use mathlib.Core.Path.{_≡_, refl, _∙_, ap}
 use mathlib.Core.Bool.{Bool, true, false, cond}
 use mathlib.Core.List.{List}
 use lib.Dec.{ltb}
-use Rattle.rules.specs.Conditions.{pick}
-use Rattle.rules.specs.Words.{Table}
+use Rattle.units.specs.Conditions.{pick}
+use Rattle.units.specs.Words.{Table}
 use Rattle.rules.specs.StepThree.{designatedIn, afterDesignated, endsStepThree, afterStepThree, phaseAfterUnit, phaseAfterRedesignation, phaseAfterBreak, opening, phaseAfter, stateWith, next}
 use Rattle.rules.specs.Sheet.{before}
 use Rattle.rules.specs.declared.Entry.{Entry}
 use Rattle.rules.specs.declared.Entry.the-variants.{UnitRecord, Redesignation, Break}
-use Rattle.rules.specs.declared.Grading.{Grading}
+use Rattle.units.specs.declared.Grading.{Grading}
 use Rattle.rules.specs.declared.Previous.{Previous}
 use Rattle.rules.specs.declared.Previous.the-variants.{NoFailure, Failure}
 use Rattle.rules.specs.declared.Phase.{Phase}

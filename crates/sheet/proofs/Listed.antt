@@ -7,7 +7,7 @@ use mathlib.Core.List.{List}
 use mathlib.Core.Logic.{_⊎_, inl, inr}
 use native.Mathlib.Omega.{arith}
 use lib.ListN.{length}
-use Rattle.rules.specs.Words.{Table}
+use Rattle.units.specs.Words.{Table}
 use Rattle.sheet.specs.Refusals.{refusedIf, tableRefusal, planRefusal, unitRefusal, redesignationRefusal, refusalBy, refusalAt, recordRefusal, verdict}
 use Rattle.sheet.specs.declared.Mark.{Mark}
 use Rattle.sheet.specs.declared.Mark.the-variants.{UnitMark, RedesignationMark, BreakMark, NoMark}

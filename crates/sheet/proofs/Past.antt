@@ -9,7 +9,7 @@ use native.Mathlib.Omega.{arith}
 use lib.Dec.{lit<}
 use lib.ListN.{length, List·getD-eq-default}
 use Rattle.encoding.specs.Bytes.{byte}
-use Rattle.rules.specs.Conditions.{pick}
+use Rattle.units.specs.Conditions.{pick}
 use Rattle.rules.specs.declared.Entry.the-variants.{Break}
 use Rattle.sheet.specs.Layout.{markOf, markAt, mark, entryOf, entryAt, offset, unitsBefore}
 use Rattle.sheet.specs.Refusals.{refusalBy, refusalAt, designatedBefore, recordRefusal}

@@ -10,9 +10,9 @@ use lib.ListN.{length, getD}
 use borrow.Author.Tests.{ltb-false, leb-false, eqb-false}
 use Rattle.cusum.specs.declared.PlanNumbers.{PlanNumbers}
 use Rattle.encoding.specs.Bytes.{byte}
-use Rattle.rules.specs.Conditions.{any}
-use Rattle.rules.specs.Words.{classes, Table, inClass, rowOf, numbersOf, tableOf}
-use Rattle.rules.specs.declared.SampleUnit.{SampleUnit}
+use Rattle.units.specs.Conditions.{any}
+use Rattle.units.specs.Words.{classes, Table, inClass, rowOf, numbersOf, tableOf}
+use Rattle.units.specs.declared.SampleUnit.{SampleUnit}
 use Rattle.sheet.specs.Layout.{planOf, sampleUnitAt, mark, entryOf, entryAt, offset, unitsIn, unitsBefore, prerequisiteOffset, recoverableOffset}
 use Rattle.sheet.specs.Refusals.{largestPlanNumber, largestCount, mostUnits, anyClass, anyNumbers, tooLarge, startAboveLimit, tableRefusal, planRefusal, countTooLarge, unitRefusal, redesignationRefusal, refusalBy, designatedBy, designatedBefore}
 use Rattle.sheet.specs.declared.Mark.{Mark}

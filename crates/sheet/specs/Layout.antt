@@ -4,11 +4,11 @@ use mathlib.Core.List.{List, [], _∷_, map}
 use lib.Dec.{eqb}
 use Rattle.cusum.specs.declared.PlanNumbers.{PlanNumbers}
 use Rattle.encoding.specs.Bytes.{byte, number}
-use Rattle.rules.specs.Conditions.{pick}
-use Rattle.rules.specs.Words.{classes, tableOf}
+use Rattle.units.specs.Conditions.{pick}
+use Rattle.units.specs.Words.{classes, tableOf}
 use Rattle.rules.specs.Sheet.{Sheet}
-use Rattle.rules.specs.declared.Plan.{Plan}
-use Rattle.rules.specs.declared.SampleUnit.{SampleUnit}
+use Rattle.units.specs.declared.Plan.{Plan}
+use Rattle.units.specs.declared.SampleUnit.{SampleUnit}
 use Rattle.rules.specs.declared.Entry.{Entry}
 use Rattle.rules.specs.declared.Entry.the-variants.{UnitRecord, Redesignation, Break}
 use Rattle.sheet.specs.declared.Mark.{Mark}

@@ -6,11 +6,11 @@ use lib.Dec.{ltb, leb, eqb}
 use lib.ListN.{length}
 use Rattle.cusum.specs.declared.PlanNumbers.{PlanNumbers}
 use Rattle.encoding.specs.Bytes.{byte, number}
-use Rattle.rules.specs.Conditions.{any, pick}
-use Rattle.rules.specs.Words.{plannedGrades, classes, Table, inClass, rowOf, numbersOf, tableOf}
+use Rattle.units.specs.Conditions.{any, pick}
+use Rattle.units.specs.Words.{plannedGrades, classes, Table, inClass, rowOf, numbersOf, tableOf}
 use Rattle.rules.specs.declared.Entry.{Entry}
 use Rattle.rules.specs.declared.Entry.the-variants.{UnitRecord, Redesignation, Break}
-use Rattle.rules.specs.declared.SampleUnit.{SampleUnit}
+use Rattle.units.specs.declared.SampleUnit.{SampleUnit}
 use Rattle.sheet.specs.Layout.{markSize, gradeOffset, planSize, unitSize, redesignationSize, prerequisiteOffset, recoverableOffset, planOf, sampleUnitAt, markAt, offset, entryAt, unitsBefore}
 use Rattle.sheet.specs.declared.Mark.{Mark}
 use Rattle.sheet.specs.declared.Mark.the-variants.{UnitMark, RedesignationMark, BreakMark, NoMark}

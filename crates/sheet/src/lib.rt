@@ -7,13 +7,13 @@ ghost use Rattle.sheet.specs.Layout.{markSize, planNumbersSize, rowSize,
 ghost use Rattle.sheet.specs.Refusals.{tooLarge, startAboveLimit, smaller, anyClass, anyNumbers, anySmaller, tableRefusal, planRefusal, countTooLarge, unitRefusal, redesignationRefusal, refusalAt, designatedBy, checkFrom, verdict};
 use cusum::PlanNumbers;
 use encoding::number_at;
-use rules::CLASSES;
 use rules::Entry;
-use rules::Plan;
-use rules::Row;
-use rules::SampleUnit;
-use rules::Table;
-use rules::row_of;
+use units::CLASSES;
+use units::Plan;
+use units::Row;
+use units::SampleUnit;
+use units::Table;
+use units::row_of;
 
 // Sizes of the records, and offsets of their fields.
 const MARK_SIZE: usize = 2;

@@ -9,7 +9,7 @@ use lib.Dec.{ltb}
 use lib.ListN.{length, drop, length-append, length-drop}
 use lib.Seq.{drop-at}
 use borrow.Author.Tests.{ltb-false}
-use Rattle.rules.specs.Conditions.{pick}
+use Rattle.units.specs.Conditions.{pick}
 use Rattle.rules.specs.Sheet.{codeGrade}
 use Rattle.sheet.specs.Layout.{unitsBefore, sheetOf}
 use Rattle.sheet.specs.Refusals.{verdict}

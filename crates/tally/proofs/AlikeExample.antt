@@ -11,11 +11,11 @@ use lib.Seq.{getD-set-other}
 use borrow.Author.Tests.{eqb-true, eqb-false}
 use Rattle.cusum.specs.Step.{rawValue, aboveLimit, cusumOf, fails, newCusum}
 use Rattle.encoding.specs.Bytes.{byte, number}
-use Rattle.rules.specs.Conditions.{any, pick}
-use Rattle.rules.specs.Words.{hasPlan}
-use Rattle.rules.specs.Unit.{starting, classFails, classCusum, newCusums, unitFails, defectGrade}
+use Rattle.units.specs.Conditions.{any, pick}
+use Rattle.units.specs.Words.{hasPlan}
+use Rattle.units.specs.Unit.{starting, classFails, classCusum, newCusums, unitFails, defectGrade}
 use Rattle.rules.specs.StepThree.{designatedIn, inForce, opening, graded}
-use Rattle.rules.specs.Unit.{portionGradeOf}
+use Rattle.units.specs.Unit.{portionGradeOf}
 use Rattle.rules.specs.Sheet.{standingOf, before, recovered, portionGrade, standing, portionGradeWith, worstBefore, codeGrade}
 use Rattle.sheet.specs.Layout.{countsOffset, planOf, markOf, markAt, sizeOf, sampleUnitAt, entryOf, offset, mark, entryAt, unitsIn, unitsBefore, sheetOf}
 use Rattle.sheet.specs.Refusals.{refusedIf, anyClass, anyNumbers, noPlanRecord, tooLarge, startAboveLimit, smaller, anySmaller, tableRefusal, planRefusal, countTooLarge, unitRefusal, refusalBy, refusalAt, recordRefusal, checkFrom, verdict}

@@ -10,7 +10,7 @@ use native.Mathlib.Omega.{arith}
 use lib.Dec.{ltb, leb, eqb, lit<}
 use borrow.Author.Tests.{ltb-true, leb-true, leb-false}
 use Rattle.encoding.specs.Bytes.{byte, number}
-use Rattle.rules.specs.declared.Plan.{Plan}
+use Rattle.units.specs.declared.Plan.{Plan}
 use Rattle.rules.specs.declared.Entry.{Entry}
 use Rattle.rules.proofs.SideBySide.{UnitBelow, Below, NoRedesignation}
 use Rattle.sheet.specs.Layout.{planSize, tableOffset, planNumbersSize, cells, countsOffset, kinds, prerequisiteOffset, unitSize, planOf, markOf, markAt, sizeOf, sampleUnitAt, entryOf, offset, mark, entryAt}

@@ -8,8 +8,8 @@ use native.Mathlib.Omega.{arith}
 use lib.ListN.{length, drop}
 use borrow.Author.Tests.{lt-ltb, le-ltb}
 use Rattle.encoding.specs.Bytes.{byte}
-use Rattle.rules.specs.Words.{tableOf}
-use Rattle.rules.specs.Conditions.{pick}
+use Rattle.units.specs.Words.{tableOf}
+use Rattle.units.specs.Conditions.{pick}
 use Rattle.rules.specs.Sheet.{codeGrade}
 use Rattle.sheet.specs.Layout.{planSize, planOf, unitsBefore, sheetOf}
 use Rattle.sheet.specs.Refusals.{verdict, anyNumbers}

@@ -11,9 +11,9 @@ use lib.Dec.{eqb, leb}
 use lib.ListN.{set}
 use borrow.Author.Tests.{leb-true, leb-false}
 use Rattle.encoding.specs.Bytes.{byte}
-use Rattle.rules.specs.Words.{worse, substandard}
+use Rattle.units.specs.Words.{worse, substandard}
 use Rattle.rules.specs.Sheet.{Sheet, portionGrade, portionGradeWith, worstBefore, codeGrade}
-use Rattle.rules.specs.declared.SampleUnit.{SampleUnit}
+use Rattle.units.specs.declared.SampleUnit.{SampleUnit}
 use Rattle.rules.proofs.Grades.{portion-at-most}
 use Rattle.sheet.specs.Layout.{sampleUnitAt, entryOf, offset, mark, entryAt, unitsIn, unitsBefore, sheetOf}
 use Rattle.sheet.specs.declared.Mark.{Mark}

@@ -8,13 +8,13 @@ use native.Mathlib.Omega.{arith}
 use lib.Dec.{leb}
 use borrow.Author.Tests.{le-ltb, leb-true, leb-false}
 use Rattle.cusum.specs.Step.{largestTenths}
-use Rattle.rules.specs.Conditions.{any}
-use Rattle.rules.specs.Words.{classes, numbersOf, tableOf, countsOf}
-use Rattle.rules.specs.Unit.{classCusum, newCusums}
+use Rattle.units.specs.Conditions.{any}
+use Rattle.units.specs.Words.{classes, numbersOf, tableOf, countsOf}
+use Rattle.units.specs.Unit.{classCusum, newCusums}
 use Rattle.rules.specs.StepThree.{graded}
 use Rattle.rules.specs.Sheet.{before, inForceAt, gradedAt}
-use Rattle.rules.specs.declared.Plan.{Plan}
-use Rattle.rules.specs.declared.SampleUnit.{SampleUnit}
+use Rattle.units.specs.declared.Plan.{Plan}
+use Rattle.units.specs.declared.SampleUnit.{SampleUnit}
 use Rattle.rules.specs.declared.Entry.{Entry}
 use Rattle.rules.specs.declared.Entry.the-variants.{UnitRecord, Redesignation, Break}
 use Rattle.rules.proofs.Grades.{class-cusum-le}

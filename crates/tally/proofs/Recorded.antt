@@ -13,12 +13,12 @@ use borrow.Author.Tests.{ltb-false, leb-true, leb-false}
 use Rattle.cusum.specs.declared.Cusum.{Cusum}
 use Rattle.cusum.specs.Step.{largestTenths}
 use Rattle.encoding.specs.Bytes.{byte, number}
-use Rattle.rules.specs.Conditions.{any}
-use Rattle.rules.specs.Words.{substandard, classes, tenthsIn, countsOf}
-use Rattle.rules.specs.Unit.{classCusum, newCusums}
+use Rattle.units.specs.Conditions.{any}
+use Rattle.units.specs.Words.{substandard, classes, tenthsIn, countsOf}
+use Rattle.units.specs.Unit.{classCusum, newCusums}
 use Rattle.rules.specs.StepThree.{graded}
 use Rattle.rules.specs.Sheet.{Sheet, before, inForceAt, gradedAt, portionGrade, standing, codeGrade}
-use Rattle.rules.specs.declared.SampleUnit.{SampleUnit}
+use Rattle.units.specs.declared.SampleUnit.{SampleUnit}
 use Rattle.rules.specs.declared.Entry.the-variants.{UnitRecord}
 use Rattle.rules.proofs.LargestForm.{at-class}
 use Rattle.rules.proofs.Grades.{class-cusum-le, NewGrade, portion-at-most, code-grade-at-most}

@@ -8,17 +8,17 @@ use native.Mathlib.Omega.{arith}
 use lib.Dec.{leb}
 use lib.ListN.{length, set}
 use borrow.Author.Tests.{lt-ltb, le-ltb, leb-true, leb-false}
-use Rattle.rules.specs.Words.{worse}
-use Rattle.rules.specs.Conditions.{pick}
+use Rattle.units.specs.Words.{worse}
+use Rattle.units.specs.Conditions.{pick}
 use Rattle.rules.specs.StepThree.{designatedIn}
-use Rattle.rules.specs.Unit.{portionGradeOf}
+use Rattle.units.specs.Unit.{portionGradeOf}
 use Rattle.rules.specs.Sheet.{Sheet, designatedAt, stepThreeEndsAt, inFinishedRun, recovered, portionGrade, standingOf, standing}
-use Rattle.rules.specs.declared.SampleUnit.{SampleUnit}
+use Rattle.units.specs.declared.SampleUnit.{SampleUnit}
 use Rattle.rules.specs.declared.Phase.{Phase}
 use Rattle.rules.specs.declared.Phase.the-variants.{Designated, StepThree}
 use Rattle.rules.specs.declared.Entry.{Entry}
 use Rattle.rules.specs.declared.Entry.the-variants.{UnitRecord, Redesignation, Break}
-use Rattle.rules.proofs.Tests.{and-true, or-false}
+use Rattle.units.proofs.Tests.{and-true, or-false}
 use Rattle.rules.proofs.FinishedRun.{InStepThree, FinishedRun}
 use Rattle.results.specs.Record.{portionGradeOffset, standingOffset, resultBytes}
 use Rattle.results.specs.Codes.{ungraded}

@@ -7,12 +7,12 @@ use mathlib.Core.List.{List}
 use native.Mathlib.Omega.{arith}
 use lib.Dec.{leb}
 use borrow.Author.Tests.{leb-true, leb-false}
-use Rattle.rules.specs.Words.{tableOf, countsOf}
-use Rattle.rules.specs.Unit.{classCusum}
+use Rattle.units.specs.Words.{tableOf, countsOf}
+use Rattle.units.specs.Unit.{classCusum}
 use Rattle.rules.specs.Sheet.{Sheet, before, inForceAt, portionGrade, codeGrade}
 use Rattle.rules.specs.Anchor.{failureAt}
 use Rattle.rules.specs.TwoInARow.{secondInARow}
-use Rattle.rules.specs.declared.SampleUnit.{SampleUnit}
+use Rattle.units.specs.declared.SampleUnit.{SampleUnit}
 use Rattle.rules.proofs.SideBySide.{Below, NoRedesignation, not-second, second, fewer-cusums, fewer-grades}
 use Rattle.sheet.specs.Layout.{planOf, sampleUnitAt, offset, mark, entryAt, sheetOf}
 use Rattle.sheet.specs.declared.Mark.the-variants.{UnitMark}

@@ -7,11 +7,11 @@ use mathlib.Core.List.{List}
 use native.Mathlib.Numerals.{add-one}
 use native.Mathlib.Omega.{arith}
 use lib.ListN.{length}
-use Rattle.rules.specs.Words.{Table, tableOf}
+use Rattle.units.specs.Words.{Table, tableOf}
 use Rattle.rules.specs.StepThree.{opening, graded, recordEndsStepThree, next}
 use Rattle.rules.specs.Sheet.{before, gradedAt, stepThreeEndsAt}
 use Rattle.rules.specs.declared.State.{State}
-use Rattle.rules.specs.declared.SampleUnit.{SampleUnit}
+use Rattle.units.specs.declared.SampleUnit.{SampleUnit}
 use Rattle.sheet.specs.Layout.{planSize, planOf, markAt, sizeOf, entryOf, offset, entryAt, unitsIn, unitsBefore, sheetOf}
 use Rattle.sheet.specs.Refusals.{verdict}
 use Rattle.sheet.specs.declared.Verdict.the-variants.{Accepted}

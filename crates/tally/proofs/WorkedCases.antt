@@ -11,11 +11,11 @@ use borrow.Author.Tests.{lt-ltb, le-ltb}
 use Rattle.cusum.specs.Step.{tenthsOf, rawValue, aboveLimit, cusumOf, fails, newCusum, stepOf}
 use Rattle.cusum.specs.declared.PlanNumbers.{PlanNumbers}
 use Rattle.cusum.proofs.Laws.{step-within}
-use Rattle.rules.specs.Conditions.{any, all, pick}
-use Rattle.rules.specs.Words.{hasPlan}
-use Rattle.rules.specs.Unit.{starting, admits, withinTolerance, allZero, classFails, classCusum, newCusums, unitFails, bestLower, defectGrade, qualifies}
+use Rattle.units.specs.Conditions.{any, all, pick}
+use Rattle.units.specs.Words.{hasPlan}
+use Rattle.units.specs.Unit.{starting, admits, withinTolerance, allZero, classFails, classCusum, newCusums, unitFails, bestLower, defectGrade, qualifies}
 use Rattle.rules.specs.StepThree.{designatedIn, inForce, afterDesignated, endsStepThree, afterStepThree, phaseAfterUnit, unitEndsStepThree, unitStartsStepThree, unitRestarts, opening, graded, phaseAfter, recordEndsStepThree, restarts, cusumsAfter, stateWith, next}
-use Rattle.rules.specs.Unit.{portionGradeOf}
+use Rattle.units.specs.Unit.{portionGradeOf}
 use Rattle.rules.specs.Sheet.{standingOf, before, stepThreeEndsAt, inFinishedRun, recovered, portionGrade, standing, portionGradeWith, worstBefore, codeGrade}
 use Rattle.sheet.specs.Layout.{planOf, markOf, markAt, sizeOf, sampleUnitAt, entryOf, offset, entryAt, unitsIn, unitsBefore, sheetOf}
 use Rattle.sheet.specs.Refusals.{refusedIf, anyClass, anyNumbers, noPlanRecord, tooLarge, startAboveLimit, smaller, anySmaller, tableRefusal, planRefusal, countTooLarge, unitRefusal, refusalBy, refusalAt, recordRefusal, checkFrom, verdict}

@@ -10,12 +10,12 @@ use native.Mathlib.Numerals.{add-one}
 use native.Mathlib.Omega.{arith}
 use lib.ListN.{length, drop, length-append, length-drop}
 use lib.Seq.{sets}
-use Rattle.rules.specs.Words.{Table}
+use Rattle.units.specs.Words.{Table}
 use Rattle.rules.specs.StepThree.{designatedIn, graded, unitEndsStepThree, recordEndsStepThree}
 use Rattle.rules.specs.Sheet.{Sheet, before, designatedAt, stepThreeEndsAt}
 use Rattle.rules.specs.declared.State.{State}
-use Rattle.rules.specs.declared.Grading.{Grading}
-use Rattle.rules.specs.declared.SampleUnit.{SampleUnit}
+use Rattle.units.specs.declared.Grading.{Grading}
+use Rattle.units.specs.declared.SampleUnit.{SampleUnit}
 use Rattle.rules.specs.declared.Entry.{Entry}
 use Rattle.rules.specs.declared.Entry.the-variants.{UnitRecord, Redesignation, Break}
 use Rattle.rules.proofs.FinishedRun.{FinishedRun, finished-run}

@@ -12,7 +12,7 @@ use Rattle.sheet.specs.Layout.{offset, mark, entryOf, entryAt, unitsIn, unitsBe
 use Rattle.sheet.specs.declared.Mark.{Mark}
 use Rattle.sheet.specs.declared.Mark.the-variants.{UnitMark, RedesignationMark, BreakMark, NoMark}
 use Rattle.encoding.specs.Bytes.{byte, number}
-use Rattle.rules.specs.declared.SampleUnit.{SampleUnit}
+use Rattle.units.specs.declared.SampleUnit.{SampleUnit}
 use Rattle.rules.specs.declared.Entry.{Entry}
 use Rattle.rules.specs.declared.Entry.the-variants.{UnitRecord}
 use Rattle.results.specs.Record.{resultSize, resultBytes}

@@ -8,7 +8,7 @@ use lib.IntN.{pos}
 use Rattle.cusum.specs.declared.PlanNumbers.{PlanNumbers}
 use Rattle.cusum.specs.LargestForm.{largestForm}
 use Rattle.encoding.specs.Bytes.{byte, number}
-use Rattle.rules.specs.Words.{classes, hasPlan, numbersOf}
+use Rattle.units.specs.Words.{classes, hasPlan, numbersOf}
 use Rattle.rules.specs.Sheet.{Sheet, inForceAt}
 use Rattle.rules.specs.Anchor.{failureAt, countsFrom, Anchor, Latest, anchorValue}
 use Rattle.rules.specs.TwoInARow.{secondInARow}

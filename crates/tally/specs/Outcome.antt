@@ -7,10 +7,10 @@ use lib.ListN.{length, drop}
 use Rattle.cusum.specs.declared.PlanNumbers.{PlanNumbers}
 use Rattle.cusum.specs.declared.Cusum.{Cusum}
 use Rattle.cusum.specs.Step.{largestTenths}
-use Rattle.rules.specs.Conditions.{any, pick}
-use Rattle.rules.specs.Words.{classes, tenthsIn}
+use Rattle.units.specs.Conditions.{any, pick}
+use Rattle.units.specs.Words.{classes, tenthsIn}
 use Rattle.rules.specs.Sheet.{Sheet, inForceAt, gradedAt, portionGrade, standing, codeGrade}
-use Rattle.rules.specs.declared.SampleUnit.{SampleUnit}
+use Rattle.units.specs.declared.SampleUnit.{SampleUnit}
 use Rattle.rules.specs.declared.Entry.{Entry}
 use Rattle.rules.specs.declared.Entry.the-variants.{UnitRecord, Redesignation, Break}
 use Rattle.sheet.specs.Layout.{sheetOf}

@@ -2,7 +2,7 @@
 use Prim.Native.Nat.{ℕ, _≤_}
 use mathlib.Core.Path.{_≡_}
 use mathlib.Core.List.{List}
-use Rattle.rules.specs.Words.{Table, tableOf}
+use Rattle.units.specs.Words.{Table, tableOf}
 use Rattle.rules.specs.Sheet.{before}
 use Rattle.sheet.specs.Layout.{planOf, offset, unitsBefore, sheetOf}
 use Rattle.sheet.specs.Refusals.{verdict}

@@ -12,10 +12,10 @@ use Rattle.cusum.specs.declared.Cusum.{Cusum}
 use Rattle.cusum.specs.declared.Stepped.{Stepped}
 use Rattle.cusum.specs.Step.{tenthsOf, startOf, rawValue, stepOf}
 use Rattle.encoding.specs.Bytes.{high, low}
-use Rattle.rules.specs.Words.{Table, zeroCusum}
+use Rattle.units.specs.Words.{Table, zeroCusum}
 use Rattle.rules.specs.Sheet.{Sheet, inForceAt, gradedAt, stepThreeEndsAt}
-use Rattle.rules.specs.declared.SampleUnit.{SampleUnit}
-use Rattle.rules.specs.declared.Grading.{Grading}
+use Rattle.units.specs.declared.SampleUnit.{SampleUnit}
+use Rattle.units.specs.declared.Grading.{Grading}
 use Rattle.rules.specs.declared.Entry.the-variants.{UnitRecord, Break}
 use Rattle.tally.specs.Outcome.{outcome, refusal}
 

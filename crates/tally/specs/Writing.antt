@@ -5,11 +5,11 @@ use mathlib.Core.Bool.{Bool, _&&_, _||_}
 use mathlib.Core.List.{List, [], _++_}
 use lib.Dec.{ltb}
 use lib.ListN.{length, drop, set}
-use Rattle.rules.specs.Words.{worse}
-use Rattle.rules.specs.Conditions.{pick}
-use Rattle.rules.specs.Unit.{portionGradeOf}
+use Rattle.units.specs.Words.{worse}
+use Rattle.units.specs.Conditions.{pick}
+use Rattle.units.specs.Unit.{portionGradeOf}
 use Rattle.rules.specs.Sheet.{Sheet, before, designatedAt, inForceAt, gradedAt, stepThreeEndsAt, standingOf}
-use Rattle.rules.specs.declared.SampleUnit.{SampleUnit}
+use Rattle.units.specs.declared.SampleUnit.{SampleUnit}
 use Rattle.rules.specs.declared.Entry.{Entry}
 use Rattle.rules.specs.declared.Entry.the-variants.{UnitRecord, Redesignation, Break}
 use Rattle.sheet.specs.Layout.{unitSize, sampleUnitAt, unitsBefore, sheetOf}

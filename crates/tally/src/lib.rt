@@ -22,14 +22,8 @@ use results::ResultRecord;
 use results::STANDING_OFFSET;
 use results::grade_codes;
 use rules::Entry;
-use rules::Grading;
 use rules::RECOVERED;
-use rules::Row;
-use rules::SampleUnit;
 use rules::State;
-use rules::Table;
-use rules::row_of;
-use rules::worse_of;
 use sheet::PLAN_SIZE;
 use sheet::UNIT_SIZE;
 use sheet::Verdict;
@@ -40,6 +34,12 @@ use sheet::plan_of;
 use sheet::sample_unit_at;
 use sheet::size_of;
 use sheet::units_in;
+use units::Grading;
+use units::Row;
+use units::SampleUnit;
+use units::Table;
+use units::row_of;
+use units::worse_of;
 
 // Acceptance: 0, the number of units, the sheet's length. A refusal: its number, no units, an offset in the sheet.
 #[repr(C)]
@@ -112,7 +112,7 @@ fn result_here(
     let cusums = grading.cusums;
     ResultRecord {
         code: unit.code,
-        portion: rules::portion_grade(
+        portion: units::portion_grade(
             phase.designated(),
             grading.grade,
             unit.prerequisite,

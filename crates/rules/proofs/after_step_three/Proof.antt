@@ -1,7 +1,7 @@
 -- `rules::after_step_three` meets its contract.
 -- Each return follows from the tests on the way and what the callees promise.
 use borrow.Author.Tests.{le-leb, lt-leb}
-use Rattle.rules.specs.Conditions.{pick}
+use Rattle.units.specs.Conditions.{pick}
 use Rattle.rules.specs.StepThree.{endsStepThree, afterStepThree}
 use borrow.Author.Needs.{needs}
 use Rattle.rules.proofs.after_step_three.Statement.{statement}

@@ -1,6 +1,6 @@
 -- `rules::state_with` meets its contract.
 -- Each return follows from the tests on the way and what the callees promise.
-use Rattle.rules.specs.Conditions.{pick}
+use Rattle.units.specs.Conditions.{pick}
 use Rattle.rules.specs.StepThree.{stateWith}
 use borrow.Author.Needs.{needs}
 use Rattle.rules.proofs.state_with.Statement.{statement}

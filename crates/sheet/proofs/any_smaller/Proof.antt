@@ -1,6 +1,6 @@
 -- `any_smaller` tests the four classes, as `anySmaller` goes through them.
-use Rattle.rules.specs.Conditions.{any}
-use Rattle.rules.proofs.Tests.{or-false}
+use Rattle.units.specs.Conditions.{any}
+use Rattle.units.proofs.Tests.{or-false}
 use Rattle.sheet.specs.Refusals.{anySmaller}
 use borrow.Author.Needs.{needs}
 use Rattle.sheet.proofs.any_smaller.Statement.{statement}

@@ -1,7 +1,7 @@
 -- `check` is `verdict`: the plan's refusal, or what the check of the records answers.
 use borrow.Author.Tests.{eq-eqb, ne-eqb}
 use mathlib.Core.Path.{_∙_, sym}
-use Rattle.rules.specs.Conditions.{pick}
+use Rattle.units.specs.Conditions.{pick}
 use Rattle.sheet.specs.Refusals.{verdict}
 use Rattle.sheet.proofs.Rows.{plan-whole}
 use borrow.Author.Needs.{needs}

@@ -1,6 +1,6 @@
 -- `mark_at` is `markAt`: the marks are tested one after the other, as `markOf` picks them.
 use borrow.Author.Tests.{eq-eqb, ne-eqb}
-use Rattle.rules.specs.Conditions.{pick}
+use Rattle.units.specs.Conditions.{pick}
 use Rattle.sheet.specs.Layout.{markAt, markOf}
 use borrow.Author.Needs.{needs}
 use Rattle.sheet.proofs.mark_at.Statement.{statement}

@@ -1,6 +1,6 @@
 -- `table_too_large` tests the three grades, as `anyNumbers` goes through them.
-use Rattle.rules.specs.Conditions.{any}
-use Rattle.rules.proofs.Tests.{or-false}
+use Rattle.units.specs.Conditions.{any}
+use Rattle.units.proofs.Tests.{or-false}
 use Rattle.sheet.specs.Refusals.{anyNumbers}
 use borrow.Author.Needs.{needs}
 use Rattle.sheet.proofs.table_too_large.Statement.{statement}

@@ -2,8 +2,8 @@
 -- Each return follows from the tests on the way and what the callees promise.
 use mathlib.Core.Path.{sym, _∙_, ap}
 use native.Mathlib.Omega.{arith}
-use Rattle.rules.specs.Words.{tableOf}
-use Rattle.rules.specs.declared.Plan.{Plan}
+use Rattle.units.specs.Words.{tableOf}
+use Rattle.units.specs.declared.Plan.{Plan}
 use Rattle.sheet.specs.Refusals.{anyNumbers}
 use Rattle.tally.specs.declared.Answer.{Answer}
 use Rattle.tally.specs.Outcome.{limitTooLarge}

@@ -3,7 +3,7 @@
 use native.Mathlib.Omega.{arith}
 use lib.ListN.{length-set}
 use Prim.Native.Nat.{_+_}
-use Rattle.rules.specs.Conditions.{pick}
+use Rattle.units.specs.Conditions.{pick}
 use Rattle.tally.specs.Writing.{recoveredIn}
 use borrow.Author.Needs.{needs}
 use Rattle.tally.proofs.recover.Statement.{statement}

@@ -1,7 +1,7 @@
 -- `rules::Phase::after_redesignation` meets its contract.
 -- Each return follows from the tests on the way and what the callees promise.
 use borrow.Author.Tests.{lt-ltb, le-ltb}
-use Rattle.rules.specs.Conditions.{pick}
+use Rattle.units.specs.Conditions.{pick}
 use Rattle.rules.specs.StepThree.{phaseAfterRedesignation}
 use borrow.Author.Needs.{needs}
 use Rattle.rules.proofs.Phase.after_redesignation.Statement.{statement}

@@ -11,15 +11,12 @@ designated-requires c κs = search needs
 in-force-requires : tie.Need-in-force-requires
 in-force-requires c κs = search needs
 
-counts-of-requires : tie.Need-counts-of-requires
-counts-of-requires c κs = search needs
-
-grade-counts-requires : tie.Need-grade-counts-requires
-grade-counts-requires c κs = search needs
+grade-unit-requires : tie.Need-grade-unit-requires
+grade-unit-requires c κs = search needs
 
 returns : tie.Need-returns
 unfolding graded
-returns c = rw (c .grade-counts .ensures, c .before .counts-of .ensures, c .before .before .in-force .ensures, c .before .before .before .designated .ensures)
+returns c = rw (c .grade-unit .ensures, c .before .in-force .ensures, c .before .before .designated .ensures)
 
 pub grade-spec : {M : Type 1} → statement M
 grade-spec =
@@ -27,6 +24,5 @@ grade-spec =
     (tie.spec
     designated-requires
     in-force-requires
-    counts-of-requires
-    grade-counts-requires
+    grade-unit-requires
     returns)

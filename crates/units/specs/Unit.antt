@@ -1,0 +1,89 @@
+-- Grading a unit, rules 1 to 4, and whether it qualifies: under the plan of a grade, from the CuSums before it, by its counts.
+use Prim.Native.Nat.{ℕ, _+_}
+use mathlib.Core.Bool.{Bool, cond, _&&_}
+use mathlib.Core.List.{List, map}
+use lib.Dec.{ltb, leb, eqb}
+use Rattle.cusum.specs.declared.PlanNumbers.{PlanNumbers}
+use Rattle.cusum.specs.declared.Cusum.{Cusum}
+use Rattle.cusum.specs.Step.{tenthsOf, startOf, fails, newCusum}
+use Rattle.units.specs.Conditions.{any, all}
+use Rattle.units.specs.Words.{substandard, hasPlan, worse, classes, Table, rowOf, inClass, numbersOf, countIn, tenthsIn}
+use Rattle.units.specs.declared.Grading.{Grading}
+use Rattle.units.specs.declared.SteppedClasses.{SteppedClasses}
+
+-- rule 1: every CuSum begins at the S of its own class and plan
+unfoldable pub starting : List PlanNumbers → List Cusum
+starting row = map (λ class. startOf (inClass row class)) classes
+
+module _ (table : Table) where
+  -- a class fails under the plan in force; where there is none, no class fails
+  unfoldable pub classFails : ℕ → List Cusum → List ℕ → ℕ → Bool
+  classFails grade cusums counts class =
+      hasPlan grade && fails (numbersOf table grade class) (tenthsIn cusums class) (countIn counts class)
+
+  -- the new CuSum of a class; where there is no plan, zero
+  unfoldable pub classCusum : ℕ → List Cusum → List ℕ → ℕ → ℕ
+  classCusum grade cusums counts class =
+      cond (hasPlan grade) (newCusum (numbersOf table grade class) (tenthsIn cusums class) (countIn counts class)) 0
+
+  unfoldable pub newCusums : ℕ → List Cusum → List ℕ → List Cusum
+  newCusums grade cusums counts = map (λ class. record { tenths = classCusum grade cusums counts class }) classes
+
+  -- rule 3: the unit fails if a class fails
+  unfoldable pub unitFails : ℕ → List Cusum → List ℕ → Bool
+  unitFails grade cusums counts = any (classFails grade cusums counts) classes
+
+-- a plan admits the counts if its T+L is not exceeded by ten times the count in any class
+unfoldable pub admits : List PlanNumbers → List ℕ → Bool
+admits row counts =
+    all (λ class. leb (tenthsOf (countIn counts class)) (inClass row class .tolerance + inClass row class .limit)) classes
+
+module _ (table : Table) where
+  -- the best grade lower than this one that admits the counts; Substandard exactly if none does
+  unfoldable pub bestLower : ℕ → List ℕ → ℕ
+  bestLower grade counts =
+      cond (ltb grade 1 && admits (rowOf table 1) counts) 1
+      (cond (ltb grade 2 && admits (rowOf table 2) counts) 2
+      substandard)
+
+  -- the grade of the plan in force if the unit meets it, else the best lower grade; where there is no plan, Substandard
+  unfoldable pub defectGrade : ℕ → List Cusum → List ℕ → ℕ
+  defectGrade grade cusums counts = cond (unitFails table grade cusums counts) (bestLower grade counts) grade
+
+-- rule 4: the portion grade is the worse of defect grade and prerequisite grade; a recovered portion gets the worse of designated
+-- grade and prerequisite grade
+unfoldable pub portionGradeOf : ℕ → ℕ → ℕ → Bool → ℕ
+portionGradeOf designated defectGrade prerequisite recovered = worse (cond recovered designated defectGrade) prerequisite
+
+-- all CuSums are zero
+unfoldable pub allZero : List Cusum → Bool
+allZero cusums = all (λ class. eqb (tenthsIn cusums class) 0) classes
+
+-- no count exceeds the T of its class
+unfoldable pub withinTolerance : List PlanNumbers → List ℕ → Bool
+withinTolerance row counts = all (λ class. leb (tenthsOf (countIn counts class)) (inClass row class .tolerance)) classes
+
+module _ (table : Table) where
+  -- a unit in step 3 qualifies if all its CuSums are zero (so they are where there is no plan) and no count exceeds the designated T
+  -- of its class
+  unfoldable pub qualifies : ℕ → ℕ → List Cusum → List ℕ → Bool
+  qualifies designated grade cusums counts =
+      allZero (newCusums table grade cusums counts) && withinTolerance (rowOf table designated) counts
+
+  -- all of this together: the designated grade, the grade of the plan in force, the CuSums before the unit, its counts
+  abbrev pub gradingOf : ℕ → ℕ → List Cusum → List ℕ → Grading
+  gradingOf designated grade cusums counts =
+      record {
+        cusums = newCusums table grade cusums counts;
+        fails = unitFails table grade cusums counts;
+        grade = defectGrade table grade cusums counts;
+        qualifies = qualifies designated grade cusums counts;
+      }
+
+-- for the contract of a private function: rule 2 in every class of one plan at once
+unfoldable pub steppedIn : List PlanNumbers → List Cusum → List ℕ → SteppedClasses
+steppedIn row cusums counts =
+    record {
+      cusums = map (λ class. record { tenths = newCusum (inClass row class) (tenthsIn cusums class) (countIn counts class) }) classes;
+      fails = any (λ class. fails (inClass row class) (tenthsIn cusums class) (countIn counts class)) classes;
+    }
