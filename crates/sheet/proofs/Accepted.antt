@@ -11,11 +11,11 @@ use lib.Dec.{leb, eqb}
 use lib.ListN.{length}
 use borrow.Author.Tests.{leb-true, leb-false, eqb-true, eqb-false}
 use Rattle.units.specs.Conditions.{pick}
-use Rattle.sheet.specs.Layout.{planSize, sizeOf, offset, mark, unitsBefore}
+use Rattle.layout.specs.Layout.{planSize, sizeOf, offset, mark, unitsBefore}
 use Rattle.sheet.specs.Refusals.{planRefusal, designatedBefore, recordRefusal, checkFrom, verdict}
 use Rattle.sheet.specs.declared.Verdict.{Verdict}
 use Rattle.sheet.specs.declared.Verdict.the-variants.{Accepted, Refused}
-use Rattle.sheet.proofs.Offsets.{offset-lt, offset-ge}
+use Rattle.layout.proofs.Offsets.{offset-lt, offset-ge}
 use Rattle.sheet.proofs.Rows.{plan-whole, whole-at}
 
 -- ---- the records

@@ -10,11 +10,11 @@ use lib.ListN.{length}
 use borrow.Author.Tests.{le-leb, lt-leb, eq-eqb, ne-eqb}
 use Rattle.units.specs.Conditions.{pick}
 use Rattle.encoding.specs.Bytes.{byte}
-use Rattle.sheet.specs.Layout.{planSize, planOf, markAt, sizeOf, entryOf, entryAt, offset, unitsIn, unitsBefore}
+use Rattle.layout.specs.Layout.{planSize, planOf, markAt, sizeOf, entryOf, entryAt, offset, unitsIn, unitsBefore}
 use Rattle.sheet.specs.Refusals.{refusalAt, designatedBy, designatedBefore, recordRefusal, checkFrom}
 use Rattle.sheet.specs.declared.Verdict.the-variants.{Accepted, Refused}
 use Rattle.sheet.specs.declared.Place.{Place}
-use Rattle.sheet.proofs.Offsets.{offset-ge, units-before-le}
+use Rattle.layout.proofs.Offsets.{offset-ge, units-before-le}
 use Rattle.sheet.proofs.Rows.{whole-at}
 
 -- ---- one step of `checkFrom`

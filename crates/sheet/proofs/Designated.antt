@@ -17,7 +17,7 @@ use Rattle.rules.specs.declared.Previous.the-variants.{NoFailure, Failure}
 use Rattle.rules.specs.declared.Phase.{Phase}
 use Rattle.rules.specs.declared.Phase.the-variants.{Designated, StepThree}
 use Rattle.rules.specs.declared.State.{State}
-use Rattle.sheet.specs.Layout.{entryAt, sheetOf}
+use Rattle.layout.specs.Layout.{entryAt, sheetOf}
 use Rattle.sheet.specs.Refusals.{designatedBy, designatedBefore}
 
 -- ---- one record

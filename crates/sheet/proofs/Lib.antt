@@ -1,4 +1,3 @@
-pub mod Offsets
 pub mod Rows
 pub mod Checking
 pub mod Accepted
@@ -6,4 +5,3 @@ pub mod Past
 pub mod Ranges
 pub mod Designated
 pub mod Listed
-mod Sizes

@@ -9,8 +9,8 @@ use native.Mathlib.Omega.{arith}
 use lib.ListN.{length}
 use Rattle.units.specs.Words.{Table}
 use Rattle.sheet.specs.Refusals.{refusedIf, tableRefusal, planRefusal, unitRefusal, redesignationRefusal, refusalBy, refusalAt, recordRefusal, verdict}
-use Rattle.sheet.specs.declared.Mark.{Mark}
-use Rattle.sheet.specs.declared.Mark.the-variants.{UnitMark, RedesignationMark, BreakMark, NoMark}
+use Rattle.layout.specs.declared.Mark.{Mark}
+use Rattle.layout.specs.declared.Mark.the-variants.{UnitMark, RedesignationMark, BreakMark, NoMark}
 use Rattle.sheet.specs.declared.Verdict.the-variants.{Refused}
 use Rattle.sheet.proofs.Accepted.{Says, verdict-says}
 

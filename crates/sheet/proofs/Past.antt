@@ -11,11 +11,11 @@ use lib.ListN.{length, List·getD-eq-default}
 use Rattle.encoding.specs.Bytes.{byte}
 use Rattle.units.specs.Conditions.{pick}
 use Rattle.rules.specs.declared.Entry.the-variants.{Break}
-use Rattle.sheet.specs.Layout.{markOf, markAt, mark, entryOf, entryAt, offset, unitsBefore}
+use Rattle.layout.specs.Layout.{markOf, markAt, mark, entryOf, entryAt, offset, unitsBefore}
 use Rattle.sheet.specs.Refusals.{refusalBy, refusalAt, designatedBefore, recordRefusal}
-use Rattle.sheet.specs.declared.Mark.{Mark}
-use Rattle.sheet.specs.declared.Mark.the-variants.{NoMark}
-use Rattle.sheet.proofs.Offsets.{offset-lt}
+use Rattle.layout.specs.declared.Mark.{Mark}
+use Rattle.layout.specs.declared.Mark.the-variants.{NoMark}
+use Rattle.layout.proofs.Offsets.{offset-lt}
 use Rattle.sheet.proofs.Rows.{row-passed}
 use Rattle.sheet.proofs.Accepted.{Facts}
 

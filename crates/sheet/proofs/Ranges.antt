@@ -13,10 +13,10 @@ use Rattle.encoding.specs.Bytes.{byte}
 use Rattle.units.specs.Conditions.{any}
 use Rattle.units.specs.Words.{classes, Table, inClass, rowOf, numbersOf, tableOf}
 use Rattle.units.specs.declared.SampleUnit.{SampleUnit}
-use Rattle.sheet.specs.Layout.{planOf, sampleUnitAt, mark, entryOf, entryAt, offset, unitsIn, unitsBefore, prerequisiteOffset, recoverableOffset}
+use Rattle.layout.specs.Layout.{planOf, sampleUnitAt, mark, entryOf, entryAt, offset, unitsIn, unitsBefore, prerequisiteOffset, recoverableOffset}
 use Rattle.sheet.specs.Refusals.{largestPlanNumber, largestCount, mostUnits, anyClass, anyNumbers, tooLarge, startAboveLimit, tableRefusal, planRefusal, countTooLarge, unitRefusal, redesignationRefusal, refusalBy, designatedBy, designatedBefore}
-use Rattle.sheet.specs.declared.Mark.{Mark}
-use Rattle.sheet.specs.declared.Mark.the-variants.{UnitMark, RedesignationMark, BreakMark, NoMark}
+use Rattle.layout.specs.declared.Mark.{Mark}
+use Rattle.layout.specs.declared.Mark.the-variants.{UnitMark, RedesignationMark, BreakMark, NoMark}
 use Rattle.sheet.proofs.Rows.{or-first, or-second, row-passed}
 use Rattle.sheet.proofs.Accepted.{Facts}
 use Rattle.sheet.proofs.Past.{passed-as}

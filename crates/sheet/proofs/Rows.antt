@@ -8,10 +8,10 @@ use native.Mathlib.Omega.{arith}
 use lib.Dec.{ltb, lit<}
 use lib.ListN.{length}
 use borrow.Author.Tests.{ltb-false}
-use Rattle.sheet.specs.Layout.{markSize, planSize, unitSize, redesignationSize, markAt, sizeOf}
+use Rattle.layout.specs.Layout.{markSize, planSize, unitSize, redesignationSize, markAt, sizeOf}
 use Rattle.sheet.specs.Refusals.{refusedIf, noPlanRecord, planRefusal, unitRefusal, redesignationRefusal, refusalBy, refusalAt}
-use Rattle.sheet.specs.declared.Mark.{Mark}
-use Rattle.sheet.specs.declared.Mark.the-variants.{UnitMark, RedesignationMark, BreakMark, NoMark}
+use Rattle.layout.specs.declared.Mark.{Mark}
+use Rattle.layout.specs.declared.Mark.the-variants.{UnitMark, RedesignationMark, BreakMark, NoMark}
 
 -- of two conditions neither of which holds
 pub or-first : (first second : Bool) → (first || second) ≡ false → first ≡ false

@@ -11,9 +11,9 @@ use Rattle.units.specs.Words.{plannedGrades, classes, Table, inClass, rowOf, nu
 use Rattle.rules.specs.declared.Entry.{Entry}
 use Rattle.rules.specs.declared.Entry.the-variants.{UnitRecord, Redesignation, Break}
 use Rattle.units.specs.declared.SampleUnit.{SampleUnit}
-use Rattle.sheet.specs.Layout.{markSize, gradeOffset, planSize, unitSize, redesignationSize, prerequisiteOffset, recoverableOffset, planOf, sampleUnitAt, markAt, offset, entryAt, unitsBefore}
-use Rattle.sheet.specs.declared.Mark.{Mark}
-use Rattle.sheet.specs.declared.Mark.the-variants.{UnitMark, RedesignationMark, BreakMark, NoMark}
+use Rattle.layout.specs.Layout.{markSize, gradeOffset, planSize, unitSize, redesignationSize, prerequisiteOffset, recoverableOffset, planOf, sampleUnitAt, markAt, offset, entryAt, unitsBefore}
+use Rattle.layout.specs.declared.Mark.{Mark}
+use Rattle.layout.specs.declared.Mark.the-variants.{UnitMark, RedesignationMark, BreakMark, NoMark}
 use Rattle.sheet.specs.declared.Verdict.{Verdict}
 use Rattle.sheet.specs.declared.Verdict.the-variants.{Accepted, Refused}
 

@@ -1,64 +1,31 @@
-// The tally sheet in bytes: its plan, its records, and the check for refusals 1 to 12.
+// The check of a tally sheet for refusals 1 to 12.
 ghost use mathlib.Core.Path.{_≡_};
 ghost use mathlib.Core.Bool.{_||_};
 ghost use Prim.Native.Nat.{_+_, _≤_};
 ghost use lib.ListN.{length};
-ghost use Rattle.sheet.specs.Layout.{markSize, planNumbersSize, rowSize, planSize, unitSize, planNumbersAt, rowAt, planOf, markAt, sizeOf, sampleUnitAt, entryOf, unitsIn};
+ghost use Rattle.layout.specs.Layout.{planSize, markAt, sizeOf, entryOf, unitsIn};
 ghost use Rattle.sheet.specs.Refusals.{tooLarge, startAboveLimit, smaller, anyClass, anyNumbers, anySmaller, tableRefusal, planRefusal, countTooLarge, unitRefusal, redesignationRefusal, refusalAt, designatedBy, checkFrom, verdict};
 use cusum::PlanNumbers;
 use encoding::number_at;
+use layout::GRADE_OFFSET;
+use layout::MARK_SIZE;
+use layout::Mark;
+use layout::PLAN_SIZE;
+use layout::PREREQUISITE_OFFSET;
+use layout::RECOVERABLE_OFFSET;
+use layout::REDESIGNATION_SIZE;
+use layout::UNIT_SIZE;
+use layout::entry_at;
+use layout::mark_at;
+use layout::plan_of;
+use layout::sample_unit_at;
+use layout::size_of;
+use layout::units_in;
 use rules::Entry;
-use units::CLASSES;
-use units::Plan;
 use units::Row;
 use units::SampleUnit;
 use units::Table;
 use units::row_of;
-
-// Sizes of the records, and offsets of their fields.
-const MARK_SIZE: usize = 2;
-
-pub const PLAN_SIZE: usize = C_OFFSET + ROW_SIZE;
-
-pub const UNIT_SIZE: usize = 14;
-
-const REDESIGNATION_SIZE: usize = 3;
-
-// The designated grade of a plan, the new one of a redesignation.
-const GRADE_OFFSET: usize = 2;
-
-// The table of a plan: for grades A, B and C, within each the classes, within each S, T and L.
-const PLAN_NUMBERS_SIZE: usize = 6;
-
-const ROW_SIZE: usize = CLASSES * PLAN_NUMBERS_SIZE;
-
-const A_OFFSET: usize = 3;
-
-const B_OFFSET: usize = A_OFFSET + ROW_SIZE;
-
-const C_OFFSET: usize = B_OFFSET + ROW_SIZE;
-
-// The classes of a row behind critical.
-const SEVERE_NUMBERS: usize = PLAN_NUMBERS_SIZE;
-
-const MAJOR_NUMBERS: usize = 2 * PLAN_NUMBERS_SIZE;
-
-const TOTAL_NUMBERS: usize = 3 * PLAN_NUMBERS_SIZE;
-
-// A unit.
-const CODE_OFFSET: usize = 2;
-
-const CRITICAL_OFFSET: usize = 4;
-
-const SEVERE_OFFSET: usize = 6;
-
-const MAJOR_OFFSET: usize = 8;
-
-const MINOR_OFFSET: usize = 10;
-
-const PREREQUISITE_OFFSET: usize = 12;
-
-const RECOVERABLE_OFFSET: usize = 13;
 
 // The largest numbers on a sheet.
 const LARGEST_PLAN_NUMBER: u16 = 9999;
@@ -75,69 +42,10 @@ struct Place {
     designated: u8,
 }
 
-// Which record a mark opens.
-pub enum Mark {
-    UnitMark,
-    RedesignationMark,
-    BreakMark,
-    NoMark,
-}
-
 // A sheet that passes, with the number of its records and of its units; or a refusal, with its number and offset.
 pub enum Verdict {
     Accepted { records: usize, units: usize },
     Refused { number: u8, offset: usize },
-}
-
-fn plan_numbers_at(bytes: &[u8], at: usize) -> PlanNumbers
-    requires { ⌜ at + planNumbersSize ≤ length (now bytes) ⌝ }
-    ensures { λ r. ⌜ r ≡ planNumbersAt (now (bytes .entry)) at ⌝ }
-{
-    PlanNumbers {
-        start: number_at(bytes, at),
-        tolerance: number_at(bytes, at + 2),
-        limit: number_at(bytes, at + 4),
-    }
-}
-
-fn row_at(bytes: &[u8], at: usize) -> Row
-    requires { ⌜ at + rowSize ≤ length (now bytes) ⌝ }
-    ensures { λ r. ⌜ r ≡ rowAt (now (bytes .entry)) at ⌝ }
-{
-    [
-        plan_numbers_at(bytes, at),
-        plan_numbers_at(bytes, at + SEVERE_NUMBERS),
-        plan_numbers_at(bytes, at + MAJOR_NUMBERS),
-        plan_numbers_at(bytes, at + TOTAL_NUMBERS),
-    ]
-}
-
-// The plan of a sheet that is long enough for it.
-pub fn plan_of(bytes: &[u8]) -> Plan
-    requires { ⌜ planSize ≤ length (now bytes) ⌝ }
-    ensures { λ r. ⌜ r ≡ planOf (now (bytes .entry)) ⌝ }
-{
-    let a = row_at(bytes, A_OFFSET);
-    let b = row_at(bytes, B_OFFSET);
-    let c = row_at(bytes, C_OFFSET);
-    let numbers = [
-        a[0],
-        a[1],
-        a[2],
-        a[3],
-        b[0],
-        b[1],
-        b[2],
-        b[3],
-        c[0],
-        c[1],
-        c[2],
-        c[3],
-    ];
-    Plan {
-        designated: bytes[GRADE_OFFSET],
-        numbers: numbers,
-    }
 }
 
 fn too_large(numbers: PlanNumbers) -> bool
@@ -237,77 +145,6 @@ fn plan_refusal(bytes: &[u8]) -> u8
     }
     let plan = plan_of(bytes);
     table_refusal(plan.table())
-}
-
-// The mark at an offset.
-pub fn mark_at(bytes: &[u8], at: usize) -> Mark
-    requires { ⌜ at + markSize ≤ length (now bytes) ⌝ }
-    ensures { λ r. ⌜ r ≡ markAt (now (bytes .entry)) at ⌝ }
-{
-    let mark = number_at(bytes, at);
-    if mark == 0x5355 {
-        return Mark::UnitMark;
-    }
-    if mark == 0x5244 {
-        return Mark::RedesignationMark;
-    }
-    if mark == 0x424b {
-        return Mark::BreakMark;
-    }
-    Mark::NoMark
-}
-
-// The size of a record by its mark.
-pub fn size_of(mark: Mark) -> usize
-    ensures { λ r. ⌜ r ≡ sizeOf mark ⌝ }
-{
-    match mark {
-        Mark::UnitMark => UNIT_SIZE,
-        Mark::RedesignationMark => REDESIGNATION_SIZE,
-        Mark::BreakMark => MARK_SIZE,
-        Mark::NoMark => MARK_SIZE,
-    }
-}
-
-// 1 for a unit, 0 for any other record.
-pub fn units_in(mark: Mark) -> usize
-    ensures { λ r. ⌜ r ≡ unitsIn mark ⌝ }
-{
-    match mark {
-        Mark::UnitMark => 1,
-        Mark::RedesignationMark => 0,
-        Mark::BreakMark => 0,
-        Mark::NoMark => 0,
-    }
-}
-
-// The unit at an offset, whole.
-pub fn sample_unit_at(bytes: &[u8], at: usize) -> SampleUnit
-    requires { ⌜ at + unitSize ≤ length (now bytes) ⌝ }
-    ensures { λ r. ⌜ r ≡ sampleUnitAt (now (bytes .entry)) at ⌝ }
-{
-    SampleUnit {
-        code: number_at(bytes, at + CODE_OFFSET),
-        critical: number_at(bytes, at + CRITICAL_OFFSET),
-        severe: number_at(bytes, at + SEVERE_OFFSET),
-        major: number_at(bytes, at + MAJOR_OFFSET),
-        minor: number_at(bytes, at + MINOR_OFFSET),
-        prerequisite: bytes[at + PREREQUISITE_OFFSET],
-        recoverable: bytes[at + RECOVERABLE_OFFSET] == 1,
-    }
-}
-
-// The record at an offset, which has its mark and is whole.
-pub fn entry_at(bytes: &[u8], at: usize, mark: Mark) -> Entry
-    requires { ⌜ at + sizeOf mark ≤ length (now bytes) ⌝ }
-    ensures { λ r. ⌜ r ≡ entryOf (now (bytes .entry)) at mark ⌝ }
-{
-    match mark {
-        Mark::UnitMark => Entry::UnitRecord(sample_unit_at(bytes, at)),
-        Mark::RedesignationMark => Entry::Redesignation(bytes[at + GRADE_OFFSET]),
-        Mark::BreakMark => Entry::Break,
-        Mark::NoMark => Entry::Break,
-    }
 }
 
 fn count_too_large(unit: SampleUnit) -> bool

@@ -11,7 +11,7 @@ use lib.Seq.{drop-at}
 use borrow.Author.Tests.{ltb-false}
 use Rattle.units.specs.Conditions.{pick}
 use Rattle.rules.specs.Sheet.{codeGrade}
-use Rattle.sheet.specs.Layout.{unitsBefore, sheetOf}
+use Rattle.layout.specs.Layout.{unitsBefore, sheetOf}
 use Rattle.sheet.specs.Refusals.{verdict}
 use Rattle.sheet.specs.declared.Verdict.{Verdict}
 use Rattle.sheet.specs.declared.Verdict.the-variants.{Accepted, Refused}

@@ -17,9 +17,9 @@ use Rattle.units.specs.Unit.{starting, classFails, classCusum, newCusums, unitF
 use Rattle.rules.specs.StepThree.{designatedIn, inForce, opening, graded}
 use Rattle.units.specs.Unit.{portionGradeOf}
 use Rattle.rules.specs.Sheet.{standingOf, before, recovered, portionGrade, standing, portionGradeWith, worstBefore, codeGrade}
-use Rattle.sheet.specs.Layout.{countsOffset, planOf, markOf, markAt, sizeOf, sampleUnitAt, entryOf, offset, mark, entryAt, unitsIn, unitsBefore, sheetOf}
+use Rattle.layout.specs.Layout.{countsOffset, planOf, markOf, markAt, sizeOf, sampleUnitAt, entryOf, offset, mark, entryAt, unitsIn, unitsBefore, sheetOf}
 use Rattle.sheet.specs.Refusals.{refusedIf, anyClass, anyNumbers, noPlanRecord, tooLarge, startAboveLimit, smaller, anySmaller, tableRefusal, planRefusal, countTooLarge, unitRefusal, refusalBy, refusalAt, recordRefusal, checkFrom, verdict}
-use Rattle.sheet.specs.declared.Mark.the-variants.{UnitMark, RedesignationMark}
+use Rattle.layout.specs.declared.Mark.the-variants.{UnitMark, RedesignationMark}
 use Rattle.results.specs.Record.{cusumBytes, resultBytes}
 use Rattle.tally.specs.declared.Answer.{Answer}
 use Rattle.tally.specs.Outcome.{resultOf, bytesBy, written, anyTooLarge, overfullBy, overfullBefore, Outcome, acceptance, outcomeBy, outcome}

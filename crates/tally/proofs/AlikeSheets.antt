@@ -13,10 +13,10 @@ use Rattle.encoding.specs.Bytes.{byte, number}
 use Rattle.units.specs.declared.Plan.{Plan}
 use Rattle.rules.specs.declared.Entry.{Entry}
 use Rattle.rules.proofs.SideBySide.{UnitBelow, Below, NoRedesignation}
-use Rattle.sheet.specs.Layout.{planSize, tableOffset, planNumbersSize, cells, countsOffset, kinds, prerequisiteOffset, unitSize, planOf, markOf, markAt, sizeOf, sampleUnitAt, entryOf, offset, mark, entryAt}
-use Rattle.sheet.specs.declared.Mark.{Mark}
-use Rattle.sheet.specs.declared.Mark.the-variants.{UnitMark, RedesignationMark, BreakMark, NoMark}
-use Rattle.sheet.proofs.Offsets.{size-ge, offset-lt, offset-ge}
+use Rattle.layout.specs.Layout.{planSize, tableOffset, planNumbersSize, cells, countsOffset, kinds, prerequisiteOffset, unitSize, planOf, markOf, markAt, sizeOf, sampleUnitAt, entryOf, offset, mark, entryAt}
+use Rattle.layout.specs.declared.Mark.{Mark}
+use Rattle.layout.specs.declared.Mark.the-variants.{UnitMark, RedesignationMark, BreakMark, NoMark}
+use Rattle.layout.proofs.Offsets.{size-ge, offset-lt, offset-ge}
 use Rattle.sheet.proofs.Accepted.{Facts}
 use Rattle.tally.specs.Demand3.{recordsIn, UnitAt, InCount, Alike}
 use Rattle.tally.proofs.Recorded.{inside-unit, inside-redesignation}

@@ -11,7 +11,7 @@ use Rattle.encoding.specs.Bytes.{byte}
 use Rattle.units.specs.Words.{tableOf}
 use Rattle.units.specs.Conditions.{pick}
 use Rattle.rules.specs.Sheet.{codeGrade}
-use Rattle.sheet.specs.Layout.{planSize, planOf, unitsBefore, sheetOf}
+use Rattle.layout.specs.Layout.{planSize, planOf, unitsBefore, sheetOf}
 use Rattle.sheet.specs.Refusals.{verdict, anyNumbers}
 use Rattle.sheet.specs.declared.Verdict.the-variants.{Accepted}
 use Rattle.sheet.proofs.Rows.{plan-whole}

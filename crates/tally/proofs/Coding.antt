@@ -15,9 +15,9 @@ use Rattle.units.specs.Words.{worse, substandard}
 use Rattle.rules.specs.Sheet.{Sheet, portionGrade, portionGradeWith, worstBefore, codeGrade}
 use Rattle.units.specs.declared.SampleUnit.{SampleUnit}
 use Rattle.rules.proofs.Grades.{portion-at-most}
-use Rattle.sheet.specs.Layout.{sampleUnitAt, entryOf, offset, mark, entryAt, unitsIn, unitsBefore, sheetOf}
-use Rattle.sheet.specs.declared.Mark.{Mark}
-use Rattle.sheet.specs.declared.Mark.the-variants.{UnitMark, RedesignationMark, BreakMark, NoMark}
+use Rattle.layout.specs.Layout.{sampleUnitAt, entryOf, offset, mark, entryAt, unitsIn, unitsBefore, sheetOf}
+use Rattle.layout.specs.declared.Mark.{Mark}
+use Rattle.layout.specs.declared.Mark.the-variants.{UnitMark, RedesignationMark, BreakMark, NoMark}
 use Rattle.sheet.proofs.Accepted.{Facts}
 use Rattle.sheet.proofs.Ranges.{designated-le}
 use Rattle.results.specs.Record.{resultSize, codeOffset, portionGradeOffset, codeGradeOffset, resultBytes, codeIn, portionGradeIn, codeGradeIn}

@@ -9,7 +9,7 @@ use lib.IntN.{pos}
 use Rattle.rules.specs.Sheet.{Sheet}
 use Rattle.rules.specs.Anchor.{Anchor, opening, restart, failure}
 use Rattle.rules.proofs.Anchors.{Found, found, largest-form-by-place}
-use Rattle.sheet.specs.Layout.{sampleUnitAt, offset, sheetOf}
+use Rattle.layout.specs.Layout.{sampleUnitAt, offset, sheetOf}
 use Rattle.tally.specs.Demand3.{sheetIn, AnchorAt, Demand3First}
 use Rattle.tally.proofs.Recorded.{entry-unit, recorded-cusum}
 

@@ -18,7 +18,7 @@ use Rattle.units.specs.declared.SampleUnit.{SampleUnit}
 use Rattle.rules.specs.declared.Entry.{Entry}
 use Rattle.rules.specs.declared.Entry.the-variants.{UnitRecord, Redesignation, Break}
 use Rattle.rules.proofs.Grades.{class-cusum-le}
-use Rattle.sheet.specs.Layout.{planOf, sheetOf}
+use Rattle.layout.specs.Layout.{planOf, sheetOf}
 use Rattle.sheet.specs.Refusals.{largestPlanNumber, anyClass, anyNumbers}
 use Rattle.sheet.proofs.Accepted.{Facts}
 use Rattle.sheet.proofs.Ranges.{limits-in-range}

@@ -22,9 +22,9 @@ use Rattle.units.specs.declared.SampleUnit.{SampleUnit}
 use Rattle.rules.specs.declared.Entry.the-variants.{UnitRecord}
 use Rattle.rules.proofs.LargestForm.{at-class}
 use Rattle.rules.proofs.Grades.{class-cusum-le, NewGrade, portion-at-most, code-grade-at-most}
-use Rattle.sheet.specs.Layout.{sampleUnitAt, entryOf, offset, mark, entryAt, unitsBefore, sheetOf}
-use Rattle.sheet.specs.declared.Mark.{Mark}
-use Rattle.sheet.specs.declared.Mark.the-variants.{UnitMark, RedesignationMark, BreakMark, NoMark}
+use Rattle.layout.specs.Layout.{sampleUnitAt, entryOf, offset, mark, entryAt, unitsBefore, sheetOf}
+use Rattle.layout.specs.declared.Mark.{Mark}
+use Rattle.layout.specs.declared.Mark.the-variants.{UnitMark, RedesignationMark, BreakMark, NoMark}
 use Rattle.sheet.proofs.Rows.{or-first, or-second}
 use Rattle.sheet.proofs.Accepted.{Facts}
 use Rattle.sheet.proofs.Past.{past-mark}

@@ -14,8 +14,8 @@ use Rattle.rules.specs.Anchor.{failureAt}
 use Rattle.rules.specs.TwoInARow.{secondInARow}
 use Rattle.units.specs.declared.SampleUnit.{SampleUnit}
 use Rattle.rules.proofs.SideBySide.{Below, NoRedesignation, not-second, second, fewer-cusums, fewer-grades}
-use Rattle.sheet.specs.Layout.{planOf, sampleUnitAt, offset, mark, entryAt, sheetOf}
-use Rattle.sheet.specs.declared.Mark.the-variants.{UnitMark}
+use Rattle.layout.specs.Layout.{planOf, sampleUnitAt, offset, mark, entryAt, sheetOf}
+use Rattle.layout.specs.declared.Mark.the-variants.{UnitMark}
 use Rattle.sheet.proofs.Accepted.{Facts}
 use Rattle.sheet.proofs.Past.{past-entry}
 use Rattle.sheet.proofs.Ranges.{designated-le}

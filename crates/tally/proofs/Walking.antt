@@ -12,11 +12,11 @@ use Rattle.rules.specs.StepThree.{opening, graded, recordEndsStepThree, next}
 use Rattle.rules.specs.Sheet.{before, gradedAt, stepThreeEndsAt}
 use Rattle.rules.specs.declared.State.{State}
 use Rattle.units.specs.declared.SampleUnit.{SampleUnit}
-use Rattle.sheet.specs.Layout.{planSize, planOf, markAt, sizeOf, entryOf, offset, entryAt, unitsIn, unitsBefore, sheetOf}
+use Rattle.layout.specs.Layout.{planSize, planOf, markAt, sizeOf, entryOf, offset, entryAt, unitsIn, unitsBefore, sheetOf}
 use Rattle.sheet.specs.Refusals.{verdict}
 use Rattle.sheet.specs.declared.Verdict.the-variants.{Accepted}
 use Rattle.sheet.proofs.Accepted.{Facts, facts}
-use Rattle.sheet.proofs.Offsets.{size-ge, units-before-le, offset-ge}
+use Rattle.layout.proofs.Offsets.{size-ge, units-before-le, offset-ge}
 use Rattle.sheet.proofs.Past.{past-entry}
 use Rattle.tally.specs.declared.Position.{Position}
 use Rattle.tally.specs.Position.{positionAt, Walk}

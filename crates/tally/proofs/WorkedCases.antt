@@ -17,7 +17,7 @@ use Rattle.units.specs.Unit.{starting, admits, withinTolerance, allZero, classF
 use Rattle.rules.specs.StepThree.{designatedIn, inForce, afterDesignated, endsStepThree, afterStepThree, phaseAfterUnit, unitEndsStepThree, unitStartsStepThree, unitRestarts, opening, graded, phaseAfter, recordEndsStepThree, restarts, cusumsAfter, stateWith, next}
 use Rattle.units.specs.Unit.{portionGradeOf}
 use Rattle.rules.specs.Sheet.{standingOf, before, stepThreeEndsAt, inFinishedRun, recovered, portionGrade, standing, portionGradeWith, worstBefore, codeGrade}
-use Rattle.sheet.specs.Layout.{planOf, markOf, markAt, sizeOf, sampleUnitAt, entryOf, offset, entryAt, unitsIn, unitsBefore, sheetOf}
+use Rattle.layout.specs.Layout.{planOf, markOf, markAt, sizeOf, sampleUnitAt, entryOf, offset, entryAt, unitsIn, unitsBefore, sheetOf}
 use Rattle.sheet.specs.Refusals.{refusedIf, anyClass, anyNumbers, noPlanRecord, tooLarge, startAboveLimit, smaller, anySmaller, tableRefusal, planRefusal, countTooLarge, unitRefusal, refusalBy, refusalAt, recordRefusal, checkFrom, verdict}
 use Rattle.sheet.specs.declared.Verdict.the-variants.{Accepted}
 use Rattle.results.specs.Record.{resultSize, cusumBytes, resultBytes}

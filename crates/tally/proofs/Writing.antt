@@ -19,9 +19,9 @@ use Rattle.units.specs.declared.SampleUnit.{SampleUnit}
 use Rattle.rules.specs.declared.Entry.{Entry}
 use Rattle.rules.specs.declared.Entry.the-variants.{UnitRecord, Redesignation, Break}
 use Rattle.rules.proofs.FinishedRun.{FinishedRun, finished-run}
-use Rattle.sheet.specs.Layout.{unitSize, sizeOf, sampleUnitAt, offset, mark, entryOf, entryAt, unitsIn, unitsBefore, sheetOf}
-use Rattle.sheet.specs.declared.Mark.{Mark}
-use Rattle.sheet.specs.declared.Mark.the-variants.{UnitMark, RedesignationMark, BreakMark, NoMark}
+use Rattle.layout.specs.Layout.{unitSize, sizeOf, sampleUnitAt, offset, mark, entryOf, entryAt, unitsIn, unitsBefore, sheetOf}
+use Rattle.layout.specs.declared.Mark.{Mark}
+use Rattle.layout.specs.declared.Mark.the-variants.{UnitMark, RedesignationMark, BreakMark, NoMark}
 use Rattle.sheet.proofs.Accepted.{Facts}
 use Rattle.sheet.proofs.Ranges.{units-most}
 use Rattle.results.specs.Record.{resultSize, resultBytes}

@@ -12,9 +12,9 @@ use Rattle.units.specs.Words.{classes, hasPlan, numbersOf}
 use Rattle.rules.specs.Sheet.{Sheet, inForceAt}
 use Rattle.rules.specs.Anchor.{failureAt, countsFrom, Anchor, Latest, anchorValue}
 use Rattle.rules.specs.TwoInARow.{secondInARow}
-use Rattle.sheet.specs.Layout.{countsOffset, countOffset, kinds, prerequisiteOffset, offset, mark, unitsBefore, sheetOf}
+use Rattle.layout.specs.Layout.{countsOffset, countOffset, kinds, prerequisiteOffset, offset, mark, unitsBefore, sheetOf}
 use Rattle.sheet.specs.Refusals.{verdict}
-use Rattle.sheet.specs.declared.Mark.the-variants.{UnitMark, RedesignationMark}
+use Rattle.layout.specs.declared.Mark.the-variants.{UnitMark, RedesignationMark}
 use Rattle.sheet.specs.declared.Verdict.{Verdict}
 use Rattle.sheet.specs.declared.Verdict.the-variants.{Accepted, Refused}
 use Rattle.results.specs.Record.{cusumIn, portionGradeIn, codeGradeIn}

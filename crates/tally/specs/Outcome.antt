@@ -13,7 +13,7 @@ use Rattle.rules.specs.Sheet.{Sheet, inForceAt, gradedAt, portionGrade, standin
 use Rattle.units.specs.declared.SampleUnit.{SampleUnit}
 use Rattle.rules.specs.declared.Entry.{Entry}
 use Rattle.rules.specs.declared.Entry.the-variants.{UnitRecord, Redesignation, Break}
-use Rattle.sheet.specs.Layout.{sheetOf}
+use Rattle.layout.specs.Layout.{sheetOf}
 use Rattle.sheet.specs.Refusals.{verdict}
 use Rattle.sheet.specs.declared.Verdict.{Verdict}
 use Rattle.sheet.specs.declared.Verdict.the-variants.{Accepted, Refused}

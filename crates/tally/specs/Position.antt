@@ -4,7 +4,7 @@ use mathlib.Core.Path.{_≡_}
 use mathlib.Core.List.{List}
 use Rattle.units.specs.Words.{Table, tableOf}
 use Rattle.rules.specs.Sheet.{before}
-use Rattle.sheet.specs.Layout.{planOf, offset, unitsBefore, sheetOf}
+use Rattle.layout.specs.Layout.{planOf, offset, unitsBefore, sheetOf}
 use Rattle.sheet.specs.Refusals.{verdict}
 use Rattle.sheet.specs.declared.Verdict.the-variants.{Accepted}
 use Rattle.tally.specs.declared.Position.{Position}

@@ -12,7 +12,7 @@ use Rattle.rules.specs.Sheet.{Sheet, before, designatedAt, inForceAt, gradedAt,
 use Rattle.units.specs.declared.SampleUnit.{SampleUnit}
 use Rattle.rules.specs.declared.Entry.{Entry}
 use Rattle.rules.specs.declared.Entry.the-variants.{UnitRecord, Redesignation, Break}
-use Rattle.sheet.specs.Layout.{unitSize, sampleUnitAt, unitsBefore, sheetOf}
+use Rattle.layout.specs.Layout.{unitSize, sampleUnitAt, unitsBefore, sheetOf}
 use Rattle.sheet.specs.Refusals.{mostUnits}
 use Rattle.results.specs.Record.{resultSize, portionGradeOffset, standingOffset, resultBytes}
 use Rattle.results.specs.Codes.{ungraded}

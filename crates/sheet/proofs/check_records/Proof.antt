@@ -4,9 +4,9 @@ use Prim.Native.Nat.{_-_}
 use native.Mathlib.Omega.{arith}
 use lib.ListN.{length}
 use mathlib.Core.Path.{ap}
-use Rattle.sheet.specs.Layout.{markAt}
+use Rattle.layout.specs.Layout.{markAt}
 use Rattle.sheet.specs.declared.Place.{Place}
-use Rattle.sheet.proofs.Offsets.{size-ge}
+use Rattle.layout.proofs.Offsets.{size-ge}
 use Rattle.sheet.proofs.Checking.{Stands, stands-first, few-units, few-records, stands-done, stands-refused, stands-whole, stands-on}
 use Rattle.sheet.proofs.check_records.Statement.{statement}
 use Rattle.sheet.proofs.check_records.Tie as tie

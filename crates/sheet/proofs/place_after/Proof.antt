@@ -2,8 +2,8 @@
 -- The sums fit: there are no more units than records, and no more records than bytes.
 use native.Mathlib.Omega.{arith}
 use mathlib.Core.Path.{ap}
-use Rattle.sheet.specs.Layout.{markAt, sizeOf}
-use Rattle.sheet.proofs.Offsets.{size-ge, units-in-le}
+use Rattle.layout.specs.Layout.{markAt, sizeOf}
+use Rattle.layout.proofs.Offsets.{size-ge, units-in-le}
 use borrow.Author.Needs.{needs}
 use Rattle.sheet.proofs.place_after.Statement.{statement}
 use Rattle.sheet.proofs.place_after.Tie as tie

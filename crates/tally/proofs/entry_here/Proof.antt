@@ -3,8 +3,8 @@
 use mathlib.Core.Path.{_∙_, ap, subst⁻¹}
 use Prim.Native.Nat.{_+_, _≤_}
 use lib.ListN.{length}
-use Rattle.sheet.specs.Layout.{sizeOf, entryOf}
-use Rattle.sheet.specs.declared.Mark.{Mark}
+use Rattle.layout.specs.Layout.{sizeOf, entryOf}
+use Rattle.layout.specs.declared.Mark.{Mark}
 use Rattle.tally.proofs.Walking.{mark-here, whole-here, entry-is}
 use Rattle.tally.proofs.entry_here.Statement.{statement}
 use Rattle.tally.proofs.entry_here.Tie as tie

@@ -2,8 +2,8 @@
 -- The return follows from what the callees promise.
 use mathlib.Core.Path.{ap}
 use native.Mathlib.Omega.{arith}
-use Rattle.sheet.specs.Layout.{sizeOf, unitsIn, markAt}
-use Rattle.sheet.proofs.Offsets.{units-in-le}
+use Rattle.layout.specs.Layout.{sizeOf, unitsIn, markAt}
+use Rattle.layout.proofs.Offsets.{units-in-le}
 use Rattle.tally.proofs.Walking.{mark-here, whole-here, entry-is, units-small, advanced}
 use borrow.Author.Needs.{needs}
 use Rattle.tally.proofs.past.Statement.{statement}

@@ -7,7 +7,7 @@ use native.Mathlib.Omega.{arith}
 use lib.ListN.{length}
 use lib.Seq.{length-sets}
 use Rattle.rules.specs.StepThree.{next, phaseAfter, restarts, cusumsAfter}
-use Rattle.sheet.specs.Layout.{sheetOf}
+use Rattle.layout.specs.Layout.{sheetOf}
 use Rattle.results.specs.Record.{resultBytes}
 use Rattle.results.specs.Codes.{ungraded}
 use Rattle.tally.specs.Writing.{resultIf, twoRecovered}

@@ -1,8 +1,8 @@
 -- `units_in` is `unitsIn`, by cases on the mark.
-use Rattle.sheet.specs.Layout.{unitsIn}
+use Rattle.layout.specs.Layout.{unitsIn}
 use borrow.Author.Needs.{needs}
-use Rattle.sheet.proofs.units_in.Statement.{statement}
-use Rattle.sheet.proofs.units_in.Tie as tie
+use Rattle.layout.proofs.units_in.Statement.{statement}
+use Rattle.layout.proofs.units_in.Tie as tie
 
 enum-told : tie.Need-enum-told
 enum-told c = search needs

@@ -4,7 +4,7 @@ use Prim.Native.Nat.{_+_, _*_}
 use mathlib.Core.Path.{_≡_, refl}
 use lib.ListN.{length}
 use Rattle.units.specs.Words.{plannedGrades, classes}
-use Rattle.sheet.specs.Layout.{markSize, planNumbersSize, rowSize, gradeOffset, planSize, tableOffset, unitSize, codeOffset, kinds, countsOffset, prerequisiteOffset, recoverableOffset, redesignationSize, cells}
+use Rattle.layout.specs.Layout.{markSize, planNumbersSize, rowSize, gradeOffset, planSize, tableOffset, unitSize, codeOffset, kinds, countsOffset, prerequisiteOffset, recoverableOffset, redesignationSize, cells}
 
 record Sizes : Type 0 where
   row : rowSize ≡ planNumbersSize * length classes

@@ -1,9 +1,9 @@
--- `sheet::row_at` meets its contract: the numbers of each class by what the callee promises.
+-- `layout::row_at` meets its contract: the numbers of each class by what the callee promises.
 -- Assumes nothing.
 use native.Mathlib.Nat.{add-zero}
 use borrow.Author.Needs.{needs}
-use Rattle.sheet.proofs.row_at.Statement.{statement}
-use Rattle.sheet.proofs.row_at.Tie as tie
+use Rattle.layout.proofs.row_at.Statement.{statement}
+use Rattle.layout.proofs.row_at.Tie as tie
 
 plan-numbers-at-requires : tie.Need-plan-numbers-at-requires
 plan-numbers-at-requires c κs = search needs

@@ -1,8 +1,8 @@
 -- `sample_unit_at` is `sampleUnitAt`, from what `number_at` ensures of each number.
-use Rattle.sheet.specs.Layout.{sampleUnitAt}
+use Rattle.layout.specs.Layout.{sampleUnitAt}
 use borrow.Author.Needs.{needs}
-use Rattle.sheet.proofs.sample_unit_at.Statement.{statement}
-use Rattle.sheet.proofs.sample_unit_at.Tie as tie
+use Rattle.layout.proofs.sample_unit_at.Statement.{statement}
+use Rattle.layout.proofs.sample_unit_at.Tie as tie
 
 add-number-at : tie.Need-add-number-at
 add-number-at c = search needs

@@ -1,8 +1,8 @@
 -- `size_of` is `sizeOf`, by cases on the mark.
-use Rattle.sheet.specs.Layout.{sizeOf}
+use Rattle.layout.specs.Layout.{sizeOf}
 use borrow.Author.Needs.{needs}
-use Rattle.sheet.proofs.size_of.Statement.{statement}
-use Rattle.sheet.proofs.size_of.Tie as tie
+use Rattle.layout.proofs.size_of.Statement.{statement}
+use Rattle.layout.proofs.size_of.Tie as tie
 
 enum-told : tie.Need-enum-told
 enum-told c = search needs

@@ -1,7 +1,7 @@
 -- `plan_numbers_at` reads S, T and L, from what `number_at` ensures of each.
 use borrow.Author.Needs.{needs}
-use Rattle.sheet.proofs.plan_numbers_at.Statement.{statement}
-use Rattle.sheet.proofs.plan_numbers_at.Tie as tie
+use Rattle.layout.proofs.plan_numbers_at.Statement.{statement}
+use Rattle.layout.proofs.plan_numbers_at.Tie as tie
 
 number-at-requires : tie.Need-number-at-requires
 number-at-requires c κs = search needs

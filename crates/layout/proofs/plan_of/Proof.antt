@@ -1,8 +1,8 @@
 -- `plan_of` is `planOf`: its cells are those of the three rows, which stand one after the other.
-use Rattle.sheet.specs.Layout.{planOf}
+use Rattle.layout.specs.Layout.{planOf}
 use borrow.Author.Needs.{needs}
-use Rattle.sheet.proofs.plan_of.Statement.{statement}
-use Rattle.sheet.proofs.plan_of.Tie as tie
+use Rattle.layout.proofs.plan_of.Statement.{statement}
+use Rattle.layout.proofs.plan_of.Tie as tie
 
 row-at-requires : tie.Need-row-at-requires
 row-at-requires c κs = search needs

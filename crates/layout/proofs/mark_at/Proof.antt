@@ -1,10 +1,10 @@
 -- `mark_at` is `markAt`: the marks are tested one after the other, as `markOf` picks them.
 use borrow.Author.Tests.{eq-eqb, ne-eqb}
 use Rattle.units.specs.Conditions.{pick}
-use Rattle.sheet.specs.Layout.{markAt, markOf}
+use Rattle.layout.specs.Layout.{markAt, markOf}
 use borrow.Author.Needs.{needs}
-use Rattle.sheet.proofs.mark_at.Statement.{statement}
-use Rattle.sheet.proofs.mark_at.Tie as tie
+use Rattle.layout.proofs.mark_at.Statement.{statement}
+use Rattle.layout.proofs.mark_at.Tie as tie
 
 number-at-requires : tie.Need-number-at-requires
 number-at-requires c κs = search needs

@@ -1,10 +1,10 @@
 -- `entry_at` is `entryOf`, by cases on the mark; the record is whole, so every byte read is inside the sheet.
 use native.Mathlib.Omega.{arith}
 use mathlib.Core.Path.{ap}
-use Rattle.sheet.specs.Layout.{sizeOf, entryOf}
+use Rattle.layout.specs.Layout.{sizeOf, entryOf}
 use borrow.Author.Needs.{needs}
-use Rattle.sheet.proofs.entry_at.Statement.{statement}
-use Rattle.sheet.proofs.entry_at.Tie as tie
+use Rattle.layout.proofs.entry_at.Statement.{statement}
+use Rattle.layout.proofs.entry_at.Tie as tie
 
 enum-told : tie.Need-enum-told
 enum-told c = search needs

@@ -7,9 +7,9 @@ use mathlib.Core.List.{List}
 use native.Mathlib.Nat.{eq-or-lt-of-le, le-of-suc-le-suc}
 use native.Mathlib.Omega.{arith}
 use lib.Dec.{lit<}
-use Rattle.sheet.specs.Layout.{planSize, sizeOf, offset, mark, unitsIn, unitsBefore}
-use Rattle.sheet.specs.declared.Mark.{Mark}
-use Rattle.sheet.specs.declared.Mark.the-variants.{UnitMark, RedesignationMark, BreakMark, NoMark}
+use Rattle.layout.specs.Layout.{planSize, sizeOf, offset, mark, unitsIn, unitsBefore}
+use Rattle.layout.specs.declared.Mark.{Mark}
+use Rattle.layout.specs.declared.Mark.the-variants.{UnitMark, RedesignationMark, BreakMark, NoMark}
 
 pub size-ge : (m : Mark) → 2 ≤ sizeOf m
 unfolding sizeOf

@@ -1,0 +1,2 @@
+pub mod Offsets
+mod Sizes
