@@ -44,7 +44,7 @@ extern "C" {
 #define HATMUYON_BREAK_SIZE 2
 #define HATMUYON_RESULT_SIZE 16
 
-/* The largest numbers on a sheet. A result buffer for any sheet has
+/* The most units, and the largest count, S, T and L, of a sheet. A result buffer for any sheet has
  * HATMUYON_RESULT_SIZE * HATMUYON_MOST_UNITS bytes. */
 #define HATMUYON_MOST_UNITS 1000
 #define HATMUYON_LARGEST_COUNT 2000

@@ -45,7 +45,7 @@ unitSize = 14
 abbrev pub codeOffset : ℕ
 codeOffset = 2
 
--- how many counts a unit has: of critical, severe, major and minor
+-- the kinds of counts of a unit, in this order: critical, severe, major, minor
 abbrev pub kinds : ℕ
 kinds = 4
 
@@ -78,7 +78,7 @@ rowAt bytes at = map (λ class. planNumbersAt bytes (at + planNumbersSize * clas
 abbrev pub cells : List ℕ
 cells = 0 ∷ 1 ∷ 2 ∷ 3 ∷ 4 ∷ 5 ∷ 6 ∷ 7 ∷ 8 ∷ 9 ∷ 10 ∷ 11 ∷ []
 
--- the plan of a sheet: its designated grade (A, B or C, else number 2), and its table
+-- the plan of a sheet: its designated grade (A, B or C; any other is refused with number 2), and its table
 unfoldable pub planOf : List ℕ → Plan
 planOf bytes =
     record { designated = byte bytes gradeOffset; numbers = map (λ cell. planNumbersAt bytes (tableOffset + planNumbersSize * cell)) cells }

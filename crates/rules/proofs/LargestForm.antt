@@ -112,7 +112,7 @@ at-class f (suc (suc (suc (suc k)))) h = absurd (omega arith)
 
 -- ---- the CuSum is what a run of steps from the anchor gives
 
--- a value of a class at its numbers: reached from the anchor by the counts since it, none of which failed
+-- a value of a class under its S, T and L: reached from the anchor by the counts since it, none of which failed
 abbrev Reached : PlanNumbers → ℕ → Trail → Type 0
 Reached numbers value trail =
     (value ≡ after numbers (anchorValue numbers (trail .failed)) (trail .counts)) × Meets numbers (anchorValue numbers (trail .failed)) (trail .counts)

@@ -21,6 +21,10 @@ use Rattle.rules.specs.declared.Phase.{Phase}
 use Rattle.rules.specs.declared.Phase.the-variants.{Designated, StepThree}
 use Rattle.rules.specs.declared.State.{State}
 
+unfoldable pub inStepThree : Phase → Bool
+inStepThree (Designated designated previous) = false
+inStepThree (StepThree designated lower run) = true
+
 -- ---- what the phase remembers of the record just before
 
 -- outside step 3 a failure is remembered exactly if that record is a unit that failed the designated plan
@@ -72,12 +76,38 @@ module _ (sheet : Sheet) where
   second-by (StepThree designated lower run) cusums true unit any = refl
   second-by (StepThree designated lower run) cusums false unit any = refl
 
+  -- step 3 begins behind a unit exactly if it is the second of two in a row that fail
   pub starts-at-second : (i : ℕ) (unit : SampleUnit) → sheet .entry i ≡ UnitRecord unit
       → unitStartsStepThree (before sheet i .phase) (gradedAt sheet i unit) ≡ secondInARow sheet i
   unfolding secondInARow failedUnit
   starts-at-second i unit is-unit =
       second-by (before sheet i .phase) (before sheet i .cusums) (failedBefore sheet i) unit (remembered i)
       ∙ ap (λ (entry : Entry). failedBefore sheet i && failsDesignated (sheet .table) (before sheet i .phase) (before sheet i .cusums) entry) (sym is-unit)
+
+  -- ---- nowhere else
+
+  stays-by : (phase : Phase) (cusums : List Cusum) (entry : Entry) (failed : Bool) → Remembers phase failed → inStepThree phase ≡ false
+      → (failed && failsDesignated (sheet .table) phase cusums entry) ≡ false
+      → inStepThree (phaseAfter (sheet .table) (record { phase = phase; cusums = cusums }) entry) ≡ false
+  unfolding Remembers inStepThree failsDesignated phaseAfter phaseAfterUnit phaseAfterRedesignation phaseAfterBreak afterDesignated graded inForce
+  stays-by (Designated designated NoFailure) cusums (UnitRecord unit) failed none out other = go (unitFails (sheet .table) designated cusums (countsOf unit))
+    where
+      go : (fails : Bool) → inStepThree (afterDesignated designated NoFailure fails (graded (sheet .table) (record { phase = Designated designated NoFailure; cusums = cusums }) unit .grade)) ≡ false
+      go true = refl
+      go false = refl
+  stays-by (Designated designated (Failure earlier)) cusums (UnitRecord unit) failed one out other =
+      let meets : unitFails (sheet .table) designated cusums (countsOf unit) ≡ false =
+      sym (ap (λ (b : Bool). b && unitFails (sheet .table) designated cusums (countsOf unit)) one) ∙ other in
+      rw meets
+  stays-by (Designated designated previous) cusums (Redesignation new) failed any out other = refl
+  stays-by (Designated designated previous) cusums Break failed any out other = refl
+  stays-by (StepThree designated lower run) cusums entry failed any out other = absurd (false≢true (sym out))
+
+  -- outside step 3 it does not begin behind any other record
+  pub stays-out : (i : ℕ) → inStepThree (before sheet i .phase) ≡ false → secondInARow sheet i ≡ false
+      → inStepThree (before sheet (suc i) .phase) ≡ false
+  unfolding before next stateWith secondInARow failedUnit
+  stays-out i out other = stays-by (before sheet i .phase) (before sheet i .cusums) (sheet .entry i) (failedBefore sheet i) (remembered i) out other
 
   -- ---- the lower grade
 
@@ -114,6 +144,7 @@ module _ (sheet : Sheet) where
   first-fails (Designated designated previous) old new first second fails = rw fails (after-first designated previous _ new second)
   first-fails (StepThree designated lower run) old new first second fails = absurd (false≢true fails)
 
+  -- behind such a second unit the phase is step 3 at the worse of the two defect grades, with no run
   pub lower-is-worse : (i : ℕ) (first second : SampleUnit) → sheet .entry i ≡ UnitRecord first → sheet .entry (suc i) ≡ UnitRecord second
       → secondInARow sheet (suc i) ≡ true
       → before sheet (suc (suc i)) .phase

@@ -49,7 +49,8 @@ module _ (sheet : Sheet) where
   stepThreeEndsAt i = recordEndsStepThree (sheet .table) (before i) (sheet .entry i)
 
   -- record i is one of the three qualifying units in a row at whose last step 3 ends: that last one is record i, i + 1 or i + 2, as
-  -- the three stand side by side: a break, a redesignation or a unit that does not qualify sets the run to none (laws `finished-run`, `in-run` and `run-in`)
+  -- the three stand side by side, since a break, a redesignation and a unit that does not qualify set the run to none (laws
+  -- `finished-run`, `in-run` and `run-in`)
   unfoldable pub inFinishedRun : ℕ → Bool
   inFinishedRun i = stepThreeEndsAt i || (stepThreeEndsAt (i + 1) || stepThreeEndsAt (i + 2))
 

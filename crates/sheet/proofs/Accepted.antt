@@ -1,4 +1,4 @@
--- What a verdict says: an accepted sheet's records fill it, and none is refused; a refusal is the first row met, and never 0.
+-- What a verdict says: an accepted sheet's records fill it, and none is refused; a refusal is the first ground met, and never 0.
 -- By induction on the steps of `checkFrom`, of which the sheet's length is always enough.
 use Prim.Native.Nat.{ℕ, zero, suc, _+_, _≤_, _<_}
 use mathlib.Core.Path.{_≡_, refl, subst}
@@ -16,7 +16,7 @@ use Rattle.sheet.specs.Refusals.{planRefusal, designatedBefore, recordRe
 use Rattle.sheet.specs.declared.Verdict.{Verdict}
 use Rattle.sheet.specs.declared.Verdict.the-variants.{Accepted, Refused}
 use Rattle.layout.proofs.Offsets.{offset-lt, offset-ge}
-use Rattle.sheet.proofs.Rows.{plan-whole, whole-at}
+use Rattle.sheet.proofs.Grounds.{plan-whole, whole-at}
 
 -- ---- the records
 

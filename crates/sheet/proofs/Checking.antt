@@ -15,7 +15,7 @@ use Rattle.sheet.specs.Refusals.{refusalAt, designatedBy, designatedBefo
 use Rattle.sheet.specs.declared.Verdict.the-variants.{Accepted, Refused}
 use Rattle.sheet.specs.declared.Place.{Place}
 use Rattle.layout.proofs.Offsets.{offset-ge, units-before-le}
-use Rattle.sheet.proofs.Rows.{whole-at}
+use Rattle.sheet.proofs.Grounds.{whole-at}
 
 -- ---- one step of `checkFrom`
 

@@ -1,4 +1,4 @@
-pub mod Rows
+pub mod Grounds
 pub mod Checking
 pub mod Accepted
 pub mod Past

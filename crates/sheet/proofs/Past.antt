@@ -16,7 +16,7 @@ use Rattle.sheet.specs.Refusals.{refusalBy, refusalAt, designatedBefore,
 use Rattle.layout.specs.declared.Mark.{Mark}
 use Rattle.layout.specs.declared.Mark.the-variants.{NoMark}
 use Rattle.layout.proofs.Offsets.{offset-lt}
-use Rattle.sheet.proofs.Rows.{row-passed}
+use Rattle.sheet.proofs.Grounds.{ground-passed}
 use Rattle.sheet.proofs.Accepted.{Facts}
 
 past-byte : (bytes : List ℕ) (at : ℕ) → length bytes ≤ at → byte bytes at ≡ 0
@@ -41,10 +41,10 @@ module _ (bytes : List ℕ) (n : ℕ) (facts : Facts bytes n) where
   unfolding entryAt entryOf
   past-entry i h = rw (past-mark i h)
 
-  -- the rows of a record by its mark, none of which is met
+  -- the grounds of a record by its mark, none of which is met
   pub passed-by : (j : ℕ) → j < n → refusalBy bytes (offset bytes j) (unitsBefore bytes j) (designatedBefore bytes j) (mark bytes j) ≡ 0
   unfolding recordRefusal refusalAt
-  passed-by j h = row-passed _ 6 _ (lit< tt) (facts .within j h .1) .1
+  passed-by j h = ground-passed _ 6 _ (lit< tt) (facts .within j h .1) .1
 
   pub passed-as : (m : Mark) (j : ℕ) → j < n → mark bytes j ≡ m
       → refusalBy bytes (offset bytes j) (unitsBefore bytes j) (designatedBefore bytes j) m ≡ 0

@@ -1,5 +1,5 @@
 -- The ranges of the numbers on an accepted sheet: the plan's, the units' and the designated grades.
--- From the rows that are not met, one by one; the number of units and the designated grades by induction on the records.
+-- From the grounds that are not met, one by one; the number of units and the designated grades by induction on the records.
 use Prim.Native.Nat.{ℕ, zero, suc, _+_, _≤_, _<_}
 use mathlib.Core.Path.{_≡_, refl}
 use mathlib.Core.Bool.{Bool, false}
@@ -11,19 +11,19 @@ use borrow.Author.Tests.{ltb-false, leb-false, eqb-false}
 use Rattle.cusum.specs.declared.PlanNumbers.{PlanNumbers}
 use Rattle.encoding.specs.Bytes.{byte}
 use Rattle.units.specs.Conditions.{any}
-use Rattle.units.specs.Words.{classes, Table, inClass, rowOf, numbersOf, tableOf}
+use Rattle.units.specs.Words.{plannedGrades, classes, Table, inClass, rowOf, numbersOf, tableOf}
 use Rattle.units.specs.declared.SampleUnit.{SampleUnit}
 use Rattle.layout.specs.Layout.{planOf, sampleUnitAt, mark, entryOf, entryAt, offset, unitsIn, unitsBefore, prerequisiteOffset, recoverableOffset}
 use Rattle.sheet.specs.Refusals.{largestPlanNumber, largestCount, mostUnits, anyClass, anyNumbers, tooLarge, startAboveLimit, tableRefusal, planRefusal, countTooLarge, unitRefusal, redesignationRefusal, refusalBy, designatedBy, designatedBefore}
 use Rattle.layout.specs.declared.Mark.{Mark}
 use Rattle.layout.specs.declared.Mark.the-variants.{UnitMark, RedesignationMark, BreakMark, NoMark}
-use Rattle.sheet.proofs.Rows.{or-first, or-second, row-passed}
+use Rattle.sheet.proofs.Grounds.{or-first, or-second, ground-passed}
 use Rattle.sheet.proofs.Accepted.{Facts}
 use Rattle.sheet.proofs.Past.{passed-as}
 
 -- ---- the plan
 
-pub record LimitsInRange (numbers : PlanNumbers) : Type 0 where
+pub record NumbersInRange (numbers : PlanNumbers) : Type 0 where
   pub start-le : numbers .start ≤ largestPlanNumber
   pub tolerance-le : numbers .tolerance ≤ largestPlanNumber
   pub limit-le : numbers .limit ≤ largestPlanNumber
@@ -39,28 +39,28 @@ none-of condition (x ∷ members) e (suc i) default h =
     none-of condition members (or-second (condition x) (any condition members) e) i default (omega arith)
 
 module _ (condition : PlanNumbers → Bool) where
-  in-no-class : (numbers : List PlanNumbers) → anyClass condition numbers ≡ false → (class : ℕ) → class < 4 → condition (inClass numbers class) ≡ false
+  in-no-class : (row : List PlanNumbers) → anyClass condition row ≡ false → (class : ℕ) → class < 4 → condition (inClass row class) ≡ false
   unfolding anyClass
-  in-no-class numbers e zero h = none-of _ classes e 0 0 (lit< tt)
-  in-no-class numbers e (suc zero) h = none-of _ classes e 1 0 (lit< tt)
-  in-no-class numbers e (suc (suc zero)) h = none-of _ classes e 2 0 (lit< tt)
-  in-no-class numbers e (suc (suc (suc zero))) h = none-of _ classes e 3 0 (lit< tt)
-  in-no-class numbers e (suc (suc (suc (suc class)))) h = absurd (omega arith)
+  in-no-class row e zero h = none-of _ classes e 0 0 (lit< tt)
+  in-no-class row e (suc zero) h = none-of _ classes e 1 0 (lit< tt)
+  in-no-class row e (suc (suc zero)) h = none-of _ classes e 2 0 (lit< tt)
+  in-no-class row e (suc (suc (suc zero))) h = none-of _ classes e 3 0 (lit< tt)
+  in-no-class row e (suc (suc (suc (suc class)))) h = absurd (omega arith)
 
   in-no-grade : (table : Table) → anyNumbers condition table ≡ false → (grade : ℕ) → grade ≤ 2 → anyClass condition (rowOf table grade) ≡ false
   unfolding anyNumbers
-  in-no-grade table e zero h = none-of _ (0 ∷ 1 ∷ 2 ∷ []) e 0 0 (lit< tt)
-  in-no-grade table e (suc zero) h = none-of _ (0 ∷ 1 ∷ 2 ∷ []) e 1 0 (lit< tt)
-  in-no-grade table e (suc (suc zero)) h = none-of _ (0 ∷ 1 ∷ 2 ∷ []) e 2 0 (lit< tt)
+  in-no-grade table e zero h = none-of _ plannedGrades e 0 0 (lit< tt)
+  in-no-grade table e (suc zero) h = none-of _ plannedGrades e 1 0 (lit< tt)
+  in-no-grade table e (suc (suc zero)) h = none-of _ plannedGrades e 2 0 (lit< tt)
   in-no-grade table e (suc (suc (suc grade))) h = absurd (omega arith)
 
-  in-no-limits : (table : Table) → anyNumbers condition table ≡ false
+  in-no-numbers : (table : Table) → anyNumbers condition table ≡ false
       → (grade class : ℕ) → grade ≤ 2 → class < 4 → condition (numbersOf table grade class) ≡ false
-  in-no-limits table e grade class g k = in-no-class (rowOf table grade) (in-no-grade table e grade g) class k
+  in-no-numbers table e grade class g k = in-no-class (rowOf table grade) (in-no-grade table e grade g) class k
 
-limits-passed : (numbers : PlanNumbers) → tooLarge numbers ≡ false → startAboveLimit numbers ≡ false → LimitsInRange numbers
+numbers-passed : (numbers : PlanNumbers) → tooLarge numbers ≡ false → startAboveLimit numbers ≡ false → NumbersInRange numbers
 unfolding tooLarge startAboveLimit
-limits-passed numbers large above =
+numbers-passed numbers large above =
     let rest = or-second (ltb largestPlanNumber (numbers .start)) _ large in
     record {
       start-le = ltb-false largestPlanNumber (numbers .start) (or-first _ _ large);
@@ -70,14 +70,14 @@ limits-passed numbers large above =
     }
 
 table-passed : (table : Table) → tableRefusal table ≡ 0
-    → (grade class : ℕ) → grade ≤ 2 → class < 4 → LimitsInRange (numbersOf table grade class)
+    → (grade class : ℕ) → grade ≤ 2 → class < 4 → NumbersInRange (numbersOf table grade class)
 unfolding tableRefusal
 table-passed table e grade class g k =
-    let (large, rest) = row-passed (anyNumbers tooLarge table) 3 _ (lit< tt) e in
-    let (above, falls) = row-passed (anyNumbers startAboveLimit table) 4 _ (lit< tt) rest in
-    limits-passed (numbersOf table grade class)
-    (in-no-limits tooLarge table large grade class g k)
-    (in-no-limits startAboveLimit table above grade class g k)
+    let (large, rest) = ground-passed (anyNumbers tooLarge table) 3 _ (lit< tt) e in
+    let (above, smaller-rest) = ground-passed (anyNumbers startAboveLimit table) 4 _ (lit< tt) rest in
+    numbers-passed (numbersOf table grade class)
+    (in-no-numbers tooLarge table large grade class g k)
+    (in-no-numbers startAboveLimit table above grade class g k)
 
 -- ---- the records
 
@@ -105,10 +105,10 @@ module _ (bytes : List ℕ) (at units : ℕ) (e : unitRefusal bytes at units ≡
   unit-rows-passed : (countTooLarge (sampleUnitAt bytes at) ≡ false) × (units < mostUnits) × (byte bytes (at + prerequisiteOffset) ≤ 3) × (byte bytes (at + recoverableOffset) ≤ 1)
   unfolding unitRefusal
   unit-rows-passed =
-      let (whole, rest) = row-passed _ 7 _ (lit< tt) e in
-      let (few, rest2) = row-passed _ 12 _ (lit< tt) rest in
-      let (counts, rest3) = row-passed _ 8 _ (lit< tt) rest2 in
-      let (last, none) = row-passed _ 9 _ (lit< tt) rest3 in (
+      let (whole, rest) = ground-passed _ 7 _ (lit< tt) e in
+      let (few, rest2) = ground-passed _ 12 _ (lit< tt) rest in
+      let (counts, rest3) = ground-passed _ 8 _ (lit< tt) rest2 in
+      let (last, none) = ground-passed _ 9 _ (lit< tt) rest3 in (
         counts,
         leb-false mostUnits units few,
         ltb-false 3 (byte bytes (at + prerequisiteOffset)) (or-first _ _ last),
@@ -123,9 +123,9 @@ redesignation-passed : (bytes : List ℕ) (at designated : ℕ) → redesignatio
     → (byte bytes (at + 2) ≤ 2) × (byte bytes (at + 2) ≡ designated → ⊥)
 unfolding redesignationRefusal
 redesignation-passed bytes at designated e =
-    let (whole, rest) = row-passed _ 7 _ (lit< tt) e in
-    let (low, rest2) = row-passed _ 10 _ (lit< tt) rest in
-    let (other, none) = row-passed _ 11 _ (lit< tt) rest2 in
+    let (whole, rest) = ground-passed _ 7 _ (lit< tt) e in
+    let (low, rest2) = ground-passed _ 10 _ (lit< tt) rest in
+    let (other, none) = ground-passed _ 11 _ (lit< tt) rest2 in
     (ltb-false 2 (byte bytes (at + 2)) low, eqb-false (byte bytes (at + 2)) designated other)
 
 -- ---- an accepted sheet
@@ -134,16 +134,16 @@ module _ (bytes : List ℕ) (n : ℕ) (facts : Facts bytes n) where
   plan-passed : (byte bytes 2 ≤ 2) × (tableRefusal (tableOf (planOf bytes)) ≡ 0)
   unfolding planRefusal
   plan-passed =
-      let (mark, rest) = row-passed _ 1 _ (lit< tt) (facts .plan) in
-      let (grade, table) = row-passed _ 2 _ (lit< tt) rest in
+      let (mark, rest) = ground-passed _ 1 _ (lit< tt) (facts .plan) in
+      let (grade, table) = ground-passed _ 2 _ (lit< tt) rest in
       (ltb-false 2 (byte bytes 2) grade, table)
 
   pub designated-le : planOf bytes .designated ≤ 2
   unfolding planOf
   designated-le = plan-passed .0
 
-  pub limits-in-range : (grade class : ℕ) → grade ≤ 2 → class < 4 → LimitsInRange (numbersOf (tableOf (planOf bytes)) grade class)
-  limits-in-range = table-passed (tableOf (planOf bytes)) (plan-passed .1)
+  pub numbers-in-range : (grade class : ℕ) → grade ≤ 2 → class < 4 → NumbersInRange (numbersOf (tableOf (planOf bytes)) grade class)
+  numbers-in-range = table-passed (tableOf (planOf bytes)) (plan-passed .1)
 
   pub unit-in-range : (j : ℕ) → j < n → mark bytes j ≡ UnitMark → UnitInRange (sampleUnitAt bytes (offset bytes j))
   unfolding refusalBy

@@ -17,12 +17,12 @@ use Rattle.layout.specs.declared.Mark.the-variants.{UnitMark, RedesignationMark
 use Rattle.sheet.specs.declared.Verdict.{Verdict}
 use Rattle.sheet.specs.declared.Verdict.the-variants.{Accepted, Refused}
 
--- a row of the table: its number if its condition is met, else what the rows after it say, which is 0 at their end
+-- a ground of refusal, a row of the table: its number if its condition is met, else what the grounds after it say, 0 at their end
 unfoldable pub refusedIf : Bool → ℕ → ℕ → ℕ
 refusedIf true number rest = number
 refusedIf false number rest = rest
 
--- the largest numbers on a sheet
+-- the largest S, T, L and count, and the most units, of a sheet
 abbrev pub largestPlanNumber : ℕ
 largestPlanNumber = 9999
 
@@ -129,7 +129,7 @@ recordRefusal bytes i = refusalAt bytes (offset bytes i) (unitsBefore bytes i) (
 
 -- ---- the sheet
 
--- records are checked left to right, each wholly before the next; the first row met is returned. From record i on, at most so many
+-- records are checked left to right, each wholly before the next; the first ground met is returned. From record i on, at most so many
 -- (every record has two bytes or more, so the sheet's length is always enough: law `check-fits`)
 unfoldable pub checkFrom : List ℕ → ℕ → ℕ → Verdict
 checkFrom bytes zero i = Accepted i (unitsBefore bytes i)
@@ -138,7 +138,7 @@ checkFrom bytes (suc most) i =
     (pick (eqb (recordRefusal bytes i) 0) (checkFrom bytes most (suc i))
     (Refused (recordRefusal bytes i) (offset bytes i)))
 
--- a sheet that passes numbers 1 to 12, with its records and units, or the number of the first row met and its offset
+-- a sheet that passes numbers 1 to 12, with its records and units, or the number of the first ground met and its offset
 unfoldable pub verdict : List ℕ → Verdict
 verdict bytes =
     pick (eqb (planRefusal bytes) 0) (checkFrom bytes (length bytes) 0) (Refused (planRefusal bytes) 0)

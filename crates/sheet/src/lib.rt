@@ -27,7 +27,7 @@ use units::SampleUnit;
 use units::Table;
 use units::row_of;
 
-// The largest numbers on a sheet.
+// The largest S, T, L and count, and the most units, of a sheet.
 const LARGEST_PLAN_NUMBER: u16 = 9999;
 
 const LARGEST_COUNT: u16 = 2000;
@@ -130,7 +130,7 @@ fn table_refusal(table: Table) -> u8
     0
 }
 
-// The number of the first row that the plan meets, or 0.
+// The number of the first ground that the plan meets, or 0.
 fn plan_refusal(bytes: &[u8]) -> u8
     ensures { λ r. ⌜ r ≡ planRefusal (now (bytes .entry)) ⌝ }
 {
@@ -191,7 +191,7 @@ fn redesignation_refusal(bytes: &[u8], at: usize, designated: u8) -> u8
     0
 }
 
-// The number of the first row that the record at an offset meets, or 0.
+// The number of the first ground that the record at an offset meets, or 0.
 fn refusal_at(bytes: &[u8], at: usize, units: usize, designated: u8) -> u8
     requires { ⌜ at ≤ length (now bytes) ⌝ }
     ensures { λ r. ⌜ r ≡ refusalAt (now (bytes .entry)) at units designated ⌝ }

@@ -18,8 +18,8 @@ use Rattle.sheet.specs.declared.Verdict.the-variants.{Accepted, Refused}
 use Rattle.sheet.proofs.Accepted.{Facts, facts, refusal-number}
 use Rattle.results.specs.Record.{resultSize}
 use Rattle.tally.specs.declared.Answer.{Answer}
-use Rattle.tally.specs.Outcome.{written, overfullBefore, Outcome, refusal, acceptance, outcomeBy, outcome}
-use Rattle.tally.specs.Demand3.{AcceptedAs, recordsOf, recordsIn, sheetIn}
+use Rattle.tally.specs.Outcome.{written, overfullBefore, Outcome, refusal, acceptance, outcomeBy, outcome, recordsOf, recordsIn}
+use Rattle.tally.specs.Demand3.{AcceptedAs, sheetIn}
 use Rattle.tally.proofs.Written.{length-written}
 
 -- ---- the cases of the outcome

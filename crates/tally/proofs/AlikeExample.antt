@@ -22,8 +22,8 @@ use Rattle.sheet.specs.Refusals.{refusedIf, anyClass, anyNumbers, noPlanRecord,
 use Rattle.layout.specs.declared.Mark.the-variants.{UnitMark, RedesignationMark}
 use Rattle.results.specs.Record.{cusumBytes, resultBytes}
 use Rattle.tally.specs.declared.Answer.{Answer}
-use Rattle.tally.specs.Outcome.{resultOf, bytesBy, written, anyTooLarge, overfullBy, overfullBefore, Outcome, acceptance, outcomeBy, outcome}
-use Rattle.tally.specs.Demand3.{AcceptedAs, recordsOf, recordsIn, InCount, Alike, FewerDefects}
+use Rattle.tally.specs.Outcome.{resultOf, bytesBy, written, anyTooLarge, overfullBy, overfullBefore, Outcome, acceptance, outcomeBy, outcome, recordsOf, recordsIn}
+use Rattle.tally.specs.Demand3.{AcceptedAs, InCount, Alike, FewerDefects}
 
 -- the plan of the worked sheet of document 01, and one unit without defects
 unfoldable pub noDefects : List ℕ

@@ -18,7 +18,8 @@ use Rattle.layout.specs.declared.Mark.{Mark}
 use Rattle.layout.specs.declared.Mark.the-variants.{UnitMark, RedesignationMark, BreakMark, NoMark}
 use Rattle.layout.proofs.Offsets.{size-ge, offset-lt, offset-ge}
 use Rattle.sheet.proofs.Accepted.{Facts}
-use Rattle.tally.specs.Demand3.{recordsIn, UnitAt, InCount, Alike}
+use Rattle.tally.specs.Outcome.{recordsIn}
+use Rattle.tally.specs.Demand3.{UnitAt, InCount, Alike}
 use Rattle.tally.proofs.Recorded.{inside-unit, inside-redesignation}
 
 -- ---- bytes outside the counts

@@ -14,7 +14,7 @@ use Rattle.rules.specs.Sheet.{codeGrade}
 use Rattle.layout.specs.Layout.{planSize, planOf, unitsBefore, sheetOf}
 use Rattle.sheet.specs.Refusals.{verdict, anyNumbers}
 use Rattle.sheet.specs.declared.Verdict.the-variants.{Accepted}
-use Rattle.sheet.proofs.Rows.{plan-whole}
+use Rattle.sheet.proofs.Grounds.{plan-whole}
 use Rattle.sheet.proofs.Accepted.{Facts, facts}
 use Rattle.sheet.proofs.Ranges.{units-most}
 use Rattle.results.specs.Record.{resultSize}

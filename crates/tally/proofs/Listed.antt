@@ -1,6 +1,6 @@
 -- Demand 1: the answer is acceptance or a listed refusal, and which bytes of the buffer are kept.
 -- By cases on the verdict and on the tests of numbers 13 and 14; the buffer by the laws of an accepted and of a refused sheet.
-use Prim.Native.Nat.{ℕ, _*_}
+use Prim.Native.Nat.{ℕ, _*_, _<_}
 use mathlib.Core.Path.{_≡_, refl, ap, subst⁻¹}
 use mathlib.Core.Bool.{Bool, true, false}
 use mathlib.Core.List.{List}
@@ -14,16 +14,27 @@ use Rattle.layout.specs.Layout.{sheetOf}
 use Rattle.sheet.specs.Refusals.{verdict}
 use Rattle.sheet.specs.declared.Verdict.{Verdict}
 use Rattle.sheet.specs.declared.Verdict.the-variants.{Accepted, Refused}
+use Rattle.sheet.proofs.Accepted.{Stops}
 use Rattle.sheet.proofs.Listed.{refusal-listed}
 use Rattle.results.specs.Record.{resultSize}
 use Rattle.tally.specs.Outcome.{overfullBefore, Outcome, refusal, acceptance, outcomeBy, outcome}
-use Rattle.tally.specs.Demand1.{Listed, Demand1}
+use Rattle.tally.specs.Demand1.{StoppedAt, Listed, Demand1}
 use Rattle.tally.proofs.AcceptedSheet.{accepted-sheet, refused-untouched, rest-untouched}
+
+stopped : {bytes : List ℕ} {number at : ℕ} → Stops bytes 0 number at → StoppedAt bytes number at
+stopped {bytes} stops =
+    record {
+      stop = stops .stop;
+      at-mark = stops .at-offset;
+      inside = subst⁻¹ (λ (place : ℕ). place < length bytes) (stops .at-offset) (stops .inside);
+      refusal = stops .refusal;
+      earlier = λ j before. stops .earlier j (omega arith) before;
+    }
 
 listed-by : (bytes buffer : List ℕ) (v : Verdict) → verdict bytes ≡ v → Listed bytes (outcomeBy bytes buffer v .answer)
 unfolding outcomeBy acceptance pick Listed
 listed-by bytes buffer (Refused number at) says =
-    ⊎-elim (λ of-plan. inr (inl of-plan)) (λ of-record. inr (inr (inl of-record))) (refusal-listed bytes number at says)
+    ⊎-elim (λ of-plan. inr (inl of-plan)) (λ (from, to, stops). inr (inr (inl (from, to, stopped stops)))) (refusal-listed bytes number at says)
 listed-by bytes buffer (Accepted records units) says =
     go (ltb (length buffer) (resultSize * units)) (overfullBefore (sheetOf bytes records) records)
   where
@@ -41,6 +52,8 @@ demand1 bytes buffer answer results promise =
       listed = subst⁻¹ (λ (given : Outcome). Listed bytes (given .answer)) promise (listed-by bytes buffer (verdict bytes) refl);
       refused-units = λ other. refused-untouched bytes buffer answer results promise other .1;
       refused-buffer = λ other. refused-untouched bytes buffer answer results promise other .0;
+      accepted-units = λ none.
+          accepted-sheet bytes buffer answer results (record { promise = promise; accepted = none }) .answered-units;
       accepted-room = λ none.
           let sheet = accepted-sheet bytes buffer answer results (record { promise = promise; accepted = none }) in
           omega (arith, sheet .room, sheet .answered-units);

@@ -21,7 +21,7 @@ use Rattle.rules.proofs.Grades.{class-cusum-le}
 use Rattle.layout.specs.Layout.{planOf, sheetOf}
 use Rattle.sheet.specs.Refusals.{largestPlanNumber, anyClass, anyNumbers}
 use Rattle.sheet.proofs.Accepted.{Facts}
-use Rattle.sheet.proofs.Ranges.{limits-in-range}
+use Rattle.sheet.proofs.Ranges.{numbers-in-range}
 use Rattle.tally.specs.Outcome.{anyTooLarge, overfullBy, overfullBefore, limitTooLarge}
 
 none-of : (p : ℕ → Bool) → ((k : ℕ) → p k ≡ false) → (ks : List ℕ) → any p ks ≡ false
@@ -63,7 +63,7 @@ module _ (bytes : List ℕ) (records : ℕ) (facts : Facts bytes records) where
   limit-small grade class = go (leb 3 grade) refl (leb 4 class) refl
     where
       go : (g : Bool) → leb 3 grade ≡ g → (k : Bool) → leb 4 class ≡ k → numbersOf (tableOf (planOf bytes)) grade class .limit ≤ largestPlanNumber
-      go false e false f = limits-in-range bytes records facts grade class (omega (arith, leb-false 3 grade e)) (leb-false 4 class f) .limit-le
+      go false e false f = numbers-in-range bytes records facts grade class (omega (arith, leb-false 3 grade e)) (leb-false 4 class f) .limit-le
       go false e true f = behind (planOf bytes) grade class (leb-false 3 grade e) (leb-true 4 class f)
       go true e k f = no-plan (planOf bytes) grade class (leb-true 3 grade e)
 

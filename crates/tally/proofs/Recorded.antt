@@ -1,4 +1,5 @@
--- What the result buffer of an accepted sheet records of a unit: its CuSums and grades are those of the rules, and their bounds.
+-- What the result buffer of an accepted sheet records of a unit: code, grades, standing, plan grade and CuSums are those of the rules;
+-- and their bounds.
 -- From where the result record of the unit stands in the buffer; no CuSum is too large for its two bytes, by number 14.
 use Prim.Native.Nat.{ℕ, zero, suc, _+_, _*_, _≤_, _<_}
 use mathlib.Core.Path.{_≡_, refl, sym, _∙_, ap, subst}
@@ -25,15 +26,15 @@ use Rattle.rules.proofs.Grades.{class-cusum-le, NewGrade, portion-at-most, code
 use Rattle.layout.specs.Layout.{sampleUnitAt, entryOf, offset, mark, entryAt, unitsBefore, sheetOf}
 use Rattle.layout.specs.declared.Mark.{Mark}
 use Rattle.layout.specs.declared.Mark.the-variants.{UnitMark, RedesignationMark, BreakMark, NoMark}
-use Rattle.sheet.proofs.Rows.{or-first, or-second}
+use Rattle.sheet.proofs.Grounds.{or-first, or-second}
 use Rattle.sheet.proofs.Accepted.{Facts}
 use Rattle.sheet.proofs.Past.{past-mark}
 use Rattle.sheet.proofs.Ranges.{designated-le, unit-in-range, new-grade-le}
 use Rattle.results.specs.Record.{resultSize, resultBytes, codeOffset, portionGradeOffset, codeGradeOffset, planGradeOffset, standingOffset, cusumsOffset, codeIn, planGradeIn, standingIn}
 use Rattle.results.proofs.Fields.{portion-read, code-grade-read, plan-read, standing-read, code-read, cusum-read}
 use Rattle.tally.specs.declared.Answer.{Answer}
-use Rattle.tally.specs.Outcome.{resultOf, anyTooLarge, overfullBy, overfullBefore}
-use Rattle.tally.specs.Demand3.{AcceptedAs, recordsIn, sheetIn, UnitAt, recordedCusum, recordedPortionGrade, recordedCodeGrade, numbersInForce}
+use Rattle.tally.specs.Outcome.{resultOf, anyTooLarge, overfullBy, overfullBefore, recordsIn}
+use Rattle.tally.specs.Demand3.{AcceptedAs, sheetIn, UnitAt, recordedCusum, recordedPortionGrade, recordedCodeGrade, numbersInForce}
 use Rattle.tally.proofs.Written.{byte-of-record, number-of-record}
 use Rattle.tally.proofs.AcceptedSheet.{AcceptedSheet, accepted-sheet}
 
@@ -161,17 +162,18 @@ module _ (bytes buffer : List ℕ) (answer : Answer) (results : List ℕ) (accep
     recorded-code-grade =
         recorded-byte codeGradeOffset _ (λ rest. code-grade-read (grades (unit .code)) (resultOf (sheetIn bytes) i unit) rest)
 
+    -- the grade of the plan in force, 3 if none
     pub recorded-plan : planGradeIn results (unitsBefore bytes i) ≡ inForceAt (sheetIn bytes) i
     unfolding resultOf
     recorded-plan = recorded-byte planGradeOffset _ (λ rest. plan-read (grades (unit .code)) (resultOf (sheetIn bytes) i unit) rest)
 
-    -- standing 3 is that of a recovered portion
+    -- the standing, 3 exactly if the portion is recovered
     pub recorded-standing : standingIn results (unitsBefore bytes i) ≡ standing (sheetIn bytes) i (sampleUnitAt bytes (offset bytes i))
     unfolding resultOf
     recorded-standing =
         recorded-byte standingOffset _ (λ rest. standing-read (grades (unit .code)) (resultOf (sheetIn bytes) i unit) rest)
 
-    -- the bytes of a sheet are below 256, so that its codes have two bytes
+    -- the code, where every byte of the sheet is below 256, as in every slice
     pub recorded-code : ((place : ℕ) → byte bytes place < 256) → codeIn results (unitsBefore bytes i) ≡ sampleUnitAt bytes (offset bytes i) .code
     unfolding resultOf sampleUnitAt
     recorded-code small =

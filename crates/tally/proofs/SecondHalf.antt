@@ -1,4 +1,5 @@
--- Demand 3's second half: fewer defects on a sheet alike give no higher CuSum, no new failure and no lower grade, as recorded.
+-- Demand 3's second half: fewer defects on a sheet alike give no higher CuSum and no new failure up to the second sheet's first two
+-- failures in a row, and no lower grade if there are none, as recorded.
 -- From the same laws over records: the second sheet is told with the plan and the number of records of the first.
 use Prim.Native.Nat.{ℕ, _≤_, _<_}
 use mathlib.Core.Path.{_≡_, refl, sym, _∙_, subst⁻¹}
@@ -20,7 +21,8 @@ use Rattle.sheet.proofs.Accepted.{Facts}
 use Rattle.sheet.proofs.Past.{past-entry}
 use Rattle.sheet.proofs.Ranges.{designated-le}
 use Rattle.tally.specs.declared.Answer.{Answer}
-use Rattle.tally.specs.Demand3.{recordsIn, sheetIn, UnitAt, FewerDefects, NoHigherAt, NoLowerAt, Demand3Second}
+use Rattle.tally.specs.Outcome.{recordsIn}
+use Rattle.tally.specs.Demand3.{sheetIn, UnitAt, FewerDefects, NoHigherAt, NoLowerAt, Demand3Second}
 use Rattle.tally.proofs.AcceptedSheet.{accepted-sheet}
 use Rattle.tally.proofs.Recorded.{entry-unit, inside-unit, recorded-cusum, recorded-portion, recorded-code-grade}
 use Rattle.tally.proofs.AlikeSheets.{same-plans, same-marks, same-records, fellows-below, no-redesignations}

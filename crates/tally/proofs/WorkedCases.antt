@@ -1,4 +1,4 @@
--- The worked cases P1 to P10. P3 to P5 are laws of rule 2, under any numbers; the others compute, P2 once T+L at B and at C are put
+-- The worked cases P1 to P10. P3 to P5 are laws of rule 2, under any S, T and L; the others compute, P2 once T+L at B and at C are put
 -- in, P9 and P10 once the buffer is known to hold the records.
 use Prim.Native.Nat.{ℕ, _+_, _*_, _≤_}
 use mathlib.Core.Path.{_≡_, refl, sym, ap}

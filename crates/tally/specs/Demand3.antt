@@ -13,13 +13,10 @@ use Rattle.rules.specs.Sheet.{Sheet, inForceAt}
 use Rattle.rules.specs.Anchor.{failureAt, countsFrom, Anchor, Latest, anchorValue}
 use Rattle.rules.specs.TwoInARow.{secondInARow}
 use Rattle.layout.specs.Layout.{countsOffset, countOffset, kinds, prerequisiteOffset, offset, mark, unitsBefore, sheetOf}
-use Rattle.sheet.specs.Refusals.{verdict}
 use Rattle.layout.specs.declared.Mark.the-variants.{UnitMark, RedesignationMark}
-use Rattle.sheet.specs.declared.Verdict.{Verdict}
-use Rattle.sheet.specs.declared.Verdict.the-variants.{Accepted, Refused}
 use Rattle.results.specs.Record.{cusumIn, portionGradeIn, codeGradeIn}
 use Rattle.tally.specs.declared.Answer.{Answer}
-use Rattle.tally.specs.Outcome.{Outcome, outcome}
+use Rattle.tally.specs.Outcome.{Outcome, outcome, recordsIn}
 
 -- ---- an accepted sheet
 
@@ -27,14 +24,6 @@ use Rattle.tally.specs.Outcome.{Outcome, outcome}
 pub record AcceptedAs (bytes buffer : List ℕ) (answer : Answer) (results : List ℕ) : Type 0 where
   pub promise : _≡_ {A = Outcome} (record { answer = answer; buffer = results }) (outcome bytes buffer)
   pub accepted : answer .number ≡ 0
-
--- how many records it has behind its plan
-unfoldable pub recordsOf : Verdict → ℕ
-recordsOf (Accepted records units) = records
-recordsOf (Refused number offset) = 0
-
-unfoldable pub recordsIn : List ℕ → ℕ
-recordsIn bytes = recordsOf (verdict bytes)
 
 -- the sheet as the rules grade it: failures and restarts are told from it, never from the result records
 unfoldable pub sheetIn : List ℕ → Sheet
@@ -61,8 +50,8 @@ numbersInForce bytes i class = numbersOf (sheetIn bytes .table) (inForceAt (shee
 
 -- ---- the first half
 
--- the latest anchor of a class for the unit that is record i, right before record `from`: L at a failure, else S. So many records are
--- since it, this unit's included
+-- the latest anchor of a class for the unit that is record i, right before record `from`: L at a failure, else S. So many records lie
+-- from there to this unit's, none if the anchor lies at this unit
 pub record AnchorAt (bytes : List ℕ) (i class : ℕ) : Type 0 where
   pub from : ℕ
   pub records : ℕ

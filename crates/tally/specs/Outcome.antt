@@ -93,6 +93,14 @@ outcomeBy bytes buffer (Accepted records units) =
 unfoldable pub outcome : List ℕ → List ℕ → Outcome
 outcome bytes buffer = outcomeBy bytes buffer (verdict bytes)
 
+-- how many records an accepted sheet has behind its plan
+unfoldable pub recordsOf : Verdict → ℕ
+recordsOf (Accepted records units) = records
+recordsOf (Refused number offset) = 0
+
+unfoldable pub recordsIn : List ℕ → ℕ
+recordsIn bytes = recordsOf (verdict bytes)
+
 -- ---- for contracts of private functions
 
 -- an L too large for two bytes: no CuSum is above its L, so that number 14 is decided by these (law `none-overfull`)

@@ -39,11 +39,11 @@ steps numbers counts = stepsFrom numbers (startOf numbers) counts
 
 -- ---- sheets of units that have minor defects only, so that the class total alone decides
 
--- numbers that such units never come near: 0/999.9/999.9
+-- S, T and L that such units never come near: 0/999.9/999.9
 abbrev pub wide : PlanNumbers
 wide = record { start = 0; tolerance = 9999; limit = 9999 }
 
--- the plan of total at A, B and C, with wide numbers in the other classes
+-- the plan of total at A, B and C, with wide S, T and L in the other classes
 abbrev pub totalTable : PlanNumbers → PlanNumbers → PlanNumbers → Table
 totalTable a b c = (wide ∷ wide ∷ wide ∷ a ∷ []) ∷ (wide ∷ wide ∷ wide ∷ b ∷ []) ∷ (wide ∷ wide ∷ wide ∷ c ∷ []) ∷ []
 
@@ -153,15 +153,15 @@ pub record WorkedCases : Type 0 where
   -- "P2: there, T+L at B 10 and at C 13: the 8 grades B, the 12 C." The three units between meet A
   pub p2 : (b c : PlanNumbers) → b .tolerance + b .limit ≡ 100 → c .tolerance + c .limit ≡ 130
       → map (λ i. minorGraded (p2Table b c) p1Counts i .grade) (0 ∷ 1 ∷ 2 ∷ 3 ∷ 4 ∷ []) ≡ 1 ∷ 0 ∷ 0 ∷ 0 ∷ 2 ∷ []
-  -- "P3: CuSum at L, count equal to T: stays L, meets." Under any numbers; the second unit of P1 is a case
+  -- "P3: CuSum at L, count equal to T: stays L, meets." Under any S, T and L; the second unit of P1 is a case
   pub p3 : (numbers : PlanNumbers) (count : ℕ) → tenthsOf count ≡ numbers .tolerance
       → stepOf numbers (record { tenths = numbers .limit }) count ≡ met (numbers .limit)
-  -- "P4: raw value L+0.1 fails." Under any numbers, and the CuSum becomes L; 1/3/3 with 6 defects from the CuSum 0.1 is a case
+  -- "P4: raw value L+0.1 fails." Under any S, T and L, and the CuSum becomes L; 1/3/3 with 6 defects from the CuSum 0.1 is a case
   pub p4 :
       ((numbers : PlanNumbers) (old count : ℕ) → rawValue numbers old count ≡ pos (numbers .limit + 1)
       → stepOf numbers (record { tenths = old }) count ≡ failed (numbers .limit))
       × (rawValue (record { start = 10; tolerance = 30; limit = 30 }) 1 6 ≡ pos 31)
-  -- "P5: raw -0.1 gives 0." Under any numbers, and the class meets; 1/3/3 with no defect from the CuSum 2.9 is a case. negsuc 0 is -1
+  -- "P5: raw -0.1 gives 0." Under any S, T and L, and the class meets; 1/3/3 with no defect from the CuSum 2.9 is a case. negsuc 0 is -1
   pub p5 :
       ((numbers : PlanNumbers) (old count : ℕ) → rawValue numbers old count ≡ negsuc 0
       → stepOf numbers (record { tenths = old }) count ≡ met 0)

@@ -12,7 +12,8 @@ unfoldable pub all {ℓ} : {A : Type ℓ} → (A → Bool) → List A → Bool
 all condition [] = true
 all condition (member ∷ members) = condition member && all condition members
 
--- the first if the condition holds, else the other: as `cond` of the library, which is used for numbers, but opened only by name
+-- the first if the condition holds, else the other: as the library's `cond`, which is used where the two are numbers, but unfolded
+-- only where it is named
 unfoldable pub pick {ℓ} : {A : Type ℓ} → Bool → A → A → A
 pick true first other = first
 pick false first other = other

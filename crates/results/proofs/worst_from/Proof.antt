@@ -1,4 +1,4 @@
--- `results::worst_from` meets its contract. The loop's invariant: `worst` is the worst of the records before `j`, and `j` has the code.
+-- `results::worst_from` meets its contract. The loop's invariant: `worst` is the worst of the records before `j`, and `j` has the code or is behind the last.
 -- Assumes nothing.
 use Prim.Native.Nat.{_-_, _<_, _≤_}
 use mathlib.Core.Path.{_≡_, _∙_, ap}

@@ -1,4 +1,4 @@
--- `results::write_code` meets its contract. The loop's invariant: the records before `j` are written, and `j` has the code.
+-- `results::write_code` meets its contract. The loop's invariant: the records before `j` are written, and `j` has the code or is behind the last.
 -- Assumes nothing.
 use Prim.Native.Nat.{_-_}
 use mathlib.Core.Path.{refl}

@@ -3,7 +3,7 @@ use borrow.Author.Tests.{eq-eqb, ne-eqb}
 use mathlib.Core.Path.{_∙_, sym}
 use Rattle.units.specs.Conditions.{pick}
 use Rattle.sheet.specs.Refusals.{verdict}
-use Rattle.sheet.proofs.Rows.{plan-whole}
+use Rattle.sheet.proofs.Grounds.{plan-whole}
 use borrow.Author.Needs.{needs}
 use Rattle.sheet.proofs.check.Statement.{statement}
 use Rattle.sheet.proofs.check.Tie as tie
