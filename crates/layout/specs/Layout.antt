@@ -67,6 +67,7 @@ redesignationSize = 3
 
 -- ---- the plan
 
+-- S, T and L at an offset
 abbrev pub planNumbersAt : List ℕ → ℕ → PlanNumbers
 planNumbersAt bytes at = record { start = number bytes at; tolerance = number bytes (at + 2); limit = number bytes (at + 4) }
 
@@ -92,6 +93,7 @@ markOf mark =
     (pick (eqb mark 0x5244) RedesignationMark
     (pick (eqb mark 0x424B) BreakMark NoMark))
 
+-- the mark at an offset
 unfoldable pub markAt : List ℕ → ℕ → Mark
 markAt bytes at = markOf (number bytes at)
 

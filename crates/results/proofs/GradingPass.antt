@@ -10,7 +10,7 @@ use borrow.Author.Tests.{ltb-true, ltb-false, eqb-true, eqb-false, eq-eqb, ne-eq
 use lib.Dec.{ltb, eqb}
 use lib.ListN.{length}
 use Rattle.units.specs.Words.{substandard}
-use Rattle.units.proofs.Tests.{or-false}
+use Rattle.units.proofs.Tests.{or-false, or-true}
 use Rattle.results.specs.Record.{resultSize, codeIn, codeGradeIn}
 use Rattle.results.specs.Codes.{ungraded, worstIn, withCodeGrades, codesGraded, Ungraded}
 use Rattle.results.specs.OneCode.{FirstWithCode, gradeWith}
@@ -22,10 +22,6 @@ use Rattle.results.proofs.CodeGrades.{code-kept, worst-kept, grade-writ
 unfoldable pub met : List ℕ → ℕ → ℕ → Bool
 met results code zero = false
 met results code (suc i) = met results code i || eqb (codeIn results i) code
-
-or-true : (b : Bool) → (b || true) ≡ true
-or-true true = refl
-or-true false = refl
 
 met-own : (results : List ℕ) (i j : ℕ) → j < i → met results (codeIn results j) i ≡ true
 unfolding met

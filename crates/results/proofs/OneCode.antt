@@ -1,5 +1,5 @@
 -- One code, from the record where it is first met on: its worst portion grade, and its grade written record by record.
--- No record before the first has the code, so the worst of them is the best grade and none of them is written.
+-- Records of other codes, before the first and between two of the code, change neither.
 use Prim.Native.Nat.{ℕ, _+_, _*_, _<_, _≤_}
 use mathlib.Core.Path.{_≡_, refl, sym, _∙_, ap}
 use mathlib.Core.List.{List}

@@ -106,7 +106,7 @@ fn next_of_four(results: &[u8], code: u16, from: usize) -> usize
     from + 4
 }
 
-// The same for eight records: a loop over eights is the fastest.
+// The same for eight records: a loop that tests eight in a row is faster than one that tests one or four.
 fn next_of_eight(results: &[u8], code: u16, from: usize) -> usize
     requires { ⌜ resultSize * (from + 8) ≤ length (now results) ⌝ }
     ensures { λ r. ⌜ NextWith (now (results .entry)) code from (from + 8) r ⌝ }

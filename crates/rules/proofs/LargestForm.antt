@@ -2,7 +2,7 @@
 -- The trail keeps the anchor's kind and the counts since it; by induction on the records, the CuSum is reached from it by steps that meet.
 use Prim.Native.Nat.{ℕ, zero, suc, _<_}
 use mathlib.Core.Path.{_≡_, refl, sym, _∙_, ap, subst}
-use mathlib.Core.Bool.{Bool, true, false, not, cond, _||_, true≢false}
+use mathlib.Core.Bool.{Bool, true, false, not, cond, true≢false}
 use mathlib.Core.List.{List, [], _∷_, _++_, map, append-nil}
 use native.Mathlib.Omega.{arith}
 use lib.Dec.{ltb}
@@ -14,6 +14,7 @@ use Rattle.cusum.specs.Step.{fails, newCusum}
 use Rattle.cusum.specs.LargestForm.{largestForm}
 use Rattle.cusum.proofs.Laws.{failed-at}
 use Rattle.cusum.proofs.Runs.{after, Meets, after-snoc, meets-snoc, run-largest}
+use Rattle.units.proofs.Tests.{or-first}
 use Rattle.units.specs.declared.SampleUnit.{SampleUnit}
 use Rattle.units.specs.declared.Grading.{Grading}
 use Rattle.rules.specs.declared.Entry.{Entry}
@@ -76,15 +77,11 @@ unfolding inForce afterStepThree endsStepThree pick
 stays-step-three designated lower run false e = refl
 stays-step-three designated lower run true e = rw e
 
-or-left : (a b : Bool) → (a || b) ≡ false → a ≡ false
-or-left true b e = e
-or-left false b e = refl
-
 stays-unit : (phase : Phase) (grading : Grading) → unitRestarts phase grading ≡ false → inForce (phaseAfterUnit phase grading) ≡ inForce phase
 unfolding unitRestarts unitEndsStepThree phaseAfterUnit inForce
 stays-unit (Designated designated previous) grading e = stays-designated designated previous grading e (grading .fails) refl
 stays-unit (StepThree designated lower run) grading e =
-    stays-step-three designated lower run (grading .qualifies) (or-left (endsStepThree run (grading .qualifies)) _ e)
+    stays-step-three designated lower run (grading .qualifies) (or-first (endsStepThree run (grading .qualifies)) _ e)
 
 stays-redesignated : (phase : Phase) (new : ℕ) → redesignationRestarts phase new ≡ false → inForce (phaseAfterRedesignation phase new) ≡ inForce phase
 unfolding inForce phaseAfterRedesignation redesignationRestarts pick

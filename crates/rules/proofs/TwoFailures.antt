@@ -6,6 +6,7 @@ use mathlib.Core.Bool.{Bool, true, false, _&&_, false≢true}
 use mathlib.Core.List.{List}
 use lib.Dec.{ltb}
 use Rattle.cusum.specs.declared.Cusum.{Cusum}
+use Rattle.units.proofs.Tests.{and-both}
 use Rattle.units.specs.Conditions.{pick}
 use Rattle.units.specs.Words.{worse, Table, countsOf}
 use Rattle.units.specs.Unit.{unitFails}
@@ -111,10 +112,6 @@ module _ (sheet : Sheet) where
 
   -- ---- the lower grade
 
-  both : (first second : Bool) → (first && second) ≡ true → (first ≡ true) × (second ≡ true)
-  both true second e = (refl, e)
-  both false second e = absurd (false≢true e)
-
   -- the second unit, right behind one that failed with this defect grade
   abbrev Begins : ℕ → List Cusum → SampleUnit → Phase → Type 0
   Begins grade cusums unit phase =
@@ -151,7 +148,7 @@ module _ (sheet : Sheet) where
       ≡ StepThree (designatedAt sheet (suc i)) (worse (gradedAt sheet i first .grade) (gradedAt sheet (suc i) second .grade)) 0
   unfolding secondInARow failedBefore failedUnit before next stateWith
   lower-is-worse i first second is-first is-second in-a-row =
-      let (one, two) = both (failedUnit sheet i) (failedUnit sheet (suc i)) in-a-row in
+      let (one, two) = and-both (failedUnit sheet i) (failedUnit sheet (suc i)) in-a-row in
       let now : State = before sheet i in
       let later : State = before sheet (suc i) in
       let begins : Begins (gradedAt sheet i first .grade) (later .cusums) second (later .phase) =

@@ -37,6 +37,7 @@ afterDesignated designated (Failure earlier) true grade = StepThree designated (
 unfoldable pub endsStepThree : ℕ → Bool → Bool
 endsStepThree run qualifies = qualifies && leb 2 run
 
+-- in step 3: the designated plan is in force again where it ends; else a qualifying unit adds to the run, and any other sets it to none
 unfoldable pub afterStepThree : ℕ → ℕ → ℕ → Bool → Phase
 afterStepThree designated lower run qualifies =
     pick (endsStepThree run qualifies) (Designated designated NoFailure) (StepThree designated lower (cond qualifies (run + 1) 0))

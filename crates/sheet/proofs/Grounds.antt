@@ -2,25 +2,17 @@
 -- By cases on the test of a ground, and on the mark.
 use Prim.Native.Nat.{ℕ, _+_, _≤_, _<_}
 use mathlib.Core.Path.{_≡_, refl}
-use mathlib.Core.Bool.{Bool, true, false, _||_, true≢false}
+use mathlib.Core.Bool.{Bool, true, false}
 use mathlib.Core.List.{List}
 use native.Mathlib.Omega.{arith}
 use lib.Dec.{ltb, lit<}
 use lib.ListN.{length}
 use borrow.Author.Tests.{ltb-false}
+use Rattle.units.proofs.Tests.{or-first}
 use Rattle.layout.specs.Layout.{markSize, planSize, unitSize, redesignationSize, markAt, sizeOf}
 use Rattle.sheet.specs.Refusals.{refusedIf, noPlanRecord, planRefusal, unitRefusal, redesignationRefusal, refusalBy, refusalAt}
 use Rattle.layout.specs.declared.Mark.{Mark}
 use Rattle.layout.specs.declared.Mark.the-variants.{UnitMark, RedesignationMark, BreakMark, NoMark}
-
--- of two conditions neither of which holds
-pub or-first : (first second : Bool) → (first || second) ≡ false → first ≡ false
-or-first true second e = e
-or-first false second e = refl
-
-pub or-second : (first second : Bool) → (first || second) ≡ false → second ≡ false
-or-second true second e = absurd (true≢false e)
-or-second false second e = e
 
 -- a ground that is not met, and the grounds after it
 pub ground-passed : (test : Bool) (number rest : ℕ) → 0 < number → refusedIf test number rest ≡ 0 → (test ≡ false) × (rest ≡ 0)

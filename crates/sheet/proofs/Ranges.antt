@@ -17,7 +17,8 @@ use Rattle.layout.specs.Layout.{planOf, sampleUnitAt, mark, entryOf, entryAt, o
 use Rattle.sheet.specs.Refusals.{largestPlanNumber, largestCount, mostUnits, anyClass, anyNumbers, tooLarge, startAboveLimit, tableRefusal, planRefusal, countTooLarge, unitRefusal, redesignationRefusal, refusalBy, designatedBy, designatedBefore}
 use Rattle.layout.specs.declared.Mark.{Mark}
 use Rattle.layout.specs.declared.Mark.the-variants.{UnitMark, RedesignationMark, BreakMark, NoMark}
-use Rattle.sheet.proofs.Grounds.{or-first, or-second, ground-passed}
+use Rattle.units.proofs.Tests.{or-first, or-second}
+use Rattle.sheet.proofs.Grounds.{ground-passed}
 use Rattle.sheet.proofs.Accepted.{Facts}
 use Rattle.sheet.proofs.Past.{passed-as}
 

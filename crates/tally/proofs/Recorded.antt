@@ -1,5 +1,4 @@
--- What the result buffer of an accepted sheet records of a unit: code, grades, standing, plan grade and CuSums are those of the rules;
--- and their bounds.
+-- What the result buffer of an accepted sheet records of a unit: code, grades, standing, plan grade and CuSums of the rules; bounds.
 -- From where the result record of the unit stands in the buffer; no CuSum is too large for its two bytes, by number 14.
 use Prim.Native.Nat.{ℕ, zero, suc, _+_, _*_, _≤_, _<_}
 use mathlib.Core.Path.{_≡_, refl, sym, _∙_, ap, subst}
@@ -26,7 +25,7 @@ use Rattle.rules.proofs.Grades.{class-cusum-le, NewGrade, portion-at-most, code
 use Rattle.layout.specs.Layout.{sampleUnitAt, entryOf, offset, mark, entryAt, unitsBefore, sheetOf}
 use Rattle.layout.specs.declared.Mark.{Mark}
 use Rattle.layout.specs.declared.Mark.the-variants.{UnitMark, RedesignationMark, BreakMark, NoMark}
-use Rattle.sheet.proofs.Grounds.{or-first, or-second}
+use Rattle.units.proofs.Tests.{or-first, or-second}
 use Rattle.sheet.proofs.Accepted.{Facts}
 use Rattle.sheet.proofs.Past.{past-mark}
 use Rattle.sheet.proofs.Ranges.{designated-le, unit-in-range, new-grade-le}

@@ -1,5 +1,4 @@
--- Demand 3's second half: fewer defects on a sheet alike give no higher CuSum and no new failure up to the second sheet's first two
--- failures in a row, and no lower grade if there are none, as recorded.
+-- Demand 3's second half, as recorded: no higher CuSum and no new failure up to two failures in a row; without these no lower grade.
 -- From the same laws over records: the second sheet is told with the plan and the number of records of the first.
 use Prim.Native.Nat.{ℕ, _≤_, _<_}
 use mathlib.Core.Path.{_≡_, refl, sym, _∙_, subst⁻¹}

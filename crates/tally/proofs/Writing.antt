@@ -87,19 +87,11 @@ units-mono bytes i (suc n) h = go (eq-or-lt-of-le h) (units-mono bytes i n)
 
 -- ---- lengths
 
-length-by : (bytes : List ℕ) (sheet : Sheet) (m i at : ℕ) (k : Mark) → length (bytesSoFar sheet m i (entryOf bytes at k)) ≡ resultSize * unitsIn k
-unfolding bytesSoFar entryOf unitsIn
-length-by bytes sheet m i at UnitMark = length-result _ _
-length-by bytes sheet m i at RedesignationMark = refl
-length-by bytes sheet m i at BreakMark = refl
-length-by bytes sheet m i at NoMark = refl
-
 pub length-records : (bytes : List ℕ) (records m n : ℕ) → length (recordsSoFar (sheetOf bytes records) m n) ≡ resultSize * unitsBefore bytes n
-unfolding recordsSoFar sheetOf entryAt
+unfolding recordsSoFar bytesSoFar sheetOf
 length-records bytes records m n =
     let sheet = sheetOf bytes records in
-    length-joined bytes (recordsSoFar sheet m) (λ i. bytesSoFar sheet m i (entryAt bytes i)) refl (λ i. refl)
-    (λ i. length-by bytes sheet m i (offset bytes i) (mark bytes i)) n
+    length-joined bytes (recordsSoFar sheet m) (bytesSoFar sheet m) (λ i unit. length-result _ _) (λ i new. refl) (λ i. refl) refl (λ i. refl) n
 
 pub length-so-far : (bytes : List ℕ) (records : ℕ) (old : List ℕ) (m : ℕ) → resultSize * unitsBefore bytes m ≤ length old → length (writtenSoFar bytes records old m) ≡ length old
 unfolding writtenSoFar

@@ -8,41 +8,41 @@ use native.Mathlib.Nat.{eq-or-lt-of-le, le-of-suc-le-suc}
 use native.Mathlib.Omega.{arith}
 use lib.ListN.{length, length-append}
 use Rattle.rules.specs.Sheet.{Sheet}
-use Rattle.layout.specs.Layout.{offset, mark, entryOf, entryAt, unitsIn, unitsBefore, sheetOf}
+use Rattle.layout.specs.Layout.{sampleUnitAt, offset, mark, entryOf, entryAt, unitsIn, unitsBefore, sheetOf}
 use Rattle.layout.specs.declared.Mark.{Mark}
 use Rattle.layout.specs.declared.Mark.the-variants.{UnitMark, RedesignationMark, BreakMark, NoMark}
 use Rattle.encoding.specs.Bytes.{byte, number}
 use Rattle.units.specs.declared.SampleUnit.{SampleUnit}
 use Rattle.rules.specs.declared.Entry.{Entry}
-use Rattle.rules.specs.declared.Entry.the-variants.{UnitRecord}
+use Rattle.rules.specs.declared.Entry.the-variants.{UnitRecord, Redesignation, Break}
 use Rattle.results.specs.Record.{resultSize, resultBytes}
 use Rattle.results.proofs.Fields.{length-result, byte-behind, number-behind}
 use Rattle.tally.specs.Outcome.{resultOf, bytesBy, written}
 
-length-by : (grades : ℕ → ℕ) (bytes : List ℕ) (sheet : Sheet) (i at : ℕ) (m : Mark)
-    → length (bytesBy grades sheet i (entryOf bytes at m)) ≡ resultSize * unitsIn m
-unfolding bytesBy entryOf unitsIn
-length-by grades bytes sheet i at UnitMark = length-result _ _
-length-by grades bytes sheet i at RedesignationMark = refl
-length-by grades bytes sheet i at BreakMark = refl
-length-by grades bytes sheet i at NoMark = refl
-
 -- what records write one behind the other, if each unit writes a result record and the others nothing
-pub length-joined : (bytes : List ℕ) (whole own : ℕ → List ℕ) → whole 0 ≡ [] → ((n : ℕ) → whole (suc n) ≡ whole n ++ own n)
-    → ((n : ℕ) → length (own n) ≡ resultSize * unitsIn (mark bytes n)) → (n : ℕ) → length (whole n) ≡ resultSize * unitsBefore bytes n
-unfolding unitsBefore
-length-joined bytes whole own first next each zero = ap length first
-length-joined bytes whole own first next each (suc n) =
-    ap length (next n)
-    ∙ omega (arith, length-append (whole n) (own n), length-joined bytes whole own first next each n, each n)
+module _ (bytes : List ℕ) (whole : ℕ → List ℕ) (own : ℕ → Entry → List ℕ) (of-unit : (i : ℕ) (unit : SampleUnit) → length (own i (UnitRecord unit)) ≡ resultSize)
+    (of-redesignation : (i new : ℕ) → own i (Redesignation new) ≡ []) (of-break : (i : ℕ) → own i Break ≡ []) where
+  length-own : (i at : ℕ) (m : Mark) → length (own i (entryOf bytes at m)) ≡ resultSize * unitsIn m
+  unfolding entryOf unitsIn
+  length-own i at UnitMark = of-unit i (sampleUnitAt bytes at)
+  length-own i at RedesignationMark = ap length (of-redesignation i _)
+  length-own i at BreakMark = ap length (of-break i)
+  length-own i at NoMark = ap length (of-break i)
+
+  pub length-joined : whole 0 ≡ [] → ((n : ℕ) → whole (suc n) ≡ whole n ++ own n (entryAt bytes n))
+      → (n : ℕ) → length (whole n) ≡ resultSize * unitsBefore bytes n
+  unfolding unitsBefore entryAt
+  length-joined first next zero = ap length first
+  length-joined first next (suc n) =
+      ap length (next n)
+      ∙ omega (arith, length-append (whole n) (own n (entryAt bytes n)), length-joined first next n, length-own n (offset bytes n) (mark bytes n))
 
 -- the records of n sheet records fill exactly 16 times their units
 pub length-written : (grades : ℕ → ℕ) (bytes : List ℕ) (records n : ℕ) → length (written grades (sheetOf bytes records) n) ≡ resultSize * unitsBefore bytes n
-unfolding written sheetOf entryAt
+unfolding written bytesBy sheetOf
 length-written grades bytes records n =
     let sheet = sheetOf bytes records in
-    length-joined bytes (written grades sheet) (λ i. bytesBy grades sheet i (entryAt bytes i)) refl (λ i. refl)
-    (λ i. length-by grades bytes sheet i (offset bytes i) (mark bytes i)) n
+    length-joined bytes (written grades sheet) (bytesBy grades sheet) (λ i unit. length-result _ _) (λ i new. refl) (λ i. refl) refl (λ i. refl) n
 
 -- what n records write begins with what those before record i write, then what record i writes
 pub written-around : (grades : ℕ → ℕ) (sheet : Sheet) (i n : ℕ) → i < n

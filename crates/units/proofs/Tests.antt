@@ -1,7 +1,7 @@
 -- Laws of tests: the ends of `any` and `all`, both over any condition, and the two ways out of a test.
 -- By cases on the test.
 use mathlib.Core.Path.{_≡_, refl}
-use mathlib.Core.Bool.{Bool, true, false, _&&_, _||_, false≢true}
+use mathlib.Core.Bool.{Bool, true, false, _&&_, _||_, false≢true, true≢false}
 use mathlib.Core.List.{List, [], _∷_}
 use Rattle.units.specs.Conditions.{any, all}
 
@@ -16,6 +16,24 @@ and-false false = refl
 pub or-false : (b : Bool) → (b || false) ≡ b
 or-false true = refl
 or-false false = refl
+
+pub or-true : (b : Bool) → (b || true) ≡ true
+or-true true = refl
+or-true false = refl
+
+-- of two conditions neither of which holds
+pub or-first : (first second : Bool) → (first || second) ≡ false → first ≡ false
+or-first true second e = e
+or-first false second e = refl
+
+pub or-second : (first second : Bool) → (first || second) ≡ false → second ≡ false
+or-second true second e = absurd (true≢false e)
+or-second false second e = e
+
+-- of two conditions that both hold
+pub and-both : (first second : Bool) → (first && second) ≡ true → (first ≡ true) × (second ≡ true)
+and-both true second e = (refl, e)
+and-both false second e = absurd (false≢true e)
 
 pub any-mono {ℓ} : {A : Type ℓ} (p q : A → Bool) → ((x : A) → p x ≡ true → q x ≡ true) → (xs : List A) → any p xs ≡ true → any q xs ≡ true
 unfolding any

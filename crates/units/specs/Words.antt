@@ -17,6 +17,7 @@ substandard = 3
 unfoldable pub hasPlan : ℕ → Bool
 hasPlan grade = ltb grade substandard
 
+-- the grades that have a plan
 abbrev pub plannedGrades : List ℕ
 plannedGrades = 0 ∷ 1 ∷ 2 ∷ []
 
@@ -36,9 +37,11 @@ Table = List (List PlanNumbers)
 abbrev pub noNumbers : PlanNumbers
 noNumbers = record { start = 0; tolerance = 0; limit = 0 }
 
+-- in every class
 abbrev pub noRow : List PlanNumbers
 noRow = map (λ class. noNumbers) classes
 
+-- the plan of a grade
 abbrev pub rowOf : Table → ℕ → List PlanNumbers
 rowOf table grade = getD table grade noRow
 
@@ -67,6 +70,7 @@ countsOf unit =
 abbrev pub countIn : List ℕ → ℕ → ℕ
 countIn counts class = getD counts class 0
 
+-- the CuSum where no plan is in force
 abbrev pub zeroCusum : Cusum
 zeroCusum = record { tenths = 0 }
 
