@@ -1,21 +1,26 @@
-//! Times the library, over its boundary, beside the independent grader on the same sheets.
+//! Times the library, over its boundary, beside two peers on the same sheets: the independent
+//! grader, and the tuned grader of [`tuned`].
 //!
 //! `bench [ROUNDS]`. In a round every contender grades the sheet in turn, several times for a small
 //! sheet, each time into a buffer of its own that was cleared before; the clearing is not timed. The
 //! table has the median over the rounds and, as other work on the machine slows some of them, the
-//! least. Before a sheet is timed the contenders must agree on it.
+//! least. Before a sheet is timed the contenders must agree on it; before any is, the library and
+//! the tuned grader must agree on seeded random sheets, refused ones among them.
 
-use grader::generate::{table, PEACH};
+use grader::generate::{self, table, PEACH};
 use grader::sheet::{Record, Sheet, Unit};
 use hatmuyon::ffi::{RESULT_CODE, RESULT_CODE_GRADE, RESULT_PORTION_GRADE, RESULT_STANDING};
 use hatmuyon::RESULT_SIZE;
 use std::hint::black_box;
 use std::time::Instant;
+use tuned::Tuned;
+
+mod tuned;
 
 /// Number, units, offset.
 type Answer = (u32, usize, usize);
 /// Grades a sheet into a buffer.
-type Contender = fn(&[u8], &mut [u8]) -> Answer;
+type Contender<'a> = &'a mut dyn FnMut(&[u8], &mut [u8]) -> Answer;
 
 fn library(sheet: &[u8], results: &mut [u8]) -> Answer {
     match hatmuyon::grade(sheet, results) {
@@ -34,6 +39,13 @@ fn grader_reads_alike(sheet: &[u8], results: &mut [u8]) -> Answer {
     let answer = grader::grade_but_codes(sheet, results);
     grade_codes(&mut results[..RESULT_SIZE * answer.units]);
     (answer.number, answer.units, answer.offset)
+}
+
+/// The tuned grader without its table by code, in the same way.
+fn tuned_reads_alike(sheet: &[u8], results: &mut [u8]) -> Answer {
+    let answer = tuned::grade_but_codes(sheet, results);
+    grade_codes(&mut results[..RESULT_SIZE * answer.1]);
+    answer
 }
 
 const RECOVERED: u8 = 3;
@@ -68,6 +80,29 @@ fn grade_codes(results: &mut [u8]) {
     }
 }
 
+/// So many random sheets the library and the tuned grader are compared on.
+const RANDOM_SHEETS: u64 = 4000;
+
+/// The library and the tuned grader, with its table and without, must agree on random sheets: on the
+/// answer and on every byte of the buffer.
+fn compare(tuned: &mut Tuned) {
+    for seed in 0..RANDOM_SHEETS {
+        let case = generate::case(seed);
+        let outcome = |contender: Contender| {
+            let mut buffer = vec![seed as u8; case.room];
+            (contender(&case.sheet, &mut buffer), buffer)
+        };
+        let expected = outcome(&mut library);
+        let with_table = outcome(&mut |sheet, results| tuned.grade(sheet, results));
+        assert!(with_table == expected, "the tuned grader differs at seed {seed}");
+        let reads_alike = outcome(&mut tuned_reads_alike);
+        assert!(
+            reads_alike == expected,
+            "the tuned grader that reads alike differs at seed {seed}"
+        );
+    }
+}
+
 /// The time of one grading.
 #[derive(Clone, Copy)]
 struct Time {
@@ -83,12 +118,12 @@ impl Time {
 
 /// The time of each contender in nanoseconds; the answer and the buffer.
 fn times<const N: usize>(
-    contenders: [Contender; N],
+    mut contenders: [Contender; N],
     sheet: &[u8],
     units: usize,
     rounds: usize,
 ) -> ([Time; N], Answer, Vec<u8>) {
-    let outcomes = contenders.map(|contender| {
+    let outcomes = contenders.each_mut().map(|contender| {
         let mut buffer = vec![0; RESULT_SIZE * units];
         (contender(sheet, &mut buffer), buffer)
     });
@@ -97,7 +132,7 @@ fn times<const N: usize>(
     let mut buffers = vec![vec![0; RESULT_SIZE * units]; gradings];
     let mut samples = [(); N].map(|()| Vec::with_capacity(rounds));
     for _ in 0..rounds {
-        for (contender, samples) in contenders.iter().zip(&mut samples) {
+        for (contender, samples) in contenders.iter_mut().zip(&mut samples) {
             buffers.iter_mut().for_each(|buffer| buffer.fill(0));
             let start = Instant::now();
             for buffer in &mut buffers {
@@ -153,17 +188,25 @@ fn bytes(records: Vec<Record>) -> Vec<u8> {
     Sheet { designated: 0, table, records }.bytes()
 }
 
+/// The library, the independent grader and the tuned one.
+type Times = [Time; 3];
+
 fn head(name: &str, of: &str) {
-    let columns = format!("{:>9}{:>9}{:>7}", "library", "grader", "ratio");
-    println!("{:<52}{:>25}{:>25}", "", "median", "least");
+    let columns =
+        format!("{:>9}{:>9}{:>7}{:>9}{:>7}", "library", "grader", "ratio", "tuned", "ratio");
+    println!("{:<52}{:>41}{:>41}", "", "median", "least");
     println!("{name:<52}{columns}{columns}");
-    println!("{:<52}{of:>9}{of:>9}{:>7}{of:>9}{of:>9}", "", "");
+    let units = format!("{of:>9}{of:>9}{:>7}{of:>9}{:>7}", "", "");
+    println!("{:<52}{units}{units}", "");
 }
 
-fn row(name: &str, library: Time, grader: Time) {
-    let columns = |library, grader| format!("{library:>9.2}{grader:>9.2}{:>7.2}", library / grader);
+fn row(name: &str, times: Times) {
+    let columns = |[library, grader, tuned]: [f64; 3]| {
+        let (to_grader, to_tuned) = (library / grader, library / tuned);
+        format!("{library:>9.2}{grader:>9.2}{to_grader:>7.2}{tuned:>9.2}{to_tuned:>7.2}")
+    };
     let (median, least) =
-        (columns(library.median, grader.median), columns(library.least, grader.least));
+        (columns(times.map(|time| time.median)), columns(times.map(|time| time.least)));
     println!("{name:<52}{median}{least}");
 }
 
@@ -172,47 +215,49 @@ fn main() {
         Some(word) => word.parse::<usize>().expect("ROUNDS is a number").max(1),
         None => 501,
     };
+    let mut table_by_code = Tuned::new();
+    compare(&mut table_by_code);
+    let mut tuned = |sheet: &[u8], results: &mut [u8]| table_by_code.grade(sheet, results);
+    println!("The library beside the independent grader and the tuned one, peach plan, {rounds}");
     println!(
-        "The library beside the independent grader, peach plan, {rounds} rounds; both built for"
+        "rounds; all built for release, result buffers cleared before each grading (not timed)."
     );
-    println!("release, result buffers cleared before each grading (not timed).");
+    println!("The library and the tuned grader agree on {RANDOM_SHEETS} random sheets.");
     println!();
 
-    let pair: [Contender; 2] = [library, grader];
     head("sheet", "us");
     // Each with its units, its expected number, and how many units must be recovered.
     for (name, units, records, number, recovered) in [
         ("40 units, 5 codes", 40, plain(40, 5), 0, 0),
         ("1,000 units, 1 code", 1000, plain(1000, 1), 0, 0),
-        ("1,000 units, 1,000 codes; the grader has a map", 1000, plain(1000, 1000), 0, 0),
+        ("1,000 units, 1,000 codes; a map, a table by code", 1000, plain(1000, 1000), 0, 0),
         ("1,000 units in and out of step 3, 600 recovered", 1000, in_and_out(), 0, 600),
         ("1,000 units, refused at the last record", 1000, refused_last(), 11, 0),
         ("1,000 units, 20,000 breaks", 1000, with_breaks(), 0, 0),
     ] {
-        let (times, answer, results) = times(pair, &bytes(records), units, rounds);
+        let contenders: [Contender; 3] = [&mut library, &mut grader, &mut tuned];
+        let (times, answer, results) = times(contenders, &bytes(records), units, rounds);
         let standings = results.chunks_exact(RESULT_SIZE).map(|record| record[RESULT_STANDING]);
         let found = standings.filter(|&standing| standing == RECOVERED).count();
         assert_eq!((answer.0, found), (number, recovered), "{name}");
-        let [library, grader] = times.map(|time| time.per(1000.0));
-        row(name, library, grader);
+        row(name, times.map(|time| time.per(1000.0)));
     }
     let sheet = bytes(plain(1000, 1000));
-    let (alike, ..) = times([library, grader_reads_alike], &sheet, 1000, rounds);
-    let [library, reads_alike] = alike.map(|time| time.per(1000.0));
-    row("1,000 units, 1,000 codes; the grader reads alike (*)", library, reads_alike);
+    let alike: [Contender; 3] = [&mut library, &mut grader_reads_alike, &mut tuned_reads_alike];
+    let (alike, ..) = times(alike, &sheet, 1000, rounds);
+    row("1,000 units, 1,000 codes; all read alike (*)", alike.map(|time| time.per(1000.0)));
     println!();
-    println!(
-        "(*) The grader's map is left out. The code grades are found over the result records, in the"
-    );
-    println!("    library's scheme: from each code's first record on, all records are read twice.");
+    println!("(*) The grader's map and the tuned grader's table are left out. The code grades are");
+    println!("    found over the result records, in the library's scheme: from each code's first");
+    println!("    record on, all records are read twice.");
 
     for (name, codes) in [("growth, one code", 1), ("growth, a code for each unit", 1000)] {
         println!();
         head(name, "ns/unit");
         for units in [10, 100, 1000] {
-            let (times, ..) = times(pair, &bytes(plain(units, codes)), units, rounds);
-            let [library, grader] = times.map(|time| time.per(units as f64));
-            row(&format!("{units} units"), library, grader);
+            let contenders: [Contender; 3] = [&mut library, &mut grader, &mut tuned];
+            let (times, ..) = times(contenders, &bytes(plain(units, codes)), units, rounds);
+            row(&format!("{units} units"), times.map(|time| time.per(units as f64)));
         }
     }
 }

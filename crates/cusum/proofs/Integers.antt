@@ -29,7 +29,8 @@ sub-is : (a b : ℕ) → up (subℕ a b) + b ≡ down (subℕ a b) + a
 unfolding up down
 sub-is a b = go (ltb a b) (ltb→lt a b) (nltb→le a b)
   where
-    go : (t : Bool) → (T t → a < b) → (T (not t) → b ≤ a) → up (cond t (negsuc (b - suc a)) (pos (a - b))) + b ≡ down (cond t (negsuc (b - suc a)) (pos (a - b))) + a
+    go : (t : Bool) → (T t → a < b) → (T (not t) → b ≤ a)
+        → up (cond t (negsuc (b - suc a)) (pos (a - b))) + b ≡ down (cond t (negsuc (b - suc a)) (pos (a - b))) + a
     go true f g = let h = f tt in omega arith
     go false f g = let h = g tt in omega arith
 

@@ -1,6 +1,6 @@
 -- Laws of a CuSum's step: rule 2 in natural numbers, that it is monotone, that a CuSum is at most its L, and where a class that
 -- fails or meets stands. Through the raw value as a difference of naturals, and omega.
-use Prim.Native.Nat.{ℕ, _+_, _*_, _-_, _≤_, _<_, min}
+use Prim.Native.Nat.{ℕ, _+_, _-_, _≤_, _<_, min}
 use mathlib.Core.Path.{_≡_, refl, sym, _∙_, ap}
 use mathlib.Core.Bool.{Bool, true, false, cond}
 use native.Mathlib.Omega.{arith}
@@ -8,7 +8,7 @@ use lib.Dec.{ltb}
 use lib.IntN.{ℤ, pos, negsuc, _+ℤ_, _-ℤ_}
 use borrow.Author.Tests.{ltb-true, ltb-false, lt-ltb, le-ltb}
 use Rattle.cusum.specs.Integers.{maxℤ}
-use Rattle.cusum.specs.Step.{rawValue, aboveLimit, cusumOf, fails, newCusum, stepOf}
+use Rattle.cusum.specs.Step.{tenthsOf, rawValue, aboveLimit, cusumOf, fails, newCusum, stepOf}
 use Rattle.cusum.specs.LargestForm.{defectsLessT}
 use Rattle.cusum.specs.declared.PlanNumbers.{PlanNumbers}
 use Rattle.cusum.specs.declared.Cusum.{Cusum}
@@ -30,39 +30,31 @@ cusum-of-is l (pos r) = go (ltb (l .limit) r) refl
     go false e = omega (arith, ltb-false (l .limit) r e)
 cusum-of-is l (negsuc r) = omega arith
 
-raw-value-up : (l : PlanNumbers) (old c : ℕ) → up (rawValue l old c) ≡ old + 10 * c - l .tolerance
+raw-value-up : (l : PlanNumbers) (old c : ℕ) → up (rawValue l old c) ≡ old + tenthsOf c - l .tolerance
 unfolding rawValue
-raw-value-up l old c = omega (arith, difference-is (old + 10 * c) (l .tolerance), one-side (pos (old + 10 * c) -ℤ pos (l .tolerance)))
+raw-value-up l old c = omega (arith, difference-is (old + tenthsOf c) (l .tolerance), one-side (pos (old + tenthsOf c) -ℤ pos (l .tolerance)))
 
-pub new-cusum-is : (l : PlanNumbers) (old c : ℕ) → newCusum l old c ≡ min (l .limit) (old + 10 * c - l .tolerance)
+pub new-cusum-is : (l : PlanNumbers) (old c : ℕ) → newCusum l old c ≡ min (l .limit) (old + tenthsOf c - l .tolerance)
 unfolding newCusum
 new-cusum-is l old c = cusum-of-is l (rawValue l old c) ∙ ap (min (l .limit)) (raw-value-up l old c)
 
-pub fails-is : (l : PlanNumbers) (old c : ℕ) → fails l old c ≡ ltb (l .limit) (old + 10 * c - l .tolerance)
+pub fails-is : (l : PlanNumbers) (old c : ℕ) → fails l old c ≡ ltb (l .limit) (old + tenthsOf c - l .tolerance)
 unfolding fails
 fails-is l old c = above-limit-is l (rawValue l old c) ∙ ap (ltb (l .limit)) (raw-value-up l old c)
 
--- as code tests it: ten times the count and the old CuSum exceed T+L
-pub fails-sum : (l : PlanNumbers) (old c : ℕ) → fails l old c ≡ ltb (l .tolerance + l .limit) (old + 10 * c)
-fails-sum l old c = fails-is l old c ∙ go (ltb (l .tolerance + l .limit) (old + 10 * c)) refl
-  where
-    go : (t : Bool) → ltb (l .tolerance + l .limit) (old + 10 * c) ≡ t → ltb (l .limit) (old + 10 * c - l .tolerance) ≡ t
-    go true e = lt-ltb (l .limit) (old + 10 * c - l .tolerance) (omega (arith, ltb-true (l .tolerance + l .limit) (old + 10 * c) e))
-    go false e = le-ltb (l .limit) (old + 10 * c - l .tolerance) (omega (arith, ltb-false (l .tolerance + l .limit) (old + 10 * c) e))
-
 -- ---- laws of a step
 
-pub fails-true : (l : PlanNumbers) (old c : ℕ) → fails l old c ≡ true → l .limit < old + 10 * c - l .tolerance
+pub fails-true : (l : PlanNumbers) (old c : ℕ) → fails l old c ≡ true → l .limit < old + tenthsOf c - l .tolerance
 fails-true l old c e = ltb-true _ _ (sym (fails-is l old c) ∙ e)
 
-pub fails-false : (l : PlanNumbers) (old c : ℕ) → fails l old c ≡ false → old + 10 * c - l .tolerance ≤ l .limit
+pub fails-false : (l : PlanNumbers) (old c : ℕ) → fails l old c ≡ false → old + tenthsOf c - l .tolerance ≤ l .limit
 fails-false l old c e = ltb-false _ _ (sym (fails-is l old c) ∙ e)
 
 pub new-cusum-mono : (l : PlanNumbers) (o o' c c' : ℕ) → o ≤ o' → c ≤ c' → newCusum l o c ≤ newCusum l o' c'
 new-cusum-mono l o o' c c' h k = omega (arith, new-cusum-is l o c, new-cusum-is l o' c')
 
 pub fails-mono : (l : PlanNumbers) (o o' c c' : ℕ) → o ≤ o' → c ≤ c' → fails l o c ≡ true → fails l o' c' ≡ true
-fails-mono l o o' c c' h k e = fails-is l o' c' ∙ lt-ltb (l .limit) (o' + 10 * c' - l .tolerance) (omega (arith, fails-true l o c e))
+fails-mono l o o' c c' h k e = fails-is l o' c' ∙ lt-ltb (l .limit) (o' + tenthsOf c' - l .tolerance) (omega (arith, fails-true l o c e))
 
 pub new-cusum-le-limit : (l : PlanNumbers) (o c : ℕ) → newCusum l o c ≤ l .limit
 new-cusum-le-limit l o c = omega (arith, new-cusum-is l o c)
@@ -75,21 +67,20 @@ failed-at l o c e = omega (arith, new-cusum-is l o c, fails-true l o c e)
 pub met-at : (l : PlanNumbers) (o c : ℕ) → fails l o c ≡ false → pos (newCusum l o c) ≡ maxℤ (pos 0) (pos o +ℤ defectsLessT l c)
 unfolding defectsLessT up down
 met-at l o c e =
-    let d = pos (10 * c) -ℤ pos (l .tolerance) in
+    let d = pos (tenthsOf c) -ℤ pos (l .tolerance) in
     let x = pos o +ℤ d in
-    eq-of (pos (newCusum l o c)) (maxℤ (pos 0) x) (omega (arith, new-cusum-is l o c, fails-false l o c e, up-max (pos 0) x, down-max (pos 0) x, plus-is (pos o) d, difference-is (10 * c) (l .tolerance), one-side x))
+    let sum = plus-is (pos o) d in
+    let difference = difference-is (tenthsOf c) (l .tolerance) in
+    let sign = one-side x in
+    eq-of (pos (newCusum l o c)) (maxℤ (pos 0) x) (omega (arith, new-cusum-is l o c, fails-false l o c e, up-max (pos 0) x, down-max (pos 0) x))
 
--- ---- the step as code takes it: the old CuSum and the tenths of the count, against T+L and T
+-- ---- the step as code takes it: what is above T, zero if nothing is, against L
 
-module _ (l : PlanNumbers) (old : Cusum) (c : ℕ) where
-  pub step-above : l .tolerance + l .limit < old .tenths + 10 * c → record { cusum = record { tenths = l .limit }; fails = true } ≡ stepOf l old c
-  step-above h =
-      let e : fails l (old .tenths) c ≡ true = fails-sum l (old .tenths) c ∙ lt-ltb (l .tolerance + l .limit) (old .tenths + 10 * c) h in
-      rw (failed-at l (old .tenths) c e, e)
+pub step-is : (l : PlanNumbers) (old : Cusum) (c above new : ℕ) → above ≡ old .tenths + tenthsOf c - l .tolerance → new ≡ min (l .limit) above
+    → record { cusum = record { tenths = new }; fails = ltb (l .limit) above } ≡ stepOf l old c
+step-is l old c above new a n = rw (new-cusum-is l (old .tenths) c, fails-is l (old .tenths) c, ← a, n)
 
-  pub step-within : (n : ℕ) → old .tenths + 10 * c ≤ l .tolerance + l .limit → n ≡ old .tenths + 10 * c - l .tolerance
-      → record { cusum = record { tenths = n }; fails = false } ≡ stepOf l old c
-  step-within n h k =
-      let e : fails l (old .tenths) c ≡ false = fails-sum l (old .tenths) c ∙ le-ltb (l .tolerance + l .limit) (old .tenths + 10 * c) h in
-      let v : newCusum l (old .tenths) c ≡ n = omega (arith, new-cusum-is l (old .tenths) c) in
-      rw (v, e)
+-- where nothing is above L
+pub step-within : (l : PlanNumbers) (old : Cusum) (c n : ℕ) → old .tenths + tenthsOf c ≤ l .tolerance + l .limit → n ≡ old .tenths + tenthsOf c - l .tolerance
+    → record { cusum = record { tenths = n }; fails = false } ≡ stepOf l old c
+step-within l old c n h k = rw (sym (le-ltb (l .limit) n (omega arith))) (step-is l old c n n k (omega arith))

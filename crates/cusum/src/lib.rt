@@ -1,5 +1,6 @@
 // Rules 1 and 2 of grading a unit: where a CuSum begins, and what a count makes of it.
 ghost use mathlib.Core.Path.{_≡_};
+ghost use Prim.Native.Nat.{_-_, min};
 ghost use Rattle.cusum.specs.Step.{tenthsOf, startOf, stepOf};
 
 // S (start), T (tolerance) and L (acceptance limit) of a class in a plan, in tenths.
@@ -27,6 +28,19 @@ pub fn tenths(count: u32) -> u64
     10 * count as u64
 }
 
+// What a sum has above T; zero if nothing.
+fn excess(sum: u64, tolerance: u64) -> u64
+    ensures { λ r. ⌜ r ≡ sum - tolerance ⌝ }
+{
+    if tolerance < sum { sum - tolerance } else { 0 }
+}
+
+fn smaller(first: u64, second: u64) -> u64
+    ensures { λ r. ⌜ r ≡ min first second ⌝ }
+{
+    if first < second { first } else { second }
+}
+
 impl Cusum {
     pub const ZERO: Cusum = Cusum { tenths: 0 };
 
@@ -48,26 +62,12 @@ impl Cusum {
     {
         let sum = self.tenths as u64 + tenths(count);
         let tolerance = numbers.tolerance as u64;
-        let highest = tolerance + numbers.limit as u64;
-        if highest < sum {
-            return Stepped {
-                cusum: Cusum {
-                    tenths: numbers.limit as u32,
-                },
-                fails: true,
-            };
-        }
-        if sum <= tolerance {
-            return Stepped {
-                cusum: Cusum::ZERO,
-                fails: false,
-            };
-        }
+        let limit = numbers.limit as u64;
+        let above = excess(sum, tolerance);
+        let new = smaller(limit, above);
         Stepped {
-            cusum: Cusum {
-                tenths: (sum - tolerance) as u32,
-            },
-            fails: false,
+            cusum: Cusum { tenths: new as u32 },
+            fails: limit < above,
         }
     }
 }

@@ -1,5 +1,5 @@
 -- Two numbers of two bytes are equal exactly if they are with the low byte first.
--- By cases on the test, and omega.
+-- By cases on whether they are.
 use Prim.Native.Nat.{ℕ, _+_, _*_, _/_, _%_, _<_}
 use mathlib.Core.Path.{_≡_, refl}
 use mathlib.Core.Bool.{Bool, true, false}
@@ -7,9 +7,12 @@ use native.Mathlib.Omega.{arith}
 use lib.Dec.{eqb}
 use borrow.Author.Tests.{eqb-true, eqb-false, eq-eqb, ne-eqb}
 
-pub turned-equal : (x y value : ℕ) → x < 256 → y < 256 → value < 65536 → eqb (x + 256 * y) (value % 256 * 256 + value / 256) ≡ eqb (256 * x + y) value
-turned-equal x y value h k l = go (eqb (256 * x + y) value) refl
+pub turned-equal : (x y value : ℕ) → x < 256 → y < 256 → value < 65536
+    → eqb (x + 256 * y) (value % 256 * 256 + value / 256) ≡ eqb (256 * x + y) value
+turned-equal x y value x-byte y-byte small = go (eqb (256 * x + y) value) refl
   where
-    go : (t : Bool) → eqb (256 * x + y) value ≡ t → eqb (x + 256 * y) (value % 256 * 256 + value / 256) ≡ t
-    go true e = let q = eqb-true (256 * x + y) value e in eq-eqb (x + 256 * y) (value % 256 * 256 + value / 256) (omega arith)
-    go false e = ne-eqb (x + 256 * y) (value % 256 * 256 + value / 256) (λ q. eqb-false (256 * x + y) value e (omega arith))
+    go : (equal : Bool) → eqb (256 * x + y) value ≡ equal → eqb (x + 256 * y) (value % 256 * 256 + value / 256) ≡ equal
+    go true test =
+        let same = eqb-true (256 * x + y) value test in
+        eq-eqb (x + 256 * y) (value % 256 * 256 + value / 256) (omega arith)
+    go false test = ne-eqb (x + 256 * y) (value % 256 * 256 + value / 256) (λ same. eqb-false (256 * x + y) value test (omega arith))

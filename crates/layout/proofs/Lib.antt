@@ -1,2 +1,4 @@
 pub mod Offsets
-mod Sizes
+pub mod Units
+pub mod Walk
+pub mod Computing

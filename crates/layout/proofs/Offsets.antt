@@ -1,17 +1,23 @@
--- Where the records of a sheet stand: each has two bytes or more and ends before a later one begins; and how many are units.
--- By cases on the mark, and by induction on the number of the record.
+-- Where the records of a sheet stand: each has two bytes or more and ends before a later one begins; behind the sheet's end none has a
+-- mark. By cases on the mark, and by induction on the number of the record; bytes behind the end read as 0.
 use Prim.Native.Nat.{ℕ, zero, suc, _+_, _*_, _≤_, _<_}
-use mathlib.Core.Path.{_≡_}
+use mathlib.Core.Path.{_≡_, refl, ap}
 use mathlib.Core.Logic.{_⊎_, inl, inr}
+use mathlib.Core.Bool.{Bool, true, false}
 use mathlib.Core.List.{List}
 use native.Mathlib.Nat.{eq-or-lt-of-le, le-of-suc-le-suc}
 use native.Mathlib.Omega.{arith}
-use lib.Dec.{lit<}
-use Rattle.layout.specs.Layout.{planSize, sizeOf, offset, mark, unitsIn, unitsBefore}
+use lib.Dec.{leb, lit<}
+use lib.ListN.{length, List·getD-eq-default}
+use borrow.Author.Tests.{leb-true, leb-false, ne-eqb}
+use Rattle.encoding.specs.Bytes.{byte, number}
+use Rattle.units.specs.Conditions.{pick}
+use Rattle.units.specs.declared.Entry.the-variants.{Break}
+use Rattle.layout.specs.Layout.{markSize, planSize, markOf, markAt, sizeOf, offset, mark, entryOf, entryAt}
 use Rattle.layout.specs.declared.Mark.{Mark}
 use Rattle.layout.specs.declared.Mark.the-variants.{UnitMark, RedesignationMark, BreakMark, NoMark}
 
-pub size-ge : (m : Mark) → 2 ≤ sizeOf m
+pub size-ge : (m : Mark) → markSize ≤ sizeOf m
 unfolding sizeOf
 size-ge UnitMark = lit< tt
 size-ge RedesignationMark = lit< tt
@@ -29,20 +35,53 @@ offset-lt bytes i (suc j) h = go (eq-or-lt-of-le (le-of-suc-le-suc h)) (offset-l
     go (inl same) earlier = rw same (omega arith)
     go (inr less) earlier = omega (arith, earlier less)
 
-pub offset-ge : (bytes : List ℕ) (i : ℕ) → planSize + 2 * i ≤ offset bytes i
+pub offset-ge : (bytes : List ℕ) (i : ℕ) → planSize + markSize * i ≤ offset bytes i
 unfolding offset
 offset-ge bytes zero = lit< tt
 offset-ge bytes (suc i) = omega (arith, offset-ge bytes i, size-ge (mark bytes i))
 
-pub units-in-le : (m : Mark) → unitsIn m ≤ 1
-unfolding unitsIn
-units-in-le UnitMark = omega arith
-units-in-le RedesignationMark = omega arith
-units-in-le BreakMark = omega arith
-units-in-le NoMark = omega arith
+-- ---- behind the end of the sheet
 
--- no more units than records
-pub units-before-le : (bytes : List ℕ) (i : ℕ) → unitsBefore bytes i ≤ i
-unfolding unitsBefore
-units-before-le bytes zero = omega arith
-units-before-le bytes (suc i) = omega (arith, units-before-le bytes i, units-in-le (mark bytes i))
+past-byte : (bytes : List ℕ) (at : ℕ) → length bytes ≤ at → byte bytes at ≡ 0
+past-byte bytes at h = List·getD-eq-default bytes 0 {n = at} h
+
+-- where fewer than two bytes are left there is no mark: none ends in the byte 0
+pub short-mark : (bytes : List ℕ) (at : ℕ) → length bytes < at + markSize → markAt bytes at ≡ NoMark
+unfolding markAt markOf pick
+short-mark bytes at h =
+    let low : byte bytes (at + 1) ≡ 0 = past-byte bytes (at + 1) (omega arith) in
+    rw (
+      ne-eqb (number bytes at) 0x5355 (λ e. omega arith),
+      ne-eqb (number bytes at) 0x5244 (λ e. omega arith),
+      ne-eqb (number bytes at) 0x424B (λ e. omega arith),
+    )
+
+module _ (bytes : List ℕ) (n : ℕ) (end : offset bytes n ≡ length bytes) where
+  past-end : (i : ℕ) → n ≤ i → length bytes ≤ offset bytes i
+  past-end i h = go (eq-or-lt-of-le h)
+    where
+      go : (n ≡ i) ⊎ (n < i) → length bytes ≤ offset bytes i
+      go (inl same) = omega (arith, ap (offset bytes) same)
+      go (inr less) = omega (arith, offset-lt bytes n i less)
+
+  past-mark : (i : ℕ) → n ≤ i → mark bytes i ≡ NoMark
+  past-mark i h = short-mark bytes (offset bytes i) (omega (arith, past-end i h))
+
+  -- a break stands in
+  pub past-entry : (i : ℕ) → n ≤ i → entryAt bytes i ≡ Break
+  unfolding entryAt entryOf
+  past-entry i h = rw (past-mark i h)
+
+  -- only a record of the sheet has a mark
+  inside-records : (i : ℕ) → (mark bytes i ≡ NoMark → ⊥) → i < n
+  inside-records i marked = go (leb n i) refl
+    where
+      go : (test : Bool) → leb n i ≡ test → i < n
+      go true e = absurd (marked (past-mark i (leb-true n i e)))
+      go false e = leb-false n i e
+
+  pub inside-unit : (i : ℕ) → mark bytes i ≡ UnitMark → i < n
+  inside-unit i e = inside-records i (λ none. let z : _≡_ {A = ℕ} 0 1 = cc in omega arith)
+
+  pub inside-redesignation : (i : ℕ) → mark bytes i ≡ RedesignationMark → i < n
+  inside-redesignation i e = inside-records i (λ none. let z : _≡_ {A = ℕ} 0 1 = cc in omega arith)

@@ -1,83 +1,94 @@
 -- The tally sheet in bytes: the plan, and the records behind it by their number.
 use Prim.Native.Nat.{ℕ, zero, suc, _+_, _*_}
-use mathlib.Core.List.{List, [], _∷_, map}
+use mathlib.Core.List.{List, map}
 use lib.Dec.{eqb}
+use lib.ListN.{length}
 use Rattle.cusum.specs.declared.PlanNumbers.{PlanNumbers}
 use Rattle.encoding.specs.Bytes.{byte, number}
 use Rattle.units.specs.Conditions.{pick}
-use Rattle.units.specs.Words.{classes, tableOf}
-use Rattle.rules.specs.Sheet.{Sheet}
+use Rattle.units.specs.Words.{plannedGrades, classes, upFrom}
 use Rattle.units.specs.declared.Plan.{Plan}
 use Rattle.units.specs.declared.SampleUnit.{SampleUnit}
-use Rattle.rules.specs.declared.Entry.{Entry}
-use Rattle.rules.specs.declared.Entry.the-variants.{UnitRecord, Redesignation, Break}
+use Rattle.units.specs.declared.Entry.{Entry}
+use Rattle.units.specs.declared.Entry.the-variants.{UnitRecord, Redesignation, Break}
 use Rattle.layout.specs.declared.Mark.{Mark}
 use Rattle.layout.specs.declared.Mark.the-variants.{UnitMark, RedesignationMark, BreakMark, NoMark}
 
--- ---- sizes of the records, and offsets of their fields
+-- ---- sizes of the records, and offsets of their fields, each behind the one before it
 
+-- a record opens with its mark
 abbrev pub markSize : ℕ
 markSize = 2
 
--- S, T and L, two bytes each
-abbrev pub planNumbersSize : ℕ
-planNumbersSize = 6
-
--- the four classes of a grade
-abbrev pub rowSize : ℕ
-rowSize = 24
+-- a number: S, T, L, a production code, a count
+abbrev pub numberSize : ℕ
+numberSize = 2
 
 -- the grade behind a mark: the designated one of a plan, the new one of a redesignation
 abbrev pub gradeOffset : ℕ
-gradeOffset = 2
+gradeOffset = markSize
 
--- plan: mark (2), designated grade (1), then for grades A, B, C, within each the four classes, within each S, T, L
-abbrev pub planSize : ℕ
-planSize = 75
-
+-- plan: mark, designated grade (a byte), then the table: for grades A, B, C, within each the classes, within each S, T, L
 abbrev pub tableOffset : ℕ
-tableOffset = 3
+tableOffset = gradeOffset + 1
 
--- sample unit: mark (2), production code (2), counts of critical, severe, major, minor (2 each), prerequisite grade (1), recoverable (1)
-abbrev pub unitSize : ℕ
-unitSize = 14
+abbrev pub toleranceOffset : ℕ
+toleranceOffset = numberSize
 
+abbrev pub limitOffset : ℕ
+limitOffset = toleranceOffset + numberSize
+
+abbrev pub planNumbersSize : ℕ
+planNumbersSize = limitOffset + numberSize
+
+-- how many cells the table has: a class of a grade each
+abbrev pub tableSize : ℕ
+tableSize = length plannedGrades * length classes
+
+abbrev pub planSize : ℕ
+planSize = tableOffset + planNumbersSize * tableSize
+
+-- sample unit: mark, production code, a count of each kind, prerequisite grade (a byte), recoverable (a byte)
 abbrev pub codeOffset : ℕ
-codeOffset = 2
+codeOffset = markSize
+
+abbrev pub countsOffset : ℕ
+countsOffset = codeOffset + numberSize
 
 -- the kinds of counts of a unit, in this order: critical, severe, major, minor
 abbrev pub kinds : ℕ
 kinds = 4
 
-abbrev pub countsOffset : ℕ
-countsOffset = 4
-
 abbrev pub countOffset : ℕ → ℕ
-countOffset kind = countsOffset + 2 * kind
+countOffset kind = countsOffset + numberSize * kind
 
 abbrev pub prerequisiteOffset : ℕ
-prerequisiteOffset = 12
+prerequisiteOffset = countOffset kinds
 
 abbrev pub recoverableOffset : ℕ
-recoverableOffset = 13
+recoverableOffset = prerequisiteOffset + 1
 
--- redesignation: mark (2), new designated grade (1)
+abbrev pub unitSize : ℕ
+unitSize = recoverableOffset + 1
+
+-- redesignation: mark, new designated grade (a byte)
 abbrev pub redesignationSize : ℕ
-redesignationSize = 3
+redesignationSize = gradeOffset + 1
 
 -- ---- the plan
 
 -- S, T and L at an offset
 abbrev pub planNumbersAt : List ℕ → ℕ → PlanNumbers
-planNumbersAt bytes at = record { start = number bytes at; tolerance = number bytes (at + 2); limit = number bytes (at + 4) }
-
--- the four classes of a grade
-abbrev pub rowAt : List ℕ → ℕ → List PlanNumbers
-rowAt bytes at = map (λ class. planNumbersAt bytes (at + planNumbersSize * class)) classes
+planNumbersAt bytes at =
+    record {
+      start = number bytes at;
+      tolerance = number bytes (at + toleranceOffset);
+      limit = number bytes (at + limitOffset);
+    }
 
 -- the cells of the table, grade by grade and in each class by class
 abbrev pub cells : List ℕ
-cells = 0 ∷ 1 ∷ 2 ∷ 3 ∷ 4 ∷ 5 ∷ 6 ∷ 7 ∷ 8 ∷ 9 ∷ 10 ∷ 11 ∷ []
+cells = upFrom 0 tableSize
 
 -- the plan of a sheet: its designated grade (A, B or C; any other is refused with number 2), and its table
 unfoldable pub planOf : List ℕ → Plan
@@ -148,8 +159,3 @@ unitsIn NoMark = 0
 unfoldable pub unitsBefore : List ℕ → ℕ → ℕ
 unitsBefore bytes zero = 0
 unitsBefore bytes (suc i) = unitsBefore bytes i + unitsIn (mark bytes i)
-
--- the sheet as the rules grade it, with so many records
-unfoldable pub sheetOf : List ℕ → ℕ → Sheet
-sheetOf bytes n =
-    record { table = tableOf (planOf bytes); designated = planOf bytes .designated; entry = entryAt bytes; size = n }

@@ -1,60 +1,53 @@
-// The tally sheet in bytes: its plan and its records.
+// The tally sheet in bytes: its plan and its records, and a walk over them.
 ghost use mathlib.Core.Path.{_≡_};
 ghost use Prim.Native.Nat.{_+_, _≤_};
 ghost use lib.ListN.{length};
-ghost use Rattle.layout.specs.Layout.{markSize, planNumbersSize, rowSize, planSize, unitSize, planNumbersAt, rowAt, planOf, markAt, sizeOf, sampleUnitAt, entryOf, unitsIn};
+ghost use Rattle.layout.specs.Layout.{markSize, planNumbersSize, planSize, unitSize, planNumbersAt, planOf, markAt, sizeOf, sampleUnitAt, entryOf, unitsIn};
+ghost use Rattle.layout.specs.Walk.{firstPlace, placeAfter, RoomPast};
 use cusum::PlanNumbers;
 use encoding::number_at;
-use rules::Entry;
-use units::CLASSES;
+use units::CELLS;
+use units::Entry;
 use units::Plan;
-use units::Row;
 use units::SampleUnit;
 
-// Sizes of the records, and offsets of their fields.
+// Sizes of the records, and offsets of their fields, each behind the one before it.
 pub const MARK_SIZE: usize = 2;
 
-pub const PLAN_SIZE: usize = C_OFFSET + ROW_SIZE;
-
-pub const UNIT_SIZE: usize = 14;
-
-pub const REDESIGNATION_SIZE: usize = 3;
+const NUMBER_SIZE: usize = 2;
 
 // The designated grade of a plan, the new one of a redesignation.
-pub const GRADE_OFFSET: usize = 2;
+pub const GRADE_OFFSET: usize = MARK_SIZE;
 
 // The table of a plan: for grades A, B and C, within each the classes, within each S, T and L.
-const PLAN_NUMBERS_SIZE: usize = 6;
+const TABLE_OFFSET: usize = GRADE_OFFSET + 1;
 
-const ROW_SIZE: usize = CLASSES * PLAN_NUMBERS_SIZE;
+const TOLERANCE_OFFSET: usize = NUMBER_SIZE;
 
-const A_OFFSET: usize = 3;
+const LIMIT_OFFSET: usize = TOLERANCE_OFFSET + NUMBER_SIZE;
 
-const B_OFFSET: usize = A_OFFSET + ROW_SIZE;
+const PLAN_NUMBERS_SIZE: usize = LIMIT_OFFSET + NUMBER_SIZE;
 
-const C_OFFSET: usize = B_OFFSET + ROW_SIZE;
-
-// The classes of a row behind critical.
-const SEVERE_NUMBERS: usize = PLAN_NUMBERS_SIZE;
-
-const MAJOR_NUMBERS: usize = 2 * PLAN_NUMBERS_SIZE;
-
-const TOTAL_NUMBERS: usize = 3 * PLAN_NUMBERS_SIZE;
+pub const PLAN_SIZE: usize = TABLE_OFFSET + PLAN_NUMBERS_SIZE * CELLS;
 
 // A unit.
-const CODE_OFFSET: usize = 2;
+const CODE_OFFSET: usize = MARK_SIZE;
 
-const CRITICAL_OFFSET: usize = 4;
+const CRITICAL_OFFSET: usize = CODE_OFFSET + NUMBER_SIZE;
 
-const SEVERE_OFFSET: usize = 6;
+const SEVERE_OFFSET: usize = CRITICAL_OFFSET + NUMBER_SIZE;
 
-const MAJOR_OFFSET: usize = 8;
+const MAJOR_OFFSET: usize = SEVERE_OFFSET + NUMBER_SIZE;
 
-const MINOR_OFFSET: usize = 10;
+const MINOR_OFFSET: usize = MAJOR_OFFSET + NUMBER_SIZE;
 
-pub const PREREQUISITE_OFFSET: usize = 12;
+pub const PREREQUISITE_OFFSET: usize = MINOR_OFFSET + NUMBER_SIZE;
 
-pub const RECOVERABLE_OFFSET: usize = 13;
+pub const RECOVERABLE_OFFSET: usize = PREREQUISITE_OFFSET + 1;
+
+pub const UNIT_SIZE: usize = RECOVERABLE_OFFSET + 1;
+
+pub const REDESIGNATION_SIZE: usize = GRADE_OFFSET + 1;
 
 // Which record a mark opens.
 pub enum Mark {
@@ -64,27 +57,22 @@ pub enum Mark {
     NoMark,
 }
 
+// Where a walk over the records stands: the number of a record, its offset, the units before it.
+pub struct Place {
+    pub index: usize,
+    pub at: usize,
+    pub units: usize,
+}
+
 fn plan_numbers_at(bytes: &[u8], at: usize) -> PlanNumbers
     requires { ⌜ at + planNumbersSize ≤ length (now bytes) ⌝ }
     ensures { λ r. ⌜ r ≡ planNumbersAt (now (bytes .entry)) at ⌝ }
 {
     PlanNumbers {
         start: number_at(bytes, at),
-        tolerance: number_at(bytes, at + 2),
-        limit: number_at(bytes, at + 4),
+        tolerance: number_at(bytes, at + TOLERANCE_OFFSET),
+        limit: number_at(bytes, at + LIMIT_OFFSET),
     }
-}
-
-fn row_at(bytes: &[u8], at: usize) -> Row
-    requires { ⌜ at + rowSize ≤ length (now bytes) ⌝ }
-    ensures { λ r. ⌜ r ≡ rowAt (now (bytes .entry)) at ⌝ }
-{
-    [
-        plan_numbers_at(bytes, at),
-        plan_numbers_at(bytes, at + SEVERE_NUMBERS),
-        plan_numbers_at(bytes, at + MAJOR_NUMBERS),
-        plan_numbers_at(bytes, at + TOTAL_NUMBERS),
-    ]
 }
 
 // The plan of a sheet that is long enough for it.
@@ -92,23 +80,17 @@ pub fn plan_of(bytes: &[u8]) -> Plan
     requires { ⌜ planSize ≤ length (now bytes) ⌝ }
     ensures { λ r. ⌜ r ≡ planOf (now (bytes .entry)) ⌝ }
 {
-    let a = row_at(bytes, A_OFFSET);
-    let b = row_at(bytes, B_OFFSET);
-    let c = row_at(bytes, C_OFFSET);
-    let numbers = [
-        a[0],
-        a[1],
-        a[2],
-        a[3],
-        b[0],
-        b[1],
-        b[2],
-        b[3],
-        c[0],
-        c[1],
-        c[2],
-        c[3],
-    ];
+    let none = PlanNumbers {
+        start: 0,
+        tolerance: 0,
+        limit: 0,
+    };
+    let mut numbers = [none; CELLS];
+    let mut cell: usize = 0;
+    while cell < CELLS {
+        numbers[cell] = plan_numbers_at(bytes, TABLE_OFFSET + PLAN_NUMBERS_SIZE * cell);
+        cell += 1;
+    }
     Plan {
         designated: bytes[GRADE_OFFSET],
         numbers: numbers,
@@ -134,7 +116,7 @@ pub fn mark_at(bytes: &[u8], at: usize) -> Mark
 }
 
 // The size of a record by its mark.
-pub fn size_of(mark: Mark) -> usize
+fn size_of(mark: Mark) -> usize
     ensures { λ r. ⌜ r ≡ sizeOf mark ⌝ }
 {
     match mark {
@@ -146,7 +128,7 @@ pub fn size_of(mark: Mark) -> usize
 }
 
 // 1 for a unit, 0 for any other record.
-pub fn units_in(mark: Mark) -> usize
+fn units_in(mark: Mark) -> usize
     ensures { λ r. ⌜ r ≡ unitsIn mark ⌝ }
 {
     match mark {
@@ -183,5 +165,30 @@ pub fn entry_at(bytes: &[u8], at: usize, mark: Mark) -> Entry
         Mark::RedesignationMark => Entry::Redesignation(bytes[at + GRADE_OFFSET]),
         Mark::BreakMark => Entry::Break,
         Mark::NoMark => Entry::Break,
+    }
+}
+
+impl Place {
+    // Before the first record.
+    pub fn first() -> Place
+        ensures { λ r. ⌜ r ≡ firstPlace ⌝ }
+    {
+        Place {
+            index: 0,
+            at: PLAN_SIZE,
+            units: 0,
+        }
+    }
+
+    // Past a record with this mark.
+    pub fn past(self, mark: Mark) -> Place
+        requires { ⌜ RoomPast self mark ⌝ }
+        ensures { λ r. ⌜ r ≡ placeAfter self mark ⌝ }
+    {
+        Place {
+            index: self.index + 1,
+            at: self.at + size_of(mark),
+            units: self.units + units_in(mark),
+        }
     }
 }

@@ -39,9 +39,10 @@ more-digits value more =
 pub length-more : (value : ℕ) → 10 ≤ value → length (decimal value) ≡ length (decimal (value / 10)) + 1
 length-more value more = ap length (more-digits value more) ∙ length-append (decimal (value / 10)) (digit (value % 10) ∷ [])
 
-pub length-decimal : (places value : ℕ) → value < 10 ^ suc places → length (decimal value) ≤ suc places
-length-decimal zero value below = rw (one-digit value below) (omega arith)
-length-decimal (suc places) value below = go (ltb value 10) refl (length-decimal places (value / 10))
+pub length-decimal : (places value : ℕ) → 1 ≤ places → value < 10 ^ places → length (decimal value) ≤ places
+length-decimal zero value some below = absurd (omega arith)
+length-decimal (suc zero) value some below = rw (one-digit value below) (omega arith)
+length-decimal (suc (suc places)) value some below = go (ltb value 10) refl (length-decimal (suc places) (value / 10) (omega arith))
   where
     go : (one : Bool) → ltb value 10 ≡ one → (value / 10 < 10 ^ suc places → length (decimal (value / 10)) ≤ suc places)
         → length (decimal value) ≤ suc (suc places)

@@ -1,5 +1,5 @@
 pub mod Decimals
 pub mod Writing
+pub mod Classes
 pub mod LineLengths
 pub mod Printed
-pub mod Peach

@@ -4,7 +4,7 @@ use Prim.Native.Char.{code}
 use mathlib.Core.Bool.{cond}
 use mathlib.Core.List.{List, [], _∷_, _++_, map}
 use lib.Dec.{eqb, ltb}
-use lib.ListN.{length, getD, replicate}
+use lib.ListN.{length, drop, getD, replicate}
 use Rattle.units.specs.Words.{classes}
 use Rattle.sheet.specs.Refusals.{mostUnits}
 use Rattle.results.specs.Record.{resultSize, codeIn, portionGradeIn, codeGradeIn, planGradeIn, standingIn, cusumIn}
@@ -40,32 +40,42 @@ unfoldable pub oneDecimal : ℕ → List ℕ
 oneDecimal tenths = decimal (tenths / 10) ++ (point ∷ digit (tenths % 10) ∷ [])
 
 -- a grade: A, B, C, else S
-unfoldable pub gradeLetter : ℕ → ℕ
+abbrev pub gradeLetter : ℕ → ℕ
 gradeLetter grade = getD (ascii "ABC") grade (code "S")
 
 -- a standing: m, f, u, else r
-unfoldable pub standingLetter : ℕ → ℕ
+abbrev pub standingLetter : ℕ → ℕ
 standingLetter standing = getD (ascii "mfu") standing (code "r")
 
 -- ---- lines
 
--- fields parted by one space, and a newline
-unfoldable pub lineWith : List (List ℕ) → List ℕ
-lineWith [] = newline ∷ []
-lineWith (field ∷ []) = field ++ (newline ∷ [])
-lineWith (field ∷ next ∷ fields) = field ++ (space ∷ lineWith (next ∷ fields))
+-- what follows the first field of a line: each further field behind a space, and at last a newline
+unfoldable pub restOfLine : List (List ℕ) → List ℕ
+restOfLine [] = newline ∷ []
+restOfLine (field ∷ fields) = (space ∷ field) ++ restOfLine fields
 
--- unit j, the first being 0: unit number from 1, code, portion grade, code grade, standing, plan grade, four CuSums
+-- fields parted by one space, and a newline
+unfoldable pub lineWith : List ℕ → List (List ℕ) → List ℕ
+lineWith first others = first ++ restOfLine others
+
+-- the CuSum of a class of unit j, and those of all classes
+abbrev pub cusumField : List ℕ → ℕ → ℕ → List ℕ
+cusumField results j class = oneDecimal (cusumIn results j class)
+
+abbrev pub cusumFields : List ℕ → ℕ → List (List ℕ)
+cusumFields results j = map (cusumField results j) classes
+
+-- unit j, the first being 0: unit number from 1, code, portion grade, code grade, standing, plan grade, a CuSum for each class
 unfoldable pub lineOf : List ℕ → ℕ → List ℕ
 lineOf results j =
     lineWith
-    (decimal (j + 1)
-    ∷ decimal (codeIn results j)
+    (decimal (j + 1))
+    (decimal (codeIn results j)
     ∷ (gradeLetter (portionGradeIn results j) ∷ [])
     ∷ (gradeLetter (codeGradeIn results j) ∷ [])
     ∷ (standingLetter (standingIn results j) ∷ [])
     ∷ (gradeLetter (planGradeIn results j) ∷ [])
-    ∷ map (λ class. oneDecimal (cusumIn results j class)) classes)
+    ∷ cusumFields results j)
 
 -- a line for each of n units
 unfoldable pub linesOf : List ℕ → ℕ → List ℕ
@@ -73,7 +83,7 @@ linesOf results zero = []
 linesOf results (suc n) = linesOf results n ++ lineOf results n
 
 unfoldable pub refusedLine : ℕ → ℕ → List ℕ
-refusedLine number offset = lineWith (ascii "refused" ∷ decimal number ∷ decimal offset ∷ [])
+refusedLine number offset = lineWith (ascii "refused") (decimal number ∷ decimal offset ∷ [])
 
 -- ---- the whole text
 
@@ -99,12 +109,11 @@ printed input =
     cond (ltb largestInput (length input)) (refusedLine tooMuchInput largestInput)
     (textOf (outcome input emptyResults .answer) (outcome input emptyResults .buffer))
 
--- ---- room
+-- the printing function's answer, the size of the printed text, and the caller's text as it is left
+pub record Printing : Type 0 where
+  pub size : ℕ
+  pub text : List ℕ
 
--- no unit's line is longer
-abbrev pub lineSize : ℕ
-lineSize = 64
-
--- enough for every text
-abbrev pub textSize : ℕ
-textSize = lineSize * mostUnits
+-- what is printed stands first, and the bytes behind it are kept
+unfoldable pub printing : List ℕ → List ℕ → Printing
+printing input text = record { size = length (printed input); text = printed input ++ drop (length (printed input)) text }

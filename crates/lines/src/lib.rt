@@ -2,13 +2,12 @@
 // on and answers where its text ends.
 ghost use mathlib.Core.Path.{_≡_};
 ghost use Prim.Native.Nat.{_+_, _*_, _≤_};
-ghost use mathlib.Core.List.{[], _∷_, map};
-ghost use lib.ListN.{length};
-ghost use Rattle.encoding.specs.Bytes.{byte, number};
-ghost use Rattle.units.specs.Words.{classes};
-ghost use Rattle.results.specs.Record.{resultSize, portionGradeIn, codeGradeIn, planGradeIn, standingIn, cusumIn};
-ghost use Rattle.lines.specs.Lines.{space, decimal, oneDecimal, gradeLetter, standingLetter, lineWith, lineOf, linesOf, refusedLine, printed, lineSize, textSize};
-ghost use Rattle.lines.specs.Wrote.{Wrote};
+ghost use mathlib.Core.List.{[], _∷_};
+ghost use lib.ListN.{length, getD};
+ghost use Rattle.encoding.specs.Bytes.{number};
+ghost use Rattle.results.specs.Record.{resultSize};
+ghost use Rattle.lines.specs.Lines.{space, decimal, oneDecimal, gradeLetter, standingLetter, restOfLine, cusumFields, lineOf, linesOf, refusedLine, Printing, printing};
+ghost use Rattle.lines.specs.Wrote.{Wrote, letterFields, lineSize};
 use encoding::number_at;
 use results::CODE_GRADE_OFFSET;
 use results::CODE_OFFSET;
@@ -18,14 +17,30 @@ use results::PORTION_GRADE_OFFSET;
 use results::RESULT_SIZE;
 use results::STANDING_OFFSET;
 use sheet::MOST_UNITS;
+use units::CLASSES;
 
 // The most bytes of input that are taken for a sheet, and the number that refuses more.
 pub const LARGEST_INPUT: usize = 65536;
 
 const TOO_MUCH_INPUT: u32 = 15;
 
-// Bytes enough for the line of a unit, and for those of the most units.
-const LINE_SIZE: usize = 64;
+// The most bytes of a usize in decimal, of a number of two bytes, and of a CuSum.
+const WORD_SIZE: usize = 20;
+
+const NUMBER_SIZE: usize = 5;
+
+const CUSUM_SIZE: usize = NUMBER_SIZE + 1;
+
+// Portion grade, code grade, standing and plan grade.
+const LETTERS: usize = 4;
+
+// The longest line of a unit, which has one byte behind each field; bytes enough for the lines of the most units.
+const LINE_SIZE: usize = WORD_SIZE
+    + 1
+    + NUMBER_SIZE
+    + 1
+    + LETTERS * (1 + 1)
+    + CLASSES * (CUSUM_SIZE + 1);
 
 pub const TEXT_SIZE: usize = LINE_SIZE * MOST_UNITS;
 
@@ -65,26 +80,27 @@ fn decimal(out: &mut [u8], at: usize, value: usize) -> usize
     put(out, after_others, b'0' + (value % 10) as u8)
 }
 
+// The letter of a number: by its place among the letters, or the other one.
+fn letter_of(letters: &[u8], other: u8, number: u8) -> u8
+    ensures { λ r. ⌜ r ≡ getD (now (letters .entry)) number other ⌝ }
+{
+    let place = number as usize;
+    if place < letters.len() {
+        return letters[place];
+    }
+    other
+}
+
 fn grade_letter(grade: u8) -> u8
     ensures { λ r. ⌜ r ≡ gradeLetter grade ⌝ }
 {
-    match grade {
-        0 => b'A',
-        1 => b'B',
-        2 => b'C',
-        _ => b'S',
-    }
+    letter_of(b"ABC", b'S', grade)
 }
 
 fn standing_letter(standing: u8) -> u8
     ensures { λ r. ⌜ r ≡ standingLetter standing ⌝ }
 {
-    match standing {
-        0 => b'm',
-        1 => b'f',
-        2 => b'u',
-        _ => b'r',
-    }
+    letter_of(b"mfu", b'r', standing)
 }
 
 // ---- fields, each behind a space
@@ -97,69 +113,46 @@ fn number_field(out: &mut [u8], at: usize, value: usize) -> usize
     decimal(out, after_space, value)
 }
 
-fn letter_field(out: &mut [u8], at: usize, letter: u8) -> usize
-    requires { ⌜ at + 2 ≤ length (now out) ⌝ }
-    ensures { λ r. ⌜ Wrote (now (out .entry)) at (space ∷ letter ∷ []) (now (out .exit)) r ⌝ }
-{
-    let after_space = put(out, at, b' ');
-    put(out, after_space, letter)
-}
-
-// The grade, the standing, the tenths that stand at an offset of the result buffer.
-fn grade_field(results: &[u8], offset: usize, out: &mut [u8], at: usize) -> usize
-    requires { ⌜ (offset + 1 ≤ length (now results)) × (at + 2 ≤ length (now out)) ⌝ }
-    ensures { λ r. ⌜ Wrote (now (out .entry)) at (space ∷ gradeLetter (byte (now (results .entry)) offset) ∷ []) (now (out .exit)) r ⌝ }
-{
-    letter_field(out, at, grade_letter(results[offset]))
-}
-
-fn standing_field(results: &[u8], offset: usize, out: &mut [u8], at: usize) -> usize
-    requires { ⌜ (offset + 1 ≤ length (now results)) × (at + 2 ≤ length (now out)) ⌝ }
-    ensures { λ r. ⌜ Wrote (now (out .entry)) at (space ∷ standingLetter (byte (now (results .entry)) offset) ∷ []) (now (out .exit)) r ⌝ }
-{
-    letter_field(out, at, standing_letter(results[offset]))
-}
-
+// The tenths that stand at an offset of the result buffer.
 fn tenths_field(results: &[u8], offset: usize, out: &mut [u8], at: usize) -> usize
     requires { ⌜ (offset + 2 ≤ length (now results)) × (at + length (space ∷ oneDecimal (number (now results) offset)) ≤ length (now out)) ⌝ }
     ensures { λ r. ⌜ Wrote (now (out .entry)) at (space ∷ oneDecimal (number (now (results .entry)) offset)) (now (out .exit)) r ⌝ }
 {
     let tenths = number_at(results, offset);
     let after_whole = number_field(out, at, (tenths / 10) as usize);
-    let after_point = put(out, after_whole, b'.');
-    put(out, after_point, b'0' + (tenths % 10) as u8)
+    let fraction = [b'.', b'0' + (tenths % 10) as u8];
+    put_all(out, after_whole, &fraction)
 }
 
 // ---- lines
 
 // The four letters of unit j.
 fn letter_fields(results: &[u8], j: usize, out: &mut [u8], at: usize) -> usize
-    requires { ⌜ (resultSize * j + resultSize ≤ length (now results)) × (at + 8 ≤ length (now out)) ⌝ }
-    ensures { λ r. ⌜ Wrote (now (out .entry)) at
-        (space ∷ gradeLetter (portionGradeIn (now (results .entry)) j) ∷ space ∷ gradeLetter (codeGradeIn (now (results .entry)) j)
-        ∷ space ∷ standingLetter (standingIn (now (results .entry)) j) ∷ space ∷ gradeLetter (planGradeIn (now (results .entry)) j) ∷ [])
-        (now (out .exit)) r ⌝ }
+    requires { ⌜ (resultSize * j + resultSize ≤ length (now results)) × (at + length (letterFields (now results) j) ≤ length (now out)) ⌝ }
+    ensures { λ r. ⌜ Wrote (now (out .entry)) at (letterFields (now (results .entry)) j) (now (out .exit)) r ⌝ }
 {
     let record = RESULT_SIZE * j;
-    let after_portion = grade_field(results, record + PORTION_GRADE_OFFSET, out, at);
-    let after_code = grade_field(results, record + CODE_GRADE_OFFSET, out, after_portion);
-    let after_standing = standing_field(results, record + STANDING_OFFSET, out, after_code);
-    grade_field(results, record + PLAN_GRADE_OFFSET, out, after_standing)
+    let portion = grade_letter(results[record + PORTION_GRADE_OFFSET]);
+    let code = grade_letter(results[record + CODE_GRADE_OFFSET]);
+    let standing = standing_letter(results[record + STANDING_OFFSET]);
+    let plan = grade_letter(results[record + PLAN_GRADE_OFFSET]);
+    let letters = [b' ', portion, b' ', code, b' ', standing, b' ', plan];
+    put_all(out, at, &letters)
 }
 
-// The four CuSums of unit j, and the newline.
+// The CuSums of unit j, of two bytes each, and the newline.
 fn cusum_fields(results: &[u8], j: usize, out: &mut [u8], at: usize) -> usize
-    requires { ⌜ (resultSize * j + resultSize ≤ length (now results))
-        × (at + length (space ∷ lineWith (map (λ class. oneDecimal (cusumIn (now results) j class)) classes)) ≤ length (now out)) ⌝ }
-    ensures { λ r. ⌜ Wrote (now (out .entry)) at
-        (space ∷ lineWith (map (λ class. oneDecimal (cusumIn (now (results .entry)) j class)) classes)) (now (out .exit)) r ⌝ }
+    requires { ⌜ (resultSize * j + resultSize ≤ length (now results)) × (at + length (restOfLine (cusumFields (now results) j)) ≤ length (now out)) ⌝ }
+    ensures { λ r. ⌜ Wrote (now (out .entry)) at (restOfLine (cusumFields (now (results .entry)) j)) (now (out .exit)) r ⌝ }
 {
     let record = RESULT_SIZE * j;
-    let after_critical = tenths_field(results, record + CUSUMS_OFFSET, out, at);
-    let after_severe = tenths_field(results, record + (CUSUMS_OFFSET + 2), out, after_critical);
-    let after_major = tenths_field(results, record + (CUSUMS_OFFSET + 4), out, after_severe);
-    let after_total = tenths_field(results, record + (CUSUMS_OFFSET + 6), out, after_major);
-    put(out, after_total, b'\n')
+    let mut end = at;
+    let mut class: usize = 0;
+    while class < CLASSES {
+        end = tenths_field(results, record + (CUSUMS_OFFSET + 2 * class), out, end);
+        class += 1;
+    }
+    put(out, end, b'\n')
 }
 
 // The line of unit j, the first being 0.
@@ -190,7 +183,7 @@ fn unit_lines(results: &[u8], units: usize, out: &mut [u8]) -> usize
 
 // "refused", number and offset.
 fn refusal_line(number: u32, offset: usize, out: &mut [u8]) -> usize
-    requires { ⌜ lineSize ≤ length (now out) ⌝ }
+    requires { ⌜ length (refusedLine number offset) ≤ length (now out) ⌝ }
     ensures { λ r. ⌜ Wrote (now (out .entry)) 0 (refusedLine number offset) (now (out .exit)) r ⌝ }
 {
     let after_word = put_all(out, 0, b"refused");
@@ -201,18 +194,17 @@ fn refusal_line(number: u32, offset: usize, out: &mut [u8]) -> usize
 
 // ---- the whole text
 
-// What is printed for an input: the lines of the sheet that it is, or the refusal.
-pub fn print_into(input: &[u8], out: &mut [u8]) -> usize
-    requires { ⌜ textSize ≤ length (now out) ⌝ }
-    ensures { λ r. ⌜ Wrote (now (out .entry)) 0 (printed (now (input .entry))) (now (out .exit)) r ⌝ }
+// What is printed for an input: the lines of the sheet that it is, or the refusal. It stands first in the text; the answer is its size.
+pub fn print_into(input: &[u8], text: &mut [u8; TEXT_SIZE]) -> usize
+    ensures { λ r. ⌜ _≡_ {A = Printing} (record { size = r; text = now (text .exit) }) (printing (now (input .entry)) (now (text .entry))) ⌝ }
 {
     if LARGEST_INPUT < input.len() {
-        return refusal_line(TOO_MUCH_INPUT, LARGEST_INPUT, out);
+        return refusal_line(TOO_MUCH_INPUT, LARGEST_INPUT, text);
     }
     let mut results = [0u8; RESULT_SIZE * MOST_UNITS];
     let answer = tally::grade(input, &mut results);
     if answer.number == 0 {
-        return unit_lines(&results, answer.units, out);
+        return unit_lines(&results, answer.units, text);
     }
-    refusal_line(answer.number, answer.offset, out)
+    refusal_line(answer.number, answer.offset, text)
 }

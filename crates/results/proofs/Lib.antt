@@ -1,7 +1,4 @@
 pub mod Stores
 pub mod Fields
-pub mod Graded
-pub mod CodeGrades
-mod Next
-mod OneCode
-mod GradingPass
+pub mod Written
+pub mod Computing

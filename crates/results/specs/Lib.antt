@@ -1,3 +1,2 @@
 pub mod Record
-pub mod Codes
-pub mod OneCode
+pub mod Written

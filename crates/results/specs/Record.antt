@@ -1,16 +1,17 @@
 -- The result record of a unit in bytes: mark 47 52, production code (2), portion grade (1), code grade (1), grade of the plan in
--- force (1, or 3 if none), standing (1), four CuSums (2 each, tenths).
+-- force (1, or 3 if none), standing (1), the CuSum of each class (2 each, tenths).
 use Prim.Native.Nat.{ℕ, _+_, _*_}
 use mathlib.Core.List.{List, [], _∷_}
+use lib.ListN.{length}
 use Rattle.cusum.specs.declared.Cusum.{Cusum}
 use Rattle.encoding.specs.Bytes.{byte, number, high, low}
 use Rattle.units.specs.Words.{classes, tenthsIn}
 use Rattle.results.specs.declared.ResultRecord.{ResultRecord}
 
--- ---- size of the record, and offsets of its fields
+-- ---- offsets of the fields, and size of the record
 
-abbrev pub resultSize : ℕ
-resultSize = 16
+abbrev pub markOffset : ℕ
+markOffset = 0
 
 abbrev pub codeOffset : ℕ
 codeOffset = 2
@@ -30,6 +31,9 @@ standingOffset = 7
 abbrev pub cusumsOffset : ℕ
 cusumsOffset = 8
 
+abbrev pub resultSize : ℕ
+resultSize = cusumsOffset + 2 * length classes
+
 -- ---- its bytes
 
 -- the two bytes of each CuSum, class by class
@@ -44,6 +48,9 @@ resultBytes codeGrade result =
     ∷ result .portion ∷ codeGrade ∷ result .plan ∷ result .standing ∷ cusumBytes classes (result .cusums)
 
 -- ---- a field of the record of unit j, read back from the result buffer
+
+abbrev pub markIn : List ℕ → ℕ → ℕ
+markIn results j = number results (resultSize * j + markOffset)
 
 abbrev pub codeIn : List ℕ → ℕ → ℕ
 codeIn results j = number results (resultSize * j + codeOffset)

@@ -1,5 +1,6 @@
 -- The anchor by its place: wherever the latest anchor lies, the trail has its kind and the counts since it; and there is one.
--- By induction on the records since the anchor, and on the records for the search.
+-- By induction on the records since the anchor, and, to find one, on all records: that of the record before stays, unless this one fails
+-- or a restart lies between.
 use Prim.Native.Nat.{ℕ, zero, suc, _+_, _≤_, _<_}
 use mathlib.Core.Path.{_≡_, refl, _∙_, ap, subst, subst⁻¹}
 use mathlib.Core.Logic.{_⊎_, inl, inr}
@@ -11,76 +12,84 @@ use lib.ListN.{length}
 use lib.IntN.{pos}
 use Rattle.cusum.specs.LargestForm.{largestForm}
 use Rattle.units.specs.declared.SampleUnit.{SampleUnit}
-use Rattle.rules.specs.declared.Entry.the-variants.{UnitRecord}
+use Rattle.units.specs.declared.Entry.the-variants.{UnitRecord}
 use Rattle.units.specs.Words.{hasPlan, classes, numbersOf, countsOf}
 use Rattle.units.specs.Unit.{classCusum}
 use Rattle.rules.specs.Sheet.{Sheet, before, inForceAt}
-use Rattle.rules.specs.Anchor.{anchorValue, countAt, restartAt, failureAt, countsFrom, Anchor, opening, restart, failure, Latest}
-use Rattle.rules.proofs.LargestForm.{Trail, restarted, failedHere, trailWith, trailBefore, trailAt, largest-form}
+use Rattle.rules.specs.Anchor.{anchorValue, countAt, restartAt, classFailsAt, countsFrom, Anchor, opening, restart, failure, Latest}
+use Rattle.rules.proofs.LargestForm.{Trail, fromStart, failedHere, trailWith, trailBefore, trailAt, largest-form}
 
 module _ (sheet : Sheet) (class : ℕ) where
-  -- up to and with record i
-  abbrev at : ℕ → Trail
-  at i = trailAt sheet class i
+  -- one record more on a trail: its count, if it is a unit
+  abbrev extended : Trail → ℕ → Trail
+  extended trail i = record { failed = trail .failed; counts = trail .counts ++ countAt class (sheet .entry i) }
 
-  passes : (i : ℕ) → restartAt sheet i ≡ false → trailBefore sheet class (suc i) ≡ at i
-  unfolding trailBefore restartAt
-  passes i e = rw e
+  trail-kept : (i : ℕ) → restartAt sheet i ≡ false → trailBefore sheet class (suc i) ≡ trailAt sheet class i
+  unfolding trailBefore
+  trail-kept i e = rw e
 
-  meets : (i : ℕ) → failureAt sheet class i ≡ false → at i ≡ record { failed = trailBefore sheet class i .failed; counts = trailBefore sheet class i .counts ++ countAt class (sheet .entry i) }
-  unfolding trailWith failureAt
-  meets i e = rw e
+  trail-restarted : (i : ℕ) → restartAt sheet i ≡ true → trailBefore sheet class (suc i) ≡ fromStart
+  unfolding trailBefore
+  trail-restarted i e = rw e
 
-  falls : (i : ℕ) → failureAt sheet class i ≡ true → at i ≡ failedHere
-  unfolding trailWith failureAt
-  falls i e = rw e
+  trail-extended : (i : ℕ) → classFailsAt sheet class i ≡ false → trailAt sheet class i ≡ extended (trailBefore sheet class i) i
+  unfolding trailWith classFailsAt
+  trail-extended i e = rw e
 
-  restarts-here : (i : ℕ) → restartAt sheet i ≡ true → trailBefore sheet class (suc i) ≡ restarted
-  unfolding trailBefore restartAt
-  restarts-here i e = rw e
+  trail-failed : (i : ℕ) → classFailsAt sheet class i ≡ true → trailAt sheet class i ≡ failedHere
+  unfolding trailWith classFailsAt
+  trail-failed i e = rw e
 
-  -- from record a on, with nothing behind it: no failure and no restart before record a + n
-  run : (a n : ℕ) (x : Bool) → trailBefore sheet class a ≡ record { failed = x; counts = [] }
-      → ((j : ℕ) → a ≤ j → j < a + n → failureAt sheet class j ≡ false) → ((j : ℕ) → a ≤ j → j < a + n → restartAt sheet j ≡ false)
-      → trailBefore sheet class (a + n) ≡ record { failed = x; counts = countsFrom sheet class a n }
+  -- from record `from` on, with nothing behind the anchor: no failure and no restart before record from + n
+  trail-between : (from n : ℕ) (failed : Bool) → trailBefore sheet class from ≡ record { failed = failed; counts = [] }
+      → ((j : ℕ) → from ≤ j → j < from + n → classFailsAt sheet class j ≡ false)
+      → ((j : ℕ) → from ≤ j → j < from + n → restartAt sheet j ≡ false)
+      → trailBefore sheet class (from + n) ≡ record { failed = failed; counts = countsFrom sheet class from n }
   unfolding countsFrom
-  run a zero x e f r = rw add-zero e
-  run a (suc n) x e f r =
-      let ih = run a n x e (λ j h l. f j h (omega arith)) (λ j h l. r j h (omega arith)) in
-      ap (trailBefore sheet class) (add-suc a n)
-      ∙ passes (a + n) (r (a + n) (omega arith) (omega arith))
-      ∙ meets (a + n) (f (a + n) (omega arith) (omega arith))
-      ∙ ap (λ (t : Trail). record { failed = t .failed; counts = t .counts ++ countAt class (sheet .entry (a + n)) }) ih
+  trail-between from zero failed e f r = rw add-zero e
+  trail-between from (suc n) failed e f r =
+      let earlier = trail-between from n failed e (λ j h l. f j h (omega arith)) (λ j h l. r j h (omega arith)) in
+      ap (trailBefore sheet class) (add-suc from n)
+      ∙ trail-kept (from + n) (r (from + n) (omega arith) (omega arith))
+      ∙ trail-extended (from + n) (f (from + n) (omega arith) (omega arith))
+      ∙ ap (λ (trail : Trail). extended trail (from + n)) earlier
 
-  -- with record a + n, too
-  closed : (a n : ℕ) (x : Bool) → trailBefore sheet class a ≡ record { failed = x; counts = [] } → Latest sheet class (a + n) a → at (a + n) ≡ record { failed = x; counts = countsFrom sheet class a (suc n) }
+  -- with record from + n, too
+  trail-through : (from n : ℕ) (failed : Bool) → trailBefore sheet class from ≡ record { failed = failed; counts = [] }
+      → Latest sheet class (from + n) from
+      → trailAt sheet class (from + n) ≡ record { failed = failed; counts = countsFrom sheet class from (suc n) }
   unfolding countsFrom
-  closed a n x e l =
-      meets (a + n) (l .no-failure (a + n) (omega arith) (omega arith))
-      ∙ ap (λ (t : Trail). record { failed = t .failed; counts = t .counts ++ countAt class (sheet .entry (a + n)) })
-      (run a n x e (λ j h m. l .no-failure j h (omega arith)) (λ j h m. l .no-restart j h m))
+  trail-through from n failed e latest =
+      trail-extended (from + n) (latest .no-failure (from + n) (omega arith) (omega arith))
+      ∙ ap (λ (trail : Trail). extended trail (from + n))
+      (trail-between from n failed e (λ j h m. latest .no-failure j h (omega arith)) (λ j h m. latest .no-restart j h m))
 
   -- the trail before a record that an anchor lies right before
-  behind : (i a : ℕ) (x : Bool) → a ≤ i → Anchor sheet class i a x → trailBefore sheet class a ≡ record { failed = x; counts = [] }
+  trail-at-anchor : (i from : ℕ) (failed : Bool) → from ≤ i → Anchor sheet class i from failed
+      → trailBefore sheet class from ≡ record { failed = failed; counts = [] }
   unfolding trailBefore
-  behind i a x h opening = refl
-  behind i a x h (restart j l e) = restarts-here j e
-  behind i a x h (failure j l e r) = passes j (r h) ∙ falls j e
+  trail-at-anchor i from failed h opening = refl
+  trail-at-anchor i from failed h (restart j l e) = trail-restarted j e
+  trail-at-anchor i from failed h (failure j l e r) = trail-kept j (r h) ∙ trail-failed j e
 
-  -- the latest anchor, where it lies behind record i itself
-  last : (i a : ℕ) (x : Bool) → i < a → Anchor sheet class i a x → (i ≡ i) × (at i ≡ record { failed = x; counts = [] }) × (a ≡ suc i)
-  last i a x h opening = absurd (omega arith)
-  last i a x h (restart j l e) = absurd (omega arith)
-  last i a x h (failure j l e r) = let q : j ≡ i = omega arith in (refl, subst (λ (y : ℕ). at y ≡ failedHere) q (falls j e), ap suc q)
+  -- where the anchor lies behind record i itself, that is at a failure of its own
+  trail-at-own : (i from : ℕ) (failed : Bool) → i < from → Anchor sheet class i from failed
+      → trailAt sheet class i ≡ record { failed = failed; counts = [] }
+  trail-at-own i from failed h opening = absurd (omega arith)
+  trail-at-own i from failed h (restart j l e) = absurd (omega arith)
+  trail-at-own i from failed h (failure j l e r) =
+      let same : j ≡ i = omega arith in subst (λ (record-number : ℕ). trailAt sheet class record-number ≡ failedHere) same (trail-failed j e)
 
-  -- THE ANCHOR: wherever the latest one lies, the fold has its kind and the counts since it
-  pub anchored : (i a n : ℕ) (x : Bool) → a + n ≡ suc i → Anchor sheet class i a x → Latest sheet class i a → at i ≡ record { failed = x; counts = countsFrom sheet class a n }
+  -- THE ANCHOR: wherever the latest one lies, the trail has its kind and the counts since it
+  pub anchored : (i from n : ℕ) (failed : Bool) → from + n ≡ suc i → Anchor sheet class i from failed → Latest sheet class i from
+      → trailAt sheet class i ≡ record { failed = failed; counts = countsFrom sheet class from n }
   unfolding countsFrom
-  anchored i a zero x e h l = last i a x (omega arith) h .1
-  anchored i a (suc n) x e h l =
-      let q : a + n ≡ i = omega arith in
-      subst (λ (y : ℕ). at y ≡ record { failed = x; counts = countsFrom sheet class a (suc n) }) q
-      (closed a n x (behind i a x (omega arith) h) (subst⁻¹ (λ (y : ℕ). Latest sheet class y a) q l))
+  anchored i from zero failed e lies latest = trail-at-own i from failed (omega arith) lies
+  anchored i from (suc n) failed e lies latest =
+      let here : from + n ≡ i = omega arith in
+      subst (λ (record-number : ℕ). trailAt sheet class record-number ≡ record { failed = failed; counts = countsFrom sheet class from (suc n) }) here
+      (trail-through from n failed (trail-at-anchor i from failed (omega arith) lies)
+      (subst⁻¹ (λ (record-number : ℕ). Latest sheet class record-number from) here latest))
 
   -- and there is one
   pub record Found (i : ℕ) : Type 0 where
@@ -89,18 +98,18 @@ module _ (sheet : Sheet) (class : ℕ) where
     pub lies : Anchor sheet class i place failed
     pub latest : Latest sheet class i place
 
-  later : (i a : ℕ) (x : Bool) → restartAt sheet i ≡ false → Anchor sheet class i a x → Anchor sheet class (suc i) a x
-  later i a x e opening = opening
-  later i a x e (restart j l r) = restart j (omega arith) r
-  later i a x e (failure j l f r) = failure j (omega arith) f (λ h. go (eq-or-lt-of-le l))
+  anchor-later : (i from : ℕ) (failed : Bool) → restartAt sheet i ≡ false → Anchor sheet class i from failed → Anchor sheet class (suc i) from failed
+  anchor-later i from failed e opening = opening
+  anchor-later i from failed e (restart j l r) = restart j (omega arith) r
+  anchor-later i from failed e (failure j l f r) = failure j (omega arith) f (λ h. go (eq-or-lt-of-le l))
     where
       go : (j ≡ i) ⊎ (j < i) → restartAt sheet j ≡ false
-      go (inl q) = ap (restartAt sheet) q ∙ e
-      go (inr m) = r m
+      go (inl same) = ap (restartAt sheet) same ∙ e
+      go (inr less) = r less
 
   -- at a failure of this record's own
-  own : (i : ℕ) → failureAt sheet class i ≡ true → Found i
-  own i e = record {
+  found-own : (i : ℕ) → classFailsAt sheet class i ≡ true → Found i
+  found-own i e = record {
     place = suc i;
     failed = true;
     lies = failure i (omega arith) e (λ h. absurd (omega arith));
@@ -108,47 +117,54 @@ module _ (sheet : Sheet) (class : ℕ) where
   }
 
   -- right behind the restart or the opening that lies right before this record
-  fresh : (i : ℕ) → failureAt sheet class i ≡ false → Anchor sheet class i i false → Found i
-  fresh i e l = record {
+  found-before : (i : ℕ) → classFailsAt sheet class i ≡ false → Anchor sheet class i i false → Found i
+  found-before i e lies = record {
     place = i;
     failed = false;
-    lies = l;
-    latest = record { no-failure = λ j h m. let q : j ≡ i = omega arith in ap (failureAt sheet class) q ∙ e; no-restart = λ j h m. absurd (omega arith) };
+    lies = lies;
+    latest = record {
+      no-failure = λ j h m. let same : j ≡ i = omega arith in ap (classFailsAt sheet class) same ∙ e;
+      no-restart = λ j h m. absurd (omega arith);
+    };
   }
 
   -- that of the record before
-  kept : (i : ℕ) → failureAt sheet class (suc i) ≡ false → restartAt sheet i ≡ false → Found i → Found (suc i)
-  kept i e r f = record {
-    place = f .place;
-    failed = f .failed;
-    lies = later i (f .place) (f .failed) r (f .lies);
-    latest = record { no-failure = λ j h m. fall j h (eq-or-lt-of-le m); no-restart = λ j h m. rest j h (eq-or-lt-of-le (le-of-suc-le-suc m)) };
+  found-kept : (i : ℕ) → classFailsAt sheet class (suc i) ≡ false → restartAt sheet i ≡ false → Found i → Found (suc i)
+  found-kept i e r earlier = record {
+    place = earlier .place;
+    failed = earlier .failed;
+    lies = anchor-later i (earlier .place) (earlier .failed) r (earlier .lies);
+    latest = record {
+      no-failure = λ j h m. none-fails j h (eq-or-lt-of-le m);
+      no-restart = λ j h m. none-restarts j h (eq-or-lt-of-le (le-of-suc-le-suc m));
+    };
   }
     where
-      fall : (j : ℕ) → f .place ≤ j → (j ≡ suc i) ⊎ (j < suc i) → failureAt sheet class j ≡ false
-      fall j h (inl q) = ap (failureAt sheet class) q ∙ e
-      fall j h (inr m) = f .latest .no-failure j h (omega arith)
+      none-fails : (j : ℕ) → earlier .place ≤ j → (j ≡ suc i) ⊎ (j < suc i) → classFailsAt sheet class j ≡ false
+      none-fails j h (inl same) = ap (classFailsAt sheet class) same ∙ e
+      none-fails j h (inr less) = earlier .latest .no-failure j h (omega arith)
 
-      rest : (j : ℕ) → f .place ≤ j → (j ≡ i) ⊎ (j < i) → restartAt sheet j ≡ false
-      rest j h (inl q) = ap (restartAt sheet) q ∙ r
-      rest j h (inr m) = f .latest .no-restart j h m
+      none-restarts : (j : ℕ) → earlier .place ≤ j → (j ≡ i) ⊎ (j < i) → restartAt sheet j ≡ false
+      none-restarts j h (inl same) = ap (restartAt sheet) same ∙ r
+      none-restarts j h (inr less) = earlier .latest .no-restart j h less
 
   pub found : (i : ℕ) → Found i
-  found zero = go (failureAt sheet class 0) refl
+  found zero = go (classFailsAt sheet class 0) refl
     where
-      go : (t : Bool) → failureAt sheet class 0 ≡ t → Found 0
-      go true e = own 0 e
-      go false e = fresh 0 e opening
-  found (suc i) = go (found i) (failureAt sheet class (suc i)) refl (restartAt sheet i) refl
+      go : (fails : Bool) → classFailsAt sheet class 0 ≡ fails → Found 0
+      go true e = found-own 0 e
+      go false e = found-before 0 e opening
+  found (suc i) = go (found i) (classFailsAt sheet class (suc i)) refl (restartAt sheet i) refl
     where
-      go : Found i → (t : Bool) → failureAt sheet class (suc i) ≡ t → (v : Bool) → restartAt sheet i ≡ v → Found (suc i)
-      go f true e v r = own (suc i) e
-      go f false e true r = fresh (suc i) e (restart i (omega arith) r)
-      go f false e false r = kept i e r f
+      go : Found i → (fails : Bool) → classFailsAt sheet class (suc i) ≡ fails → (restarts : Bool) → restartAt sheet i ≡ restarts → Found (suc i)
+      go earlier true e restarts r = found-own (suc i) e
+      go earlier false e true r = found-before (suc i) e (restart i (omega arith) r)
+      go earlier false e false r = found-kept i e r earlier
 
 -- THE FIRST HALF OF DEMAND 3, over records, with the anchor told by its place
 pub largest-form-by-place : (sheet : Sheet) (class : ℕ) → class < length classes → (i : ℕ) (unit : SampleUnit) → sheet .entry i ≡ UnitRecord unit
-    → hasPlan (inForceAt sheet i) ≡ true → (from n : ℕ) (failed : Bool) → from + n ≡ suc i → Anchor sheet class i from failed → Latest sheet class i from →
+    → hasPlan (inForceAt sheet i) ≡ true
+    → (from n : ℕ) (failed : Bool) → from + n ≡ suc i → Anchor sheet class i from failed → Latest sheet class i from →
     let numbers = numbersOf (sheet .table) (inForceAt sheet i) class in
     pos (classCusum (sheet .table) (inForceAt sheet i) (before sheet i .cusums) (countsOf unit) class)
     ≡ largestForm numbers (anchorValue numbers failed) (countsFrom sheet class from n)

@@ -1,82 +1,96 @@
 -- When step 3 ends at a record, that record and the two right before it are sample units in step 3 that qualify: the finished run.
 -- The run counts back record by record, since every record that is no qualifying unit sets it to none.
 use Prim.Native.Nat.{ℕ, zero, suc, _+_, _≤_, _<_}
-use mathlib.Core.Path.{_≡_, refl, sym, _∙_, ap}
-use mathlib.Core.Bool.{Bool, true, false, _&&_, _||_, false≢true}
-use mathlib.Core.List.{List}
+use mathlib.Core.Path.{_≡_, refl, sym, _∙_, ap, subst⁻¹}
+use mathlib.Core.Bool.{Bool, true, false, cond, _&&_, _||_, false≢true}
 use native.Mathlib.Omega.{arith}
-use lib.Dec.{ltb, leb}
+use lib.Dec.{leb}
 use borrow.Author.Tests.{leb-true, leb-false}
-use Rattle.cusum.specs.declared.Cusum.{Cusum}
-use Rattle.units.specs.Conditions.{pick}
+use Rattle.units.specs.Words.{Table}
 use Rattle.units.specs.declared.SampleUnit.{SampleUnit}
-use Rattle.rules.specs.declared.Entry.{Entry}
-use Rattle.rules.specs.declared.Entry.the-variants.{UnitRecord, Redesignation, Break}
-use Rattle.rules.specs.declared.Previous.{Previous}
-use Rattle.rules.specs.declared.Previous.the-variants.{NoFailure, Failure}
+use Rattle.units.specs.declared.Entry.{Entry}
+use Rattle.units.specs.declared.Entry.the-variants.{UnitRecord, Redesignation, Break}
 use Rattle.rules.specs.declared.Phase.{Phase}
 use Rattle.rules.specs.declared.Phase.the-variants.{Designated, StepThree}
 use Rattle.rules.specs.declared.State.{State}
-use Rattle.units.specs.Words.{Table}
-use Rattle.rules.specs.StepThree.{afterDesignated, endsStepThree, afterStepThree, phaseAfterUnit, phaseAfterRedesignation, phaseAfterBreak, unitEndsStepThree, opening, graded, phaseAfter, recordEndsStepThree, stateWith, next}
+use Rattle.rules.specs.StepThree.{worseOfTwo, endsStepThree, withUnit, withoutRun, restarted, graded, qualifiesIn, afterUnit, afterRedesignation, afterBreak, next, recordEndsStepThree}
 use Rattle.rules.specs.Sheet.{Sheet, before, stepThreeEndsAt, inFinishedRun}
+use Rattle.rules.proofs.Steps.{unit-by, redesignation-by}
 
--- a phase is step 3 with this designated grade, lower grade and run
-unfoldable pub InStepThree : Phase → ℕ → ℕ → ℕ → Type 0
-InStepThree (Designated designated previous) d l n = ⊥
-InStepThree (StepThree designated lower run) d l n = (designated ≡ d) × (lower ≡ l) × (run ≡ n)
+-- a state is in step 3 with this designated grade, lower grade and run
+pub record InStepThree (state : State) (designated lower run : ℕ) : Type 0 where
+  pub same-designated : state .designated ≡ designated
+  pub same-phase : state .phase ≡ StepThree lower run
 
 -- a record is a unit that qualifies in step 3, after so many in a row
 pub record Qualifying (table : Table) (state : State) (entry : Entry) (designated lower run : ℕ) : Type 0 where
   pub unit : SampleUnit
   pub is-unit : entry ≡ UnitRecord unit
-  pub in-step-three : InStepThree (state .phase) designated lower run
-  pub qualifies : graded table state unit .qualifies ≡ true
+  pub in-step-three : InStepThree state designated lower run
+  pub qualifies : qualifiesIn table state unit ≡ true
 
 -- ---- one record back
 
-after-designated : (d' : ℕ) (previous : Previous) (fails : Bool) (grade d l n : ℕ) → InStepThree (afterDesignated d' previous fails grade) d l (suc n) → ⊥
-unfolding afterDesignated InStepThree
-after-designated d' previous false grade d l n h = h
-after-designated d' NoFailure true grade d l n h = h
-after-designated d' (Failure earlier) true grade d l n h = omega (arith, h .2)
+-- a run of one or more is neither outside step 3 nor a run of none
+no-run : (phase : Phase) (lower run : ℕ) → withoutRun phase ≡ StepThree lower (suc run) → ⊥
+unfolding withoutRun
+no-run Designated lower run e = let z : _≡_ {A = ℕ} 0 1 = cc in omega arith
+no-run (StepThree lower' run') lower run e = let z : _≡_ {A = ℕ} 0 (suc run) = cc in omega arith
 
-after-step-three : (d' l' run : ℕ) (q : Bool) (d l n : ℕ) → InStepThree (afterStepThree d' l' run q) d l (suc n)
-    → (q ≡ true) × (d' ≡ d) × (l' ≡ l) × (run ≡ n) × (run < 2)
-unfolding afterStepThree endsStepThree InStepThree pick
-after-step-three d' l' run false d l n h = absurd (omega (arith, h .2))
-after-step-three d' l' run true d l n h = go (leb 2 run) refl h
-  where
-    go : (t : Bool) → leb 2 run ≡ t → InStepThree (pick t (Designated d' NoFailure) (StepThree d' l' (run + 1))) d l (suc n)
-        → (true ≡ true) × (d' ≡ d) × (l' ≡ l) × (run ≡ n) × (run < 2)
-    go true e h = absurd h
-    go false e h = (refl, h .0, h .1, omega (arith, h .2), leb-false 2 run e)
+-- it comes from a qualifying unit, after one less
+run-back : (phase : Phase) (qualifies : Bool) (lower run : ℕ) → endsStepThree phase qualifies ≡ false
+    → withUnit phase qualifies ≡ StepThree lower (suc run)
+    → (qualifies ≡ true) × (phase ≡ StepThree lower run) × (run < 2)
+unfolding endsStepThree withUnit
+run-back Designated qualifies lower run going-on e = let z : _≡_ {A = ℕ} 0 1 = cc in absurd (omega arith)
+run-back (StepThree lower' run') false lower run going-on e = let z : _≡_ {A = ℕ} 0 (suc run) = cc in absurd (omega arith)
+run-back (StepThree lower' run') true lower run going-on e =
+    let more : run' + 1 ≡ suc run = cc in
+    let same-run : run' ≡ run = omega arith in
+    let same-lower : lower' ≡ lower = cc in
+    (refl, cc, omega (arith, leb-false 2 run' going-on))
 
-after-redesignation : (phase : Phase) (new d l n : ℕ) → InStepThree (phaseAfterRedesignation phase new) d l (suc n) → ⊥
-unfolding phaseAfterRedesignation InStepThree pick
-after-redesignation (Designated designated previous) new d l n h = h
-after-redesignation (StepThree designated lower run) new d l n h = go (ltb new lower) h
-  where
-    go : (t : Bool) → InStepThree (pick t (StepThree new lower 0) (Designated new NoFailure)) d l (suc n) → ⊥
-    go true h = omega (arith, h .2)
-    go false h = h
+module _ (table : Table) (state : State) where
+  -- in step 3 after one qualifying unit or more: what the record just before was
+  abbrev Back : Entry → ℕ → ℕ → ℕ → State → Type 0
+  Back entry designated lower run behind =
+      InStepThree behind designated lower (suc run) → Qualifying table state entry designated lower run × (run < 2)
 
-after-break : (phase : Phase) (d l n : ℕ) → InStepThree (phaseAfterBreak phase) d l (suc n) → ⊥
-unfolding phaseAfterBreak InStepThree
-after-break (Designated designated previous) d l n h = h
-after-break (StepThree designated lower run) d l n h = omega (arith, h .2)
+  none-back : (entry : Entry) (phase : Phase) (designated lower run : ℕ) (behind : State) → behind .phase ≡ withoutRun phase
+      → Back entry designated lower run behind
+  none-back entry phase designated lower run behind e inside = absurd (no-run phase lower run (sym e ∙ inside .same-phase))
 
-module _ (table : Table) where
-  one-back : (phase : Phase) (cusums : List Cusum) (entry : Entry) (d l n : ℕ)
-      → InStepThree (phaseAfter table (record { phase = phase; cusums = cusums }) entry) d l (suc n)
-      → Qualifying table (record { phase = phase; cusums = cusums }) entry d l n × (n < 2)
-  unfolding phaseAfter phaseAfterUnit InStepThree
-  one-back (Designated designated previous) cusums (UnitRecord unit) d l n h = absurd (after-designated designated previous _ _ d l n h)
-  one-back (StepThree designated lower run) cusums (UnitRecord unit) d l n h =
-      let (q, e, f, r, b) = after-step-three designated lower run _ d l n h in
-      (record { unit = unit; is-unit = refl; in-step-three = (e, f, r); qualifies = q }, omega arith)
-  one-back phase cusums (Redesignation new) d l n h = absurd (after-redesignation phase new d l n h)
-  one-back phase cusums Break d l n h = absurd (after-break phase d l n h)
+  unit-back : (unit : SampleUnit) (designated lower run : ℕ)
+      → Back (UnitRecord unit) designated lower run (afterUnit table state (graded table state unit) (qualifiesIn table state unit))
+  unfolding restarted
+  unit-back unit designated lower run =
+      unit-by table state (graded table state unit) (qualifiesIn table state unit) (Back (UnitRecord unit) designated lower run)
+      (λ ends. unfold withoutRun in none-back (UnitRecord unit) Designated designated lower run _ refl)
+      (λ ends two. unfold withoutRun in
+      none-back (UnitRecord unit) (StepThree (worseOfTwo (state .previous) (graded table state unit .grade)) 0) designated lower run _ refl)
+      (λ ends two inside.
+      let (qualifies, phase, below-two) = run-back (state .phase) (qualifiesIn table state unit) lower run ends (inside .same-phase) in (
+        record {
+          unit = unit;
+          is-unit = refl;
+          in-step-three = record { same-designated = inside .same-designated; same-phase = phase };
+          qualifies = qualifies;
+        },
+        below-two,
+      ))
+
+  redesignation-back : (new designated lower run : ℕ) → Back (Redesignation new) designated lower run (afterRedesignation table state new)
+  unfolding restarted
+  redesignation-back new designated lower run =
+      redesignation-by table state new (Back (Redesignation new) designated lower run)
+      (λ keeps. none-back (Redesignation new) (state .phase) designated lower run _ refl)
+      (λ other. unfold withoutRun in none-back (Redesignation new) Designated designated lower run _ refl)
+
+  one-back : (entry : Entry) (designated lower run : ℕ) → Back entry designated lower run (next table state entry)
+  unfolding next afterBreak restarted
+  one-back (UnitRecord unit) designated lower run = unit-back unit designated lower run
+  one-back (Redesignation new) designated lower run = redesignation-back new designated lower run
+  one-back Break designated lower run = none-back Break (state .phase) designated lower run _ refl
 
 -- ---- the finished run
 
@@ -90,35 +104,46 @@ pub record FinishedRun (sheet : Sheet) (i : ℕ) : Type 0 where
   pub ends-here : i ≡ suc (suc start)
 
 module _ (sheet : Sheet) where
-  back : (i d l n : ℕ) → InStepThree (before sheet i .phase) d l (suc n)
-      → (j : ℕ) × (i ≡ suc j) × Qualifying (sheet .table) (before sheet j) (sheet .entry j) d l n × (n < 2)
-  unfolding before opening next stateWith InStepThree
-  back zero d l n h = absurd h
-  back (suc j) d l n h =
-      let (q, b) = one-back (sheet .table) (before sheet j .phase) (before sheet j .cusums) (sheet .entry j) d l n h in
-      (j, refl, q, b)
+  back : (i designated lower run : ℕ) → InStepThree (before sheet i) designated lower (suc run)
+      → (j : ℕ) × (i ≡ suc j) × Qualifying (sheet .table) (before sheet j) (sheet .entry j) designated lower run × (run < 2)
+  unfolding before restarted
+  back zero designated lower run inside =
+      let phase : Designated ≡ StepThree lower (suc run) = inside .same-phase in
+      let z : _≡_ {A = ℕ} 0 1 = cc in absurd (omega arith)
+  back (suc j) designated lower run inside =
+      let (qualifying, below-two) = one-back (sheet .table) (before sheet j) (sheet .entry j) designated lower run inside in
+      (j, refl, qualifying, below-two)
 
-  ends-unit : (phase : Phase) (cusums : List Cusum) (entry : Entry) → recordEndsStepThree (sheet .table) (record { phase = phase; cusums = cusums }) entry ≡ true
-      → (d : ℕ) × (l : ℕ) × (n : ℕ) × (2 ≤ n) × Qualifying (sheet .table) (record { phase = phase; cusums = cusums }) entry d l n
-  unfolding recordEndsStepThree unitEndsStepThree endsStepThree InStepThree
-  ends-unit (Designated designated previous) cusums (UnitRecord unit) e = absurd (false≢true e)
-  ends-unit (StepThree designated lower run) cusums (UnitRecord unit) e = go _ refl e
-    where
-      go : (q : Bool) → graded (sheet .table) (record { phase = StepThree designated lower run; cusums = cusums }) unit .qualifies ≡ q → (q && leb 2 run) ≡ true
-          → (d : ℕ) × (l : ℕ) × (n : ℕ) × (2 ≤ n) × Qualifying (sheet .table) (record { phase = StepThree designated lower run; cusums = cusums }) (UnitRecord unit) d l n
-      go true q e = (designated, lower, run, leb-true 2 run e, record { unit = unit; is-unit = refl; in-step-three = (refl, refl, refl); qualifies = q })
-      go false q e = absurd (false≢true e)
-  ends-unit phase cusums (Redesignation new) e = absurd (false≢true e)
-  ends-unit phase cusums Break e = absurd (false≢true e)
+  -- a unit at which step 3 ends qualifies, after two or more in a row
+  ends-after : (phase : Phase) (qualifies : Bool) → endsStepThree phase qualifies ≡ true
+      → (lower : ℕ) × (run : ℕ) × (phase ≡ StepThree lower run) × (2 ≤ run) × (qualifies ≡ true)
+  unfolding endsStepThree
+  ends-after Designated qualifies ends = absurd (false≢true ends)
+  ends-after (StepThree lower run) false ends = absurd (false≢true ends)
+  ends-after (StepThree lower run) true ends = (lower, run, refl, leb-true 2 run ends, refl)
+
+  ends-unit : (state : State) (entry : Entry) → recordEndsStepThree (sheet .table) state entry ≡ true
+      → (designated : ℕ) × (lower : ℕ) × (run : ℕ) × (2 ≤ run) × Qualifying (sheet .table) state entry designated lower run
+  unfolding recordEndsStepThree
+  ends-unit state (UnitRecord unit) ends =
+      let (lower, run, phase, two, qualifies) = ends-after (state .phase) (qualifiesIn (sheet .table) state unit) ends in (
+        state .designated,
+        lower,
+        run,
+        two,
+        record { unit = unit; is-unit = refl; in-step-three = record { same-designated = refl; same-phase = phase }; qualifies = qualifies },
+      )
+  ends-unit state (Redesignation new) ends = absurd (false≢true ends)
+  ends-unit state Break ends = absurd (false≢true ends)
 
   -- the run never grows beyond two before the unit that ends step 3
-  pub run-at-most-two : (i d l n : ℕ) → InStepThree (before sheet i .phase) d l n → n ≤ 2
+  pub run-at-most-two : (i d l n : ℕ) → InStepThree (before sheet i) d l n → n ≤ 2
   run-at-most-two i d l zero h = omega arith
   run-at-most-two i d l (suc n) h = let (j, e, q, b) = back i d l n h in omega arith
 
   pub finished-run : (i : ℕ) → stepThreeEndsAt sheet i ≡ true → FinishedRun sheet i
   unfolding stepThreeEndsAt
-  finished-run i e = go (ends-unit (before sheet i .phase) (before sheet i .cusums) (sheet .entry i) e)
+  finished-run i e = go (ends-unit (before sheet i) (sheet .entry i) e)
     where
       go : (d : ℕ) × (l : ℕ) × (n : ℕ) × (2 ≤ n) × Qualifying (sheet .table) (before sheet i) (sheet .entry i) d l n → FinishedRun sheet i
       go (d, l, n, two, q) =
@@ -157,7 +182,8 @@ module _ (sheet : Sheet) (i : ℕ) where
   unfolding inFinishedRun
   in-run e = go (stepThreeEndsAt sheet i) refl (stepThreeEndsAt sheet (i + 1)) refl (stepThreeEndsAt sheet (i + 2)) refl e
     where
-      go : (a : Bool) → stepThreeEndsAt sheet i ≡ a → (b : Bool) → stepThreeEndsAt sheet (i + 1) ≡ b → (c : Bool) → stepThreeEndsAt sheet (i + 2) ≡ c → (a || (b || c)) ≡ true → InRun sheet i
+      go : (a : Bool) → stepThreeEndsAt sheet i ≡ a → (b : Bool) → stepThreeEndsAt sheet (i + 1) ≡ b
+          → (c : Bool) → stepThreeEndsAt sheet (i + 2) ≡ c → (a || (b || c)) ≡ true → InRun sheet i
       go true e b f c g h = run-at i e (omega arith) (omega arith)
       go false e true f c g h = run-at (i + 1) f (omega arith) (omega arith)
       go false e false f true g h = run-at (i + 2) g (omega arith) (omega arith)

@@ -1,6 +1,11 @@
+pub mod Steps
+pub mod TwoFailures
+pub mod FinishedRun
+pub mod ThreeQualify
+pub mod Restarts
+pub mod StepThreeStands
 pub mod LargestForm
 pub mod Anchors
-pub mod SideBySide
-pub mod FinishedRun
 pub mod Grades
-pub mod TwoFailures
+pub mod SideBySide
+pub mod Computing

@@ -1,31 +1,30 @@
 -- Demand 3's second half over records: two sheets with one plan, alike but for fewer counts in the first, graded side by side.
 -- While the second has not failed two in a row both stay under the designated plan; by induction on the records.
 use Prim.Native.Nat.{ℕ, zero, suc, _+_, _≤_, _<_}
-use mathlib.Core.Path.{_≡_, refl, _∙_, ap, subst, subst⁻¹, subst₂}
+use mathlib.Core.Path.{_≡_, refl, sym, _∙_, ap, ap₂, subst⁻¹, subst₂}
 use mathlib.Core.Bool.{Bool, true, false, cond, _&&_, true≢false, false≢true}
 use mathlib.Core.List.{List}
 use native.Mathlib.Omega.{arith}
 use lib.Dec.{eqb}
 use Rattle.cusum.specs.declared.Cusum.{Cusum}
+use Rattle.units.specs.Words.{substandard, Table, rowOf, countsOf}
+use Rattle.units.specs.Unit.{starting, classCusum, unitFails, gradingOf, portionGradeOf}
+use Rattle.units.specs.Records.{portionGradeWith, worstBefore}
 use Rattle.units.specs.declared.SampleUnit.{SampleUnit}
-use Rattle.units.specs.declared.Grading.{Grading}
-use Rattle.rules.specs.declared.Entry.{Entry}
-use Rattle.rules.specs.declared.Entry.the-variants.{UnitRecord, Redesignation, Break}
+use Rattle.units.specs.declared.Entry.{Entry}
+use Rattle.units.specs.declared.Entry.the-variants.{UnitRecord, Redesignation, Break}
+use Rattle.units.proofs.Tests.{and-false}
+use Rattle.units.proofs.Monotone.{Fewer, counts-fewer, NoHigher, same-no-higher, class-cusum-mono, cusums-mono, class-fails-mono, unit-fails-mono, defect-grade-mono}
+use Rattle.rules.specs.StepThree.{inStepThree, inForceIn, inForce, twoInARow, failureAfter, endsStepThree, withUnit, withoutRun, restarted, graded, qualifiesIn, afterUnit, afterBreak, next, recordEndsStepThree}
+use Rattle.rules.specs.Sheet.{Sheet, before, inForceAt, stepThreeEndsAt, inFinishedRun, recovered, portionGrade, codeGrade}
+use Rattle.rules.specs.TwoInARow.{failsDesignated, unitFailsAt, unitFailsBefore, secondInARow}
+use Rattle.rules.specs.Anchor.{failsAt, classFailsAt}
 use Rattle.rules.specs.declared.Previous.{Previous}
 use Rattle.rules.specs.declared.Previous.the-variants.{NoFailure, Failure}
 use Rattle.rules.specs.declared.Phase.{Phase}
-use Rattle.rules.specs.declared.Phase.the-variants.{Designated, StepThree}
+use Rattle.rules.specs.declared.Phase.the-variants.{Designated}
 use Rattle.rules.specs.declared.State.{State}
-use Rattle.units.specs.Words.{substandard, Table, rowOf, countsOf}
-use Rattle.units.specs.Unit.{starting, classCusum, gradingOf}
-use Rattle.units.specs.Conditions.{pick}
-use Rattle.rules.specs.StepThree.{designatedIn, inForce, afterDesignated, phaseAfterUnit, phaseAfterBreak, unitEndsStepThree, unitStartsStepThree, unitRestarts, opening, graded, phaseAfter, recordEndsStepThree, restarts, cusumsAfter, stateWith, next}
-use Rattle.units.specs.Unit.{portionGradeOf}
-use Rattle.rules.specs.Sheet.{Sheet, before, inForceAt, stepThreeEndsAt, inFinishedRun, recovered, portionGrade, portionGradeWith, worstBefore, codeGrade}
-use Rattle.rules.specs.Anchor.{failsAt, failureAt}
-use Rattle.rules.specs.TwoInARow.{failsDesignated, failedUnit, failedBefore, secondInARow}
-use Rattle.units.proofs.Tests.{and-false}
-use Rattle.units.proofs.Monotone.{Fewer, counts-fewer, NoHigher, same-no-higher, class-cusum-mono, cusums-mono, class-fails-mono, unit-fails-mono, defect-grade-mono}
+use Rattle.rules.proofs.Steps.{stateOf, unit-passes, isFailure, two-in-a-row-is}
 
 -- ---- what is compared
 
@@ -56,91 +55,119 @@ NoRedesignation Break = Unit {0}
 
 -- ---- a record that is no unit fails nothing
 
-fails-break : (table : Table) (phase : Phase) (cusums : List Cusum) → failsDesignated table phase cusums Break ≡ false
-unfolding failsDesignated
-fails-break table (Designated designated previous) cusums = refl
-fails-break table (StepThree designated lower run) cusums = refl
-
 pub not-second : (sheet : Sheet) (j : ℕ) → sheet .entry j ≡ Break → secondInARow sheet j ≡ false
-unfolding secondInARow failedUnit
+unfolding secondInARow unitFailsAt failsDesignated
 not-second sheet j e =
-    ap (λ (b : Bool). failedBefore sheet j && b)
-    (ap (failsDesignated (sheet .table) (before sheet j .phase) (before sheet j .cusums)) e ∙ fails-break (sheet .table) (before sheet j .phase) (before sheet j .cusums))
-    ∙ and-false (failedBefore sheet j)
+    ap (λ (entry : Entry). unitFailsBefore sheet j && failsDesignated (sheet .table) (before sheet j) entry) e ∙ and-false (unitFailsBefore sheet j)
 
 -- ---- the two gradings side by side, both under the designated plan
 
-unfoldable failed : Previous → Bool
-failed NoFailure = false
-failed (Failure grade) = true
-
--- designated: the grade designated for both; just-failed: the second's unit just before failed
-Both : ℕ → Bool → Phase → Phase → Type 0
-Both designated just-failed (Designated d previous) (Designated d' previous') =
-    (designated ≡ d) × (designated ≡ d') × (failed previous ≡ true → failed previous' ≡ true) × (failed previous' ≡ true → just-failed ≡ true)
-Both designated just-failed (Designated d previous) (StepThree d' lower run) = ⊥
-Both designated just-failed (StepThree d lower run) phase' = ⊥
-
-abbrev state : Phase → List Cusum → State
-state phase cusums = record { phase = phase; cusums = cusums }
-
-module _ (d : ℕ) (g g' : Grading) (xs xs' ns ns' : List Cusum) (lower : NoHigher ns ns') where
-  units-beside : (p p' : Previous) (f f' : Bool) → g .fails ≡ f → g' .fails ≡ f' → (f ≡ true → f' ≡ true)
-      → (failed p ≡ true → failed p' ≡ true) → (failed p' ≡ true → f' ≡ false)
-      → Both d f' (afterDesignated d p f (g .grade)) (afterDesignated d p' f' (g' .grade))
-      × NoHigher (pick (unitRestarts (Designated d p) g) xs ns) (pick (unitRestarts (Designated d p') g') xs' ns')
-  unfolding afterDesignated unitRestarts unitEndsStepThree unitStartsStepThree Both failed pick
-  units-beside p (Failure h') f true q q' m n two = absurd (true≢false (two refl))
-  units-beside p p' true false q q' m n two = absurd (false≢true (m refl))
-  units-beside NoFailure NoFailure false false q q' m n two = ((refl, refl, λ e. e, λ e. absurd (false≢true e)), lower)
-  units-beside NoFailure NoFailure false true q q' m n two = ((refl, refl, λ e. refl, λ e. refl), lower)
-  units-beside NoFailure NoFailure true true q q' m n two = ((refl, refl, λ e. refl, λ e. refl), lower)
-  units-beside NoFailure (Failure h') false false q q' m n two = ((refl, refl, λ e. e, λ e. absurd (false≢true e)), rw q' lower)
-  units-beside (Failure h) NoFailure false false q q' m n two = absurd (false≢true (n refl))
-  units-beside (Failure h) NoFailure f true q q' m n two = absurd (false≢true (n refl))
-  units-beside (Failure h) (Failure h') false false q q' m n two = ((refl, refl, λ e. e, λ e. absurd (false≢true e)), rw (q, q') lower)
+-- just-failed: the second's unit just before failed
+record Both (designated : ℕ) (just-failed : Bool) (first second : State) : Type 0 where
+  first-designated : first .designated ≡ designated
+  second-designated : second .designated ≡ designated
+  first-phase : first .phase ≡ Designated
+  second-phase : second .phase ≡ Designated
+  no-new-failure : isFailure (first .previous) ≡ true → isFailure (second .previous) ≡ true
+  remembered : isFailure (second .previous) ≡ true → just-failed ≡ true
+  no-higher : NoHigher (first .cusums) (second .cusums)
 
 and-then-false : (b c : Bool) → (b && c) ≡ false → b ≡ true → c ≡ false
 and-then-false true c e h = e
 and-then-false false c e h = absurd (false≢true h)
 
-module _ (table : Table) where
-  -- the same designated grade: a record of each
-  same-next : (d : ℕ) (p p' : Previous) (cs cs' : List Cusum) (just-failed : Bool) (e e' : Entry)
-      → (failed p ≡ true → failed p' ≡ true) → (failed p' ≡ true → just-failed ≡ true) → NoHigher cs cs' → Below e e' → NoRedesignation e
-      → (just-failed && failsDesignated table (Designated d p') cs' e') ≡ false
-      → let t = next table (state (Designated d p) cs) e in let t' = next table (state (Designated d p') cs') e' in
-      Both d (failsDesignated table (Designated d p') cs' e') (t .phase) (t' .phase) × NoHigher (t .cusums) (t' .cusums)
-  unfolding Below NoRedesignation next stateWith phaseAfter phaseAfterUnit phaseAfterBreak restarts cusumsAfter graded designatedIn inForce failsDesignated Both failed pick
-  same-next d p p' cs cs' b (UnitRecord u) (UnitRecord v) m n l w o two =
-      let fewer = counts-fewer u v (w .fewer) in
-      units-beside d (gradingOf table d d cs (countsOf u)) (gradingOf table d d cs' (countsOf v)) _ _ _ _
-      (cusums-mono table d cs cs' (countsOf u) (countsOf v) l fewer) p p' _ _ refl refl
-      (unit-fails-mono table d cs cs' (countsOf u) (countsOf v) l fewer) m (λ h. and-then-false b _ two (n h))
-  same-next d p p' cs cs' b Break Break m n l w o two = ((refl, refl, λ e. e, λ e. absurd (false≢true e)), same-no-higher (starting (rowOf table d)))
-  same-next d p p' cs cs' b (UnitRecord u) Break m n l w o two = absurd w
-  same-next d p p' cs cs' b (UnitRecord u) (Redesignation g) m n l w o two = absurd w
-  same-next d p p' cs cs' b Break (UnitRecord u) m n l w o two = absurd w
-  same-next d p p' cs cs' b Break (Redesignation g) m n l w o two = absurd w
-  same-next d p p' cs cs' b (Redesignation g) e' m n l w o two = absurd o
+no-two : (previous : Previous) (fails : Bool) → (isFailure previous ≡ true → fails ≡ false) → twoInARow previous fails ≡ false
+no-two previous fails none = two-in-a-row-is previous fails ∙ go (isFailure previous) none
+  where
+    go : (failed : Bool) → (failed ≡ true → fails ≡ false) → (failed && fails) ≡ false
+    go true none = none refl
+    go false none = refl
 
-  both-next : (d : ℕ) (phase phase' : Phase) (cs cs' : List Cusum) (just-failed : Bool) (e e' : Entry)
-      → Both d just-failed phase phase' → NoHigher cs cs' → Below e e' → NoRedesignation e
-      → (just-failed && failsDesignated table phase' cs' e') ≡ false
-      → let t = next table (state phase cs) e in let t' = next table (state phase' cs') e' in
-      Both d (failsDesignated table phase' cs' e') (t .phase) (t' .phase) × NoHigher (t .cusums) (t' .cusums)
-  unfolding Both
-  both-next x (Designated d p) (Designated d' p') cs cs' b e e' both l w o two =
-      subst₂ (λ (y z : ℕ). (b && failsDesignated table (Designated z p') cs' e') ≡ false
-      → Both x (failsDesignated table (Designated z p') cs' e') (next table (state (Designated y p) cs) e .phase) (next table (state (Designated z p') cs') e' .phase)
-      × NoHigher (next table (state (Designated y p) cs) e .cusums) (next table (state (Designated z p') cs') e' .cusums))
-      (both .0) (both .1) (same-next x p p' cs cs' b e e' (both .2) (both .3) l w o) two
-  both-next x (Designated d p) (StepThree d' lower run) cs cs' b e e' both l below o two = absurd both
-  both-next x (StepThree d lower run) phase' cs cs' b e e' both l below o two = absurd both
+failure-is : (fails : Bool) (grade : ℕ) → isFailure (failureAfter Designated fails grade) ≡ fails
+unfolding isFailure failureAfter
+failure-is true grade = refl
+failure-is false grade = refl
+
+module _ (table : Table) (designated : ℕ) where
+  -- under the designated plan, where the unit does not fail behind one that failed
+  passes : (previous : Previous) (cusums : List Cusum) (unit : SampleUnit) →
+      let state = stateOf designated previous Designated cusums in
+      let grading = gradingOf table designated cusums (countsOf unit) in
+      (isFailure previous ≡ true → grading .fails ≡ false)
+      → next table state (UnitRecord unit) ≡ stateOf designated (failureAfter Designated (grading .fails) (grading .grade)) Designated (grading .cusums)
+  unfolding next graded inForceIn endsStepThree withUnit
+  passes previous cusums unit none =
+      let state = stateOf designated previous Designated cusums in
+      unit-passes table state (gradingOf table designated cusums (countsOf unit)) (qualifiesIn table state unit) refl
+      (no-two previous (unitFails table designated cusums (countsOf unit)) none)
+
+  -- at the start of the designated plan
+  at-start : Both designated false (restarted table designated Designated) (restarted table designated Designated)
+  unfolding restarted isFailure
+  at-start =
+      record {
+        first-designated = refl;
+        second-designated = refl;
+        first-phase = refl;
+        second-phase = refl;
+        no-new-failure = λ failed. failed;
+        remembered = λ failed. absurd (false≢true failed);
+        no-higher = same-no-higher (starting (rowOf table (inForceIn designated Designated)));
+      }
+
+  -- a record of each
+  record-beside : (p p' : Previous) (cs cs' : List Cusum) (just-failed : Bool) (e e' : Entry)
+      → (isFailure p ≡ true → isFailure p' ≡ true) → (isFailure p' ≡ true → just-failed ≡ true) → NoHigher cs cs'
+      → Below e e' → NoRedesignation e
+      → (just-failed && failsDesignated table (stateOf designated p' Designated cs') e') ≡ false
+      → Both designated (failsDesignated table (stateOf designated p' Designated cs') e')
+      (next table (stateOf designated p Designated cs) e) (next table (stateOf designated p' Designated cs') e')
+  unfolding Below NoRedesignation failsDesignated inStepThree
+  record-beside p p' cs cs' just-failed (UnitRecord u) (UnitRecord v) new remembered lower below none two =
+      let fewer = counts-fewer u v (below .fewer) in
+      let fails-too = unit-fails-mono table designated cs cs' (countsOf u) (countsOf v) lower fewer in
+      let second-once : isFailure p' ≡ true → unitFails table designated cs' (countsOf v) ≡ false =
+      λ failed. and-then-false just-failed _ two (remembered failed) in
+      let first-once : isFailure p ≡ true → unitFails table designated cs (countsOf u) ≡ false =
+      λ failed. not-too (unitFails table designated cs (countsOf u)) (unitFails table designated cs' (countsOf v)) fails-too (second-once (new failed)) in
+      subst₂ (λ (first second : State). Both designated (unitFails table designated cs' (countsOf v)) first second)
+      (sym (passes p cs u first-once)) (sym (passes p' cs' v second-once))
+      (record {
+        first-designated = refl;
+        second-designated = refl;
+        first-phase = refl;
+        second-phase = refl;
+        no-new-failure = λ failed. failure-is _ _ ∙ fails-too (sym (failure-is _ _) ∙ failed);
+        remembered = λ failed. sym (failure-is _ _) ∙ failed;
+        no-higher = cusums-mono table designated cs cs' (countsOf u) (countsOf v) lower fewer;
+      })
+    where
+      not-too : (x y : Bool) → (x ≡ true → y ≡ true) → y ≡ false → x ≡ false
+      not-too true y too meets = absurd (true≢false (sym (too refl) ∙ meets))
+      not-too false y too meets = refl
+  record-beside p p' cs cs' just-failed Break Break new remembered lower below none two =
+      unfold next afterBreak withoutRun in at-start
+  record-beside p p' cs cs' just-failed (UnitRecord u) Break new remembered lower below none two = absurd below
+  record-beside p p' cs cs' just-failed (UnitRecord u) (Redesignation g) new remembered lower below none two = absurd below
+  record-beside p p' cs cs' just-failed Break (UnitRecord u) new remembered lower below none two = absurd below
+  record-beside p p' cs cs' just-failed Break (Redesignation g) new remembered lower below none two = absurd below
+  record-beside p p' cs cs' just-failed (Redesignation g) e' new remembered lower below none two = absurd none
+
+  both-next : (first second : State) (just-failed : Bool) (e e' : Entry) → Both designated just-failed first second → Below e e' → NoRedesignation e
+      → (just-failed && failsDesignated table second e') ≡ false
+      → Both designated (failsDesignated table second e') (next table first e) (next table second e')
+  both-next first second just-failed e e' both below none =
+      subst₂ (λ (s t : State). (just-failed && failsDesignated table t e') ≡ false
+      → Both designated (failsDesignated table t e') (next table s e) (next table t e'))
+      (λ k. stateOf (sym (both .first-designated) k) (first .previous) (sym (both .first-phase) k) (first .cusums))
+      (λ k. stateOf (sym (both .second-designated) k) (second .previous) (sym (both .second-phase) k) (second .cusums))
+      (record-beside (first .previous) (second .previous) (first .cusums) (second .cusums) just-failed e e' (both .no-new-failure) (both .remembered)
+      (both .no-higher) below none)
 
 -- ---- two whole sheets
 
-module _ (table : Table) (designated : ℕ) (es fs : ℕ → Entry) (size : ℕ) (fellows : (i : ℕ) → Below (es i) (fs i)) (none : (i : ℕ) → NoRedesignation (es i)) where
+module _ (table : Table) (designated : ℕ) (es fs : ℕ → Entry) (size : ℕ)
+    (fellows : (i : ℕ) → Below (es i) (fs i)) (none : (i : ℕ) → NoRedesignation (es i)) where
   abbrev pub first : Sheet
   first = record { table = table; designated = designated; entry = es; size = size }
 
@@ -148,60 +175,57 @@ module _ (table : Table) (designated : ℕ) (es fs : ℕ → Entry) (size : ℕ)
   second = record { table = table; designated = designated; entry = fs; size = size }
 
   together : (i : ℕ) → ((j : ℕ) → j < i → secondInARow second j ≡ false)
-      → Both designated (failedBefore second i) (before first i .phase) (before second i .phase) × NoHigher (before first i .cusums) (before second i .cusums)
-  unfolding before opening failedBefore failedUnit secondInARow Both failed
-  together zero h = ((refl, refl, λ e. e, λ e. absurd (false≢true e)), same-no-higher (starting (rowOf table designated)))
+      → Both designated (unitFailsBefore second i) (before first i) (before second i)
+  unfolding before unitFailsBefore unitFailsAt secondInARow
+  together zero h = at-start table designated
   together (suc i) h =
-      let b = together i (λ j k. h j (omega arith)) in
-      both-next table designated (before first i .phase) (before second i .phase) (before first i .cusums) (before second i .cusums) (failedBefore second i) (es i) (fs i)
-      (b .0) (b .1) (fellows i) (none i) (h i (omega arith))
+      both-next table designated (before first i) (before second i) (unitFailsBefore second i) (es i) (fs i)
+      (together i (λ j k. h j (omega arith))) (fellows i) (none i) (h i (omega arith))
 
-  both-in-force : (x : ℕ) (b : Bool) (phase phase' : Phase) → Both x b phase phase' → (x ≡ inForce phase) × (x ≡ inForce phase')
-  unfolding Both inForce
-  both-in-force x b (Designated d p) (Designated d' p') h = (h .0, h .1)
-  both-in-force x b (Designated d p) (StepThree d' lower run) h = absurd h
-  both-in-force x b (StepThree d lower run) phase' h = absurd h
+  both-in-force : (i : ℕ) → Both designated (unitFailsBefore second i) (before first i) (before second i)
+      → (inForceAt first i ≡ designated) × (inForceAt second i ≡ designated)
+  unfolding inForceIn
+  both-in-force i both = (
+    ap₂ inForceIn (both .first-designated) (both .first-phase),
+    ap₂ inForceIn (both .second-designated) (both .second-phase),
+  )
 
   -- THE SECOND HALF OF DEMAND 3, over records: CuSums and failures
   pub fewer-cusums : (i : ℕ) (u v : SampleUnit) → es i ≡ UnitRecord u → fs i ≡ UnitRecord v
       → ((j : ℕ) → j < i → secondInARow second j ≡ false) → (class : ℕ)
-      → (classCusum table (inForceAt first i) (before first i .cusums) (countsOf u) class ≤ classCusum table (inForceAt second i) (before second i .cusums) (countsOf v) class)
-      × (failureAt first class i ≡ true → failureAt second class i ≡ true)
-  unfolding Below failureAt failsAt
+      → (classCusum table (inForceAt first i) (before first i .cusums) (countsOf u) class
+      ≤ classCusum table (inForceAt second i) (before second i .cusums) (countsOf v) class)
+      × (classFailsAt first class i ≡ true → classFailsAt second class i ≡ true)
+  unfolding Below classFailsAt failsAt
   fewer-cusums i u v eu ev h class =
-      let b = together i h in
-      let w : Below (UnitRecord u) (UnitRecord v) = subst₂ Below eu ev (fellows i) in
-      let g = both-in-force designated (failedBefore second i) (before first i .phase) (before second i .phase) (b .0) in
-      let fewer = counts-fewer u v (w .fewer) in
-      rw (eu, ev, ← g .0, ← g .1)
-      (class-cusum-mono table _ _ _ (countsOf u) (countsOf v) (b .1) fewer class, class-fails-mono table _ _ _ (countsOf u) (countsOf v) (b .1) fewer class)
+      let both = together i h in
+      let below : Below (UnitRecord u) (UnitRecord v) = subst₂ Below eu ev (fellows i) in
+      let (plan, plan') = both-in-force i both in
+      let fewer = counts-fewer u v (below .fewer) in
+      rw (eu, ev, plan, plan') (
+        class-cusum-mono table _ _ _ (countsOf u) (countsOf v) (both .no-higher) fewer class,
+        class-fails-mono table _ _ _ (countsOf u) (countsOf v) (both .no-higher) fewer class,
+      )
 
   -- ---- grades, where the second never fails two in a row
 
-  both-stay : (x : ℕ) (b : Bool) (g g' : Grading) (phase phase' : Phase) → Both x b phase phase'
-      → (unitEndsStepThree phase g ≡ false) × (unitEndsStepThree phase' g' ≡ false)
-  unfolding Both unitEndsStepThree
-  both-stay x b g g' (Designated d p) (Designated d' p') h = (refl, refl)
-  both-stay x b g g' (Designated d p) (StepThree d' lower run) h = absurd h
-  both-stay x b g g' (StepThree d lower run) phase' h = absurd h
-
-  no-end : (s : State) (e : Entry) → ((g : Grading) → unitEndsStepThree (s .phase) g ≡ false) → recordEndsStepThree table s e ≡ false
-  unfolding recordEndsStepThree
-  no-end s (UnitRecord u) h = h _
-  no-end s (Redesignation g) h = refl
-  no-end s Break h = refl
+  no-end : (state : State) (e : Entry) → state .phase ≡ Designated → recordEndsStepThree table state e ≡ false
+  unfolding recordEndsStepThree endsStepThree
+  no-end state (UnitRecord u) outside = ap (λ (phase : Phase). endsStepThree phase (qualifiesIn table state u)) outside
+  no-end state (Redesignation g) outside = refl
+  no-end state Break outside = refl
 
   module _ (graded-designated : designated ≤ substandard) (never : (j : ℕ) → secondInARow second j ≡ false) where
-    always : (i : ℕ) → Both designated (failedBefore second i) (before first i .phase) (before second i .phase) × NoHigher (before first i .cusums) (before second i .cusums)
+    always : (i : ℕ) → Both designated (unitFailsBefore second i) (before first i) (before second i)
     always i = together i (λ j h. never j)
 
     ends-first : (i : ℕ) → stepThreeEndsAt first i ≡ false
     unfolding stepThreeEndsAt
-    ends-first i = no-end (before first i) (es i) (λ g. both-stay designated (failedBefore second i) g g (before first i .phase) (before second i .phase) (always i .0) .0)
+    ends-first i = no-end (before first i) (es i) (always i .first-phase)
 
     ends-second : (i : ℕ) → stepThreeEndsAt second i ≡ false
     unfolding stepThreeEndsAt
-    ends-second i = no-end (before second i) (fs i) (λ g. both-stay designated (failedBefore second i) g g (before first i .phase) (before second i .phase) (always i .0) .1)
+    ends-second i = no-end (before second i) (fs i) (always i .second-phase)
 
     recovered-first : (i : ℕ) (u : SampleUnit) → recovered first i u ≡ false
     unfolding recovered inFinishedRun
@@ -213,19 +237,23 @@ module _ (table : Table) (designated : ℕ) (es fs : ℕ → Entry) (size : ℕ)
 
     portion-mono : (i : ℕ) (u v : SampleUnit) → UnitBelow u v → portionGrade first i u ≤ portionGrade second i v
     unfolding portionGrade portionGradeOf graded
-    portion-mono i u v w =
-        let g = both-in-force designated (failedBefore second i) (before first i .phase) (before second i .phase) (always i .0) in
-        rw (recovered-first i u, recovered-second i v, ← g .0, ← g .1)
+    portion-mono i u v below =
+        let both = always i in
+        let (plan, plan') = both-in-force i both in
+        rw (recovered-first i u, recovered-second i v, plan, plan')
         (omega (
           arith,
-          w .same-prerequisite,
-          defect-grade-mono table designated (before first i .cusums) (before second i .cusums) (countsOf u) (countsOf v) (always i .1) (counts-fewer u v (w .fewer)) graded-designated,
+          below .same-prerequisite,
+          defect-grade-mono table designated (before first i .cusums) (before second i .cusums) (countsOf u) (countsOf v) (both .no-higher)
+              (counts-fewer u v (below .fewer)) graded-designated,
         ))
 
-    portion-with-mono : (code i : ℕ) (e e' : Entry) → Below e e' → portionGradeWith first code i e ≤ portionGradeWith second code i e'
+    portion-with-mono : (code i : ℕ) (e e' : Entry) → Below e e'
+        → portionGradeWith (portionGrade first) code i e ≤ portionGradeWith (portionGrade second) code i e'
     unfolding portionGradeWith Below
     portion-with-mono code i (UnitRecord u) (UnitRecord v) w =
-        subst⁻¹ (λ (x : ℕ). cond (eqb x code) (portionGrade first i u) 0 ≤ cond (eqb (v .code) code) (portionGrade second i v) 0) (w .same-code) (go (eqb (v .code) code))
+        subst⁻¹ (λ (x : ℕ). cond (eqb x code) (portionGrade first i u) 0 ≤ cond (eqb (v .code) code) (portionGrade second i v) 0)
+        (w .same-code) (go (eqb (v .code) code))
       where
         go : (b : Bool) → cond b (portionGrade first i u) 0 ≤ cond b (portionGrade second i v) 0
         go true = portion-mono i u v w
@@ -239,7 +267,7 @@ module _ (table : Table) (designated : ℕ) (es fs : ℕ → Entry) (size : ℕ)
     portion-with-mono code i (Redesignation g) Break w = absurd w
     portion-with-mono code i (Redesignation g) (Redesignation h) w = omega arith
 
-    worst-mono : (code n : ℕ) → worstBefore first code n ≤ worstBefore second code n
+    worst-mono : (code n : ℕ) → worstBefore (portionGrade first) es code n ≤ worstBefore (portionGrade second) fs code n
     unfolding worstBefore
     worst-mono code zero = omega arith
     worst-mono code (suc n) = omega (arith, worst-mono code n, portion-with-mono code n (es n) (fs n) (fellows n))

@@ -1,20 +1,23 @@
 -- The words of demand 3's first half: restarts, failures and anchors, told from the sheet by the rules and by their place.
 use Prim.Native.Nat.{ℕ, zero, suc, _+_, _<_, _≤_}
 use mathlib.Core.Path.{_≡_}
-use mathlib.Core.Bool.{Bool, true, false}
+use mathlib.Core.Bool.{Bool, true, false, not, _&&_, _||_}
 use mathlib.Core.List.{List, [], _∷_, _++_}
+use lib.Dec.{ltb}
 use Rattle.cusum.specs.declared.PlanNumbers.{PlanNumbers}
 use Rattle.units.specs.Words.{Table, countsOf, countIn}
 use Rattle.units.specs.Unit.{classFails}
-use Rattle.rules.specs.StepThree.{inForce, restarts}
-use Rattle.rules.specs.Sheet.{Sheet, before}
-use Rattle.rules.specs.declared.Entry.{Entry}
-use Rattle.rules.specs.declared.Entry.the-variants.{UnitRecord, Redesignation, Break}
+use Rattle.units.specs.declared.Entry.{Entry}
+use Rattle.units.specs.declared.Entry.the-variants.{UnitRecord, Redesignation, Break}
+use Rattle.rules.specs.StepThree.{inStepThree, inForce}
+use Rattle.rules.specs.Sheet.{Sheet, before, inForceAt}
+use Rattle.rules.specs.TwoInARow.{secondInARow}
+use Rattle.rules.specs.ThreeInARow.{thirdInARow}
 use Rattle.rules.specs.declared.State.{State}
 
 -- a class fails at a record by rule 2
 unfoldable pub failsAt : Table → ℕ → State → Entry → Bool
-failsAt table class state (UnitRecord unit) = classFails table (inForce (state .phase)) (state .cusums) (countsOf unit) class
+failsAt table class state (UnitRecord unit) = classFails table (inForce state) (state .cusums) (countsOf unit) class
 failsAt table class state (Redesignation new) = false
 failsAt table class state Break = false
 
@@ -25,13 +28,21 @@ countAt class (Redesignation new) = []
 countAt class Break = []
 
 module _ (sheet : Sheet) where
+  -- the restarts are a break, the start of step 3, its end, and every redesignation but one that keeps the CuSums, by their places:
+  -- step 3 starts behind the second of two units in a row that fail the designated plan, it ends at the third of three in a row that
+  -- qualify, and a redesignation keeps the CuSums in step 3 if its new grade is better than the lower one
+  unfoldable pub restartBy : ℕ → Entry → Bool
+  restartBy j (UnitRecord unit) = secondInARow sheet j || thirdInARow sheet j
+  restartBy j (Redesignation new) = not (inStepThree (before sheet j .phase) && ltb new (inForceAt sheet j))
+  restartBy j Break = true
+
   -- record j brings about a restart, which comes after it
   unfoldable pub restartAt : ℕ → Bool
-  restartAt j = restarts (sheet .table) (before sheet j) (sheet .entry j)
+  restartAt j = restartBy j (sheet .entry j)
 
   -- record j is a unit at which the class fails
-  unfoldable pub failureAt : ℕ → ℕ → Bool
-  failureAt class j = failsAt (sheet .table) class (before sheet j) (sheet .entry j)
+  unfoldable pub classFailsAt : ℕ → ℕ → Bool
+  classFailsAt class j = failsAt (sheet .table) class (before sheet j) (sheet .entry j)
 
   -- the counts of the class at the units among the n records from record `from` on
   unfoldable pub countsFrom : ℕ → ℕ → ℕ → List ℕ
@@ -44,11 +55,11 @@ module _ (sheet : Sheet) where
 pub data Anchor (sheet : Sheet) (class i : ℕ) : ℕ → Bool → Type 0 where
   opening : Anchor sheet class i 0 false
   restart : (j : ℕ) → j < i → restartAt sheet j ≡ true → Anchor sheet class i (suc j) false
-  failure : (j : ℕ) → j ≤ i → failureAt sheet class j ≡ true → (j < i → restartAt sheet j ≡ false) → Anchor sheet class i (suc j) true
+  failure : (j : ℕ) → j ≤ i → classFailsAt sheet class j ≡ true → (j < i → restartAt sheet j ≡ false) → Anchor sheet class i (suc j) true
 
 -- it is the latest: from record `from` on there is no failure of the class, record i's included, and no restart before record i
 pub record Latest (sheet : Sheet) (class i from : ℕ) : Type 0 where
-  pub no-failure : (j : ℕ) → from ≤ j → j ≤ i → failureAt sheet class j ≡ false
+  pub no-failure : (j : ℕ) → from ≤ j → j ≤ i → classFailsAt sheet class j ≡ false
   pub no-restart : (j : ℕ) → from ≤ j → j < i → restartAt sheet j ≡ false
 
 -- L at a failure, else S

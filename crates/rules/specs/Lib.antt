@@ -1,4 +1,5 @@
 pub mod StepThree
 pub mod Sheet
-pub mod Anchor
 pub mod TwoInARow
+pub mod ThreeInARow
+pub mod Anchor

@@ -1,14 +1,13 @@
 -- A whole sheet by the number of its records: the state before each, and what is recorded of each unit.
 use Prim.Native.Nat.{ℕ, zero, suc, _+_}
 use mathlib.Core.Bool.{Bool, true, false, cond, _&&_, _||_}
-use lib.Dec.{eqb}
-use Rattle.units.specs.Words.{worse, Table}
+use Rattle.units.specs.Words.{Table}
 use Rattle.units.specs.Unit.{portionGradeOf}
-use Rattle.rules.specs.StepThree.{designatedIn, inForce, opening, graded, recordEndsStepThree, next}
+use Rattle.units.specs.Records.{worstBefore}
 use Rattle.units.specs.declared.SampleUnit.{SampleUnit}
 use Rattle.units.specs.declared.Grading.{Grading}
-use Rattle.rules.specs.declared.Entry.{Entry}
-use Rattle.rules.specs.declared.Entry.the-variants.{UnitRecord, Redesignation, Break}
+use Rattle.units.specs.declared.Entry.{Entry}
+use Rattle.rules.specs.StepThree.{inForce, opening, graded, qualifiesIn, recordEndsStepThree, next}
 use Rattle.rules.specs.declared.Phase.{Phase}
 use Rattle.rules.specs.declared.Phase.the-variants.{Designated, StepThree}
 use Rattle.rules.specs.declared.State.{State}
@@ -24,8 +23,8 @@ pub record Sheet : Type 0 where
 -- standing: 0 met the designated plan, 1 failed it, 2 in step 3 and not recovered, 3 recovered
 unfoldable pub standingOf : Phase → Bool → Bool → ℕ
 standingOf phase fails true = 3
-standingOf (Designated designated previous) fails false = cond fails 1 0
-standingOf (StepThree designated lower run) fails false = 2
+standingOf Designated fails false = cond fails 1 0
+standingOf (StepThree lower run) fails false = 2
 
 module _ (sheet : Sheet) where
   -- the state before record i
@@ -35,14 +34,18 @@ module _ (sheet : Sheet) where
 
   -- the grade designated just before record i (law `designated-before`: the refusals use the same), and that of the plan in force
   abbrev pub designatedAt : ℕ → ℕ
-  designatedAt i = designatedIn (before i .phase)
+  designatedAt i = before i .designated
 
   abbrev pub inForceAt : ℕ → ℕ
-  inForceAt i = inForce (before i .phase)
+  inForceAt i = inForce (before i)
 
   -- the unit that is record i, graded
   abbrev pub gradedAt : ℕ → SampleUnit → Grading
   gradedAt i unit = graded (sheet .table) (before i) unit
+
+  -- the unit that is record i qualifies
+  abbrev pub qualifiesAt : ℕ → SampleUnit → Bool
+  qualifiesAt i unit = qualifiesIn (sheet .table) (before i) unit
 
   -- step 3 ends at record i
   unfoldable pub stepThreeEndsAt : ℕ → Bool
@@ -64,17 +67,6 @@ module _ (sheet : Sheet) where
   unfoldable pub standing : ℕ → SampleUnit → ℕ
   standing i unit = standingOf (before i .phase) (gradedAt i unit .fails) (recovered i unit)
 
-  -- the portion grade of record i if it is a unit with this code, else the best
-  unfoldable pub portionGradeWith : ℕ → ℕ → Entry → ℕ
-  portionGradeWith code i (UnitRecord unit) = cond (eqb (unit .code) code) (portionGrade i unit) 0
-  portionGradeWith code i (Redesignation new) = 0
-  portionGradeWith code i Break = 0
-
-  -- the worst portion grade among the units with this code of the first n records
-  unfoldable pub worstBefore : ℕ → ℕ → ℕ
-  worstBefore code zero = 0
-  worstBefore code (suc n) = worse (worstBefore code n) (portionGradeWith code n (sheet .entry n))
-
   -- the code grade: the worst portion grade among all units of the sheet with that code, adjoining or not
   unfoldable pub codeGrade : ℕ → ℕ
-  codeGrade code = worstBefore code (sheet .size)
+  codeGrade code = worstBefore portionGrade (sheet .entry) code (sheet .size)

@@ -1,123 +1,133 @@
--- Step 3, redesignations, breaks and restarts: what each record does to the phase and to the CuSums.
+-- Step 3, redesignations and breaks: the state of the grading before a record, and what the record makes of it.
 use Prim.Native.Nat.{ℕ, _+_}
-use mathlib.Core.Bool.{Bool, true, false, cond, not, _&&_, _||_}
-use mathlib.Core.List.{List}
+use mathlib.Core.Bool.{Bool, true, false, cond, _&&_}
 use lib.Dec.{ltb, leb}
-use Rattle.cusum.specs.declared.Cusum.{Cusum}
 use Rattle.units.specs.Conditions.{pick}
 use Rattle.units.specs.Words.{worse, Table, rowOf, countsOf}
-use Rattle.units.specs.Unit.{starting, gradingOf}
+use Rattle.units.specs.Unit.{starting, gradingOf, qualifies}
 use Rattle.units.specs.declared.SampleUnit.{SampleUnit}
 use Rattle.units.specs.declared.Grading.{Grading}
-use Rattle.rules.specs.declared.Entry.{Entry}
-use Rattle.rules.specs.declared.Entry.the-variants.{UnitRecord, Redesignation, Break}
+use Rattle.units.specs.declared.Entry.{Entry}
+use Rattle.units.specs.declared.Entry.the-variants.{UnitRecord, Redesignation, Break}
 use Rattle.rules.specs.declared.Previous.{Previous}
 use Rattle.rules.specs.declared.Previous.the-variants.{NoFailure, Failure}
 use Rattle.rules.specs.declared.Phase.{Phase}
 use Rattle.rules.specs.declared.Phase.the-variants.{Designated, StepThree}
 use Rattle.rules.specs.declared.State.{State}
 
--- the designated grade
-unfoldable pub designatedIn : Phase → ℕ
-designatedIn (Designated designated previous) = designated
-designatedIn (StepThree designated lower run) = designated
+-- ---- the plan in force
 
--- the grade of the plan in force, or 3 if there is none
-unfoldable pub inForce : Phase → ℕ
-inForce (Designated designated previous) = designated
-inForce (StepThree designated lower run) = lower
+unfoldable pub inStepThree : Phase → Bool
+inStepThree Designated = false
+inStepThree (StepThree lower run) = true
 
--- outside step 3: it begins when two units in a row fail the designated plan; the lower grade is the worse of their defect grades
-unfoldable pub afterDesignated : ℕ → Previous → Bool → ℕ → Phase
-afterDesignated designated previous false grade = Designated designated NoFailure
-afterDesignated designated NoFailure true grade = Designated designated (Failure grade)
-afterDesignated designated (Failure earlier) true grade = StepThree designated (worse earlier grade) 0
+-- the grade of the plan in force, or 3 if there is none: the designated grade, in step 3 the lower one
+unfoldable pub inForceIn : ℕ → Phase → ℕ
+inForceIn designated Designated = designated
+inForceIn designated (StepThree lower run) = lower
+
+abbrev pub inForce : State → ℕ
+inForce state = inForceIn (state .designated) (state .phase)
+
+-- ---- two failures in a row
+
+-- a unit fails right behind one that failed
+unfoldable pub twoInARow : Previous → Bool → Bool
+twoInARow NoFailure fails = false
+twoInARow (Failure earlier) fails = fails
+
+-- the worse of the two defect grades
+unfoldable pub worseOfTwo : Previous → ℕ → ℕ
+worseOfTwo NoFailure grade = grade
+worseOfTwo (Failure earlier) grade = worse earlier grade
+
+-- what the next unit finds just before it: a unit that failed the designated plan, and its defect grade
+unfoldable pub failureAfter : Phase → Bool → ℕ → Previous
+failureAfter Designated true grade = Failure grade
+failureAfter Designated false grade = NoFailure
+failureAfter (StepThree lower run) fails grade = NoFailure
+
+-- ---- the run of qualifying units
 
 -- at the third qualifying unit in a row step 3 ends
-unfoldable pub endsStepThree : ℕ → Bool → Bool
-endsStepThree run qualifies = qualifies && leb 2 run
+unfoldable pub endsStepThree : Phase → Bool → Bool
+endsStepThree Designated qualifies = false
+endsStepThree (StepThree lower run) qualifies = qualifies && leb 2 run
 
--- in step 3: the designated plan is in force again where it ends; else a qualifying unit adds to the run, and any other sets it to none
-unfoldable pub afterStepThree : ℕ → ℕ → ℕ → Bool → Phase
-afterStepThree designated lower run qualifies =
-    pick (endsStepThree run qualifies) (Designated designated NoFailure) (StepThree designated lower (cond qualifies (run + 1) 0))
+-- a qualifying unit adds to the run, and any other sets it to none
+unfoldable pub withUnit : Phase → Bool → Phase
+withUnit Designated qualifies = Designated
+withUnit (StepThree lower run) qualifies = StepThree lower (cond qualifies (run + 1) 0)
 
--- a unit, graded under the plan in force
-unfoldable pub phaseAfterUnit : Phase → Grading → Phase
-phaseAfterUnit (Designated designated previous) grading = afterDesignated designated previous (grading .fails) (grading .grade)
-phaseAfterUnit (StepThree designated lower run) grading = afterStepThree designated lower run (grading .qualifies)
+-- the run of qualifying units set to none
+unfoldable pub withoutRun : Phase → Phase
+withoutRun Designated = Designated
+withoutRun (StepThree lower run) = StepThree lower 0
 
--- a redesignation outside step 3 forgets a failure just before; in step 3 a new grade better than the lower one keeps step 3 and
--- sets the run of qualifying units to none, and any other ends it
-unfoldable pub phaseAfterRedesignation : Phase → ℕ → Phase
-phaseAfterRedesignation (Designated designated previous) new = Designated new NoFailure
-phaseAfterRedesignation (StepThree designated lower run) new = pick (ltb new lower) (StepThree new lower 0) (Designated new NoFailure)
+-- ---- redesignations
 
--- a break forgets a failure just before and sets that run to none; it does not end step 3
-unfoldable pub phaseAfterBreak : Phase → Phase
-phaseAfterBreak (Designated designated previous) = Designated designated NoFailure
-phaseAfterBreak (StepThree designated lower run) = StepThree designated lower 0
+-- in step 3 a new grade better than the lower one keeps step 3
+unfoldable pub keepsStepThree : Phase → ℕ → Bool
+keepsStepThree Designated new = false
+keepsStepThree (StepThree lower run) new = ltb new lower
 
--- step 3 ends at a unit
-unfoldable pub unitEndsStepThree : Phase → Grading → Bool
-unitEndsStepThree (Designated designated previous) grading = false
-unitEndsStepThree (StepThree designated lower run) grading = endsStepThree run (grading .qualifies)
-
--- step 3 begins behind a unit
-unfoldable pub unitStartsStepThree : Phase → Grading → Bool
-unitStartsStepThree (Designated designated NoFailure) grading = false
-unitStartsStepThree (Designated designated (Failure earlier)) grading = grading .fails
-unitStartsStepThree (StepThree designated lower run) grading = false
-
--- the restarts that a unit brings about: the start of step 3, and its end
-unfoldable pub unitRestarts : Phase → Grading → Bool
-unitRestarts phase grading = unitEndsStepThree phase grading || unitStartsStepThree phase grading
-
--- every redesignation restarts but one that keeps the CuSums
-unfoldable pub redesignationRestarts : Phase → ℕ → Bool
-redesignationRestarts (Designated designated previous) new = true
-redesignationRestarts (StepThree designated lower run) new = not (ltb new lower)
-
--- ---- the state before a record, and what the record does to it
-
--- at the opening of the sheet the designated plan is in force, every class at its S
-unfoldable pub opening : Table → ℕ → State
-opening table designated = record { phase = Designated designated NoFailure; cusums = starting (rowOf table designated) }
+-- ---- the state before a record, and what the record makes of it
 
 module _ (table : Table) where
-  -- a unit graded in a state
-  unfoldable pub graded : State → SampleUnit → Grading
-  graded state unit =
-      gradingOf table (designatedIn (state .phase)) (inForce (state .phase)) (state .cusums) (countsOf unit)
+  -- every class of the plan then in force at its S, and a failure just before forgotten
+  unfoldable pub restarted : ℕ → Phase → State
+  restarted designated phase =
+      record { designated = designated; previous = NoFailure; phase = phase; cusums = starting (rowOf table (inForceIn designated phase)) }
 
-  unfoldable pub phaseAfter : State → Entry → Phase
-  phaseAfter state (UnitRecord unit) = phaseAfterUnit (state .phase) (graded state unit)
-  phaseAfter state (Redesignation new) = phaseAfterRedesignation (state .phase) new
-  phaseAfter state Break = phaseAfterBreak (state .phase)
+  -- at the opening of the sheet the designated plan is in force, every class at its S
+  abbrev pub opening : ℕ → State
+  opening designated = restarted designated Designated
+
+  -- a unit graded under the plan in force
+  unfoldable pub graded : State → SampleUnit → Grading
+  graded state unit = gradingOf table (inForce state) (state .cusums) (countsOf unit)
+
+  -- a unit qualifies, with the CuSums of its grading; outside step 3 none does
+  unfoldable pub qualifiesWith : State → SampleUnit → Grading → Bool
+  qualifiesWith state unit grading =
+      inStepThree (state .phase) && qualifies table (state .designated) (grading .cusums) (countsOf unit)
+
+  abbrev pub qualifiesIn : State → SampleUnit → Bool
+  qualifiesIn state unit = qualifiesWith state unit (graded state unit)
+
+  -- a unit, by its grading and whether it qualifies: at the third qualifying one in a row step 3 ends, and the next unit starts the
+  -- designated plan at S; behind the second of two in a row that fail the designated plan, the plan in force is that of the worse of
+  -- the two defect grades, every class at its S
+  unfoldable pub afterUnit : State → Grading → Bool → State
+  afterUnit state grading qualifies =
+      pick (endsStepThree (state .phase) qualifies) (restarted (state .designated) Designated)
+      (pick (twoInARow (state .previous) (grading .fails)) (restarted (state .designated) (StepThree (worseOfTwo (state .previous) (grading .grade)) 0))
+      (record {
+        designated = state .designated;
+        previous = failureAfter (state .phase) (grading .fails) (grading .grade);
+        phase = withUnit (state .phase) qualifies;
+        cusums = grading .cusums;
+      }))
+
+  -- a redesignation that keeps step 3 keeps its CuSums and sets the run of qualifying units to none; any other starts the new plan at
+  -- S, also where it ends step 3. Each forgets a failure just before
+  unfoldable pub afterRedesignation : State → ℕ → State
+  afterRedesignation state new =
+      pick (keepsStepThree (state .phase) new)
+      (record { designated = new; previous = NoFailure; phase = withoutRun (state .phase); cusums = state .cusums })
+      (restarted new Designated)
+
+  -- a break sets the CuSums of the plan in force to S, forgets a failure just before and sets that run to none; it does not end step 3
+  unfoldable pub afterBreak : State → State
+  afterBreak state = restarted (state .designated) (withoutRun (state .phase))
+
+  unfoldable pub next : State → Entry → State
+  next state (UnitRecord unit) = afterUnit state (graded state unit) (qualifiesIn state unit)
+  next state (Redesignation new) = afterRedesignation state new
+  next state Break = afterBreak state
 
   -- step 3 ends at this record
   unfoldable pub recordEndsStepThree : State → Entry → Bool
-  recordEndsStepThree state (UnitRecord unit) = unitEndsStepThree (state .phase) (graded state unit)
+  recordEndsStepThree state (UnitRecord unit) = endsStepThree (state .phase) (qualifiesIn state unit)
   recordEndsStepThree state (Redesignation new) = false
   recordEndsStepThree state Break = false
-
-  -- the restarts are a break, the start of step 3, its end, and every redesignation but one that keeps the CuSums; a restart that a
-  -- unit brings about comes after that unit's record
-  unfoldable pub restarts : State → Entry → Bool
-  restarts state (UnitRecord unit) = unitRestarts (state .phase) (graded state unit)
-  restarts state (Redesignation new) = redesignationRestarts (state .phase) new
-  restarts state Break = true
-
-  -- the CuSums after a record, but for a restart
-  unfoldable pub cusumsAfter : State → Entry → List Cusum
-  cusumsAfter state (UnitRecord unit) = graded state unit .cusums
-  cusumsAfter state (Redesignation new) = state .cusums
-  cusumsAfter state Break = state .cusums
-
-  -- a restart sets every class of the plan then in force to its S
-  unfoldable pub stateWith : Phase → Bool → List Cusum → State
-  stateWith phase restarts cusums =
-      record { phase = phase; cusums = pick restarts (starting (rowOf table (inForce phase))) cusums }
-
-  unfoldable pub next : State → Entry → State
-  next state entry = stateWith (phaseAfter state entry) (restarts state entry) (cusumsAfter state entry)

@@ -1,13 +1,11 @@
-// The rules of grading over the records of a sheet: step 3, redesignations, breaks, restarts.
+// The rules of grading over the records of a sheet: step 3, redesignations, breaks.
 ghost use mathlib.Core.Path.{_≡_};
-ghost use Rattle.rules.specs.StepThree.{designatedIn, inForce, afterDesignated, afterStepThree, phaseAfterUnit, phaseAfterRedesignation, phaseAfterBreak, unitEndsStepThree, unitStartsStepThree, unitRestarts, redesignationRestarts, opening, graded, stateWith, next};
-ghost use Rattle.rules.specs.declared.Entry.the-variants.{Redesignation, Break};
+ghost use mathlib.Core.Bool.{false};
+ghost use Rattle.rules.specs.StepThree.{inForceIn, inForce, twoInARow, worseOfTwo, failureAfter, endsStepThree, withUnit, withoutRun, keepsStepThree, restarted, opening, afterUnit, afterRedesignation, afterBreak};
 ghost use Rattle.rules.specs.Sheet.{standingOf};
 use units::Cusums;
 use units::Grading;
-use units::SampleUnit;
 use units::Table;
-use units::grade_unit;
 use units::row_of;
 use units::starts;
 use units::worse_of;
@@ -15,14 +13,7 @@ use units::worse_of;
 // The standing of a recovered portion.
 pub const RECOVERED: u8 = 3;
 
-// A record of the sheet behind its plan.
-pub enum Entry {
-    UnitRecord(SampleUnit),
-    Redesignation(u8),
-    Break,
-}
-
-// Whether the unit just before, with no break or redesignation since, failed the designated plan, and its defect grade.
+// Whether the unit just before failed the designated plan, with its defect grade; a break, a redesignation and a restart forget it.
 pub enum Previous {
     NoFailure,
     Failure(u8),
@@ -30,221 +21,118 @@ pub enum Previous {
 
 // The designated plan is in force, or that of the lower grade in step 3, with the qualifying units in a row.
 pub enum Phase {
-    Designated { designated: u8, previous: Previous },
-    StepThree { designated: u8, lower: u8, run: u8 },
+    Designated,
+    StepThree { lower: u8, run: u8 },
 }
 
 // Where the grading stands before a record.
 pub struct State {
+    pub designated: u8,
+    pub previous: Previous,
     pub phase: Phase,
     pub cusums: Cusums,
 }
 
-fn after_designated(designated: u8, previous: Previous, fails: bool, grade: u8) -> Phase
-    ensures { λ r. ⌜ r ≡ afterDesignated designated previous fails grade ⌝ }
-{
-    if fails {
-        match previous {
-            Previous::NoFailure => Phase::Designated {
-                designated: designated,
-                previous: Previous::Failure(grade),
-            },
-            Previous::Failure(earlier) => Phase::StepThree {
-                designated: designated,
-                lower: worse_of(earlier, grade),
-                run: 0,
-            },
-        }
-    } else {
-        Phase::Designated {
-            designated: designated,
-            previous: Previous::NoFailure,
+impl Previous {
+    // Whether a unit is the second of two in a row that fail.
+    fn two_in_a_row(self, fails: bool) -> bool
+        ensures { λ r. ⌜ r ≡ twoInARow self fails ⌝ }
+    {
+        match self {
+            Previous::NoFailure => false,
+            Previous::Failure(_) => fails,
         }
     }
-}
 
-fn after_step_three(designated: u8, lower: u8, run: u8, qualifies: bool) -> Phase
-    ensures { λ r. ⌜ r ≡ afterStepThree designated lower run qualifies ⌝ }
-{
-    if qualifies {
-        if 2 <= run {
-            return Phase::Designated {
-                designated: designated,
-                previous: Previous::NoFailure,
-            };
+    // The worse of the two defect grades.
+    fn worse_of_two(self, grade: u8) -> u8
+        ensures { λ r. ⌜ r ≡ worseOfTwo self grade ⌝ }
+    {
+        match self {
+            Previous::NoFailure => grade,
+            Previous::Failure(earlier) => worse_of(earlier, grade),
         }
-        return Phase::StepThree {
-            designated: designated,
-            lower: lower,
-            run: run + 1,
-        };
-    }
-    Phase::StepThree {
-        designated: designated,
-        lower: lower,
-        run: 0,
     }
 }
 
 impl Phase {
-    pub fn designated(self) -> u8
-        ensures { λ r. ⌜ r ≡ designatedIn self ⌝ }
-    {
-        match self {
-            Phase::Designated {
-                designated,
-                previous: _,
-            } => designated,
-            Phase::StepThree {
-                designated,
-                lower: _,
-                run: _,
-            } => designated,
-        }
-    }
-
     // The grade of the plan in force, or 3 if there is none.
-    pub fn in_force(self) -> u8
-        ensures { λ r. ⌜ r ≡ inForce self ⌝ }
+    fn in_force(self, designated: u8) -> u8
+        ensures { λ r. ⌜ r ≡ inForceIn designated self ⌝ }
     {
         match self {
-            Phase::Designated {
-                designated,
-                previous: _,
-            } => designated,
-            Phase::StepThree {
-                designated: _,
-                lower,
-                run: _,
-            } => lower,
+            Phase::Designated => designated,
+            Phase::StepThree { lower, run: _ } => lower,
         }
     }
 
-    fn after_unit(self, grading: Grading) -> Phase
-        ensures { λ r. ⌜ r ≡ phaseAfterUnit self grading ⌝ }
+    // What the next unit finds just before it.
+    fn failure_after(self, fails: bool, grade: u8) -> Previous
+        ensures { λ r. ⌜ r ≡ failureAfter self fails grade ⌝ }
     {
         match self {
-            Phase::Designated {
-                designated,
-                previous,
-            } => after_designated(designated, previous, grading.fails, grading.grade),
-            Phase::StepThree {
-                designated,
-                lower,
-                run,
-            } => after_step_three(designated, lower, run, grading.qualifies),
+            Phase::Designated => {
+                if fails {
+                    return Previous::Failure(grade);
+                }
+                Previous::NoFailure
+            }
+            Phase::StepThree { lower: _, run: _ } => Previous::NoFailure,
         }
     }
 
-    fn after_redesignation(self, new: u8) -> Phase
-        ensures { λ r. ⌜ r ≡ phaseAfterRedesignation self new ⌝ }
+    // Whether step 3 ends at a unit.
+    pub fn ends_step_three(self, qualifies: bool) -> bool
+        ensures { λ r. ⌜ r ≡ endsStepThree self qualifies ⌝ }
     {
         match self {
-            Phase::Designated {
-                designated: _,
-                previous: _,
-            } => Phase::Designated {
-                designated: new,
-                previous: Previous::NoFailure,
-            },
-            Phase::StepThree {
-                designated: _,
-                lower,
-                run: _,
-            } => {
-                if new < lower {
+            Phase::Designated => false,
+            Phase::StepThree { lower: _, run } => qualifies & (2 <= run),
+        }
+    }
+
+    // Behind a unit at which step 3 neither begins nor ends.
+    fn with_unit(self, qualifies: bool) -> Phase
+        requires { ⌜ endsStepThree self qualifies ≡ false ⌝ }
+        ensures { λ r. ⌜ r ≡ withUnit self qualifies ⌝ }
+    {
+        match self {
+            Phase::Designated => Phase::Designated,
+            Phase::StepThree { lower, run } => {
+                if qualifies {
                     return Phase::StepThree {
-                        designated: new,
                         lower: lower,
-                        run: 0,
+                        run: run + 1,
                     };
                 }
-                Phase::Designated {
-                    designated: new,
-                    previous: Previous::NoFailure,
+                Phase::StepThree {
+                    lower: lower,
+                    run: 0,
                 }
             }
         }
     }
 
-    fn after_break(self) -> Phase
-        ensures { λ r. ⌜ r ≡ phaseAfterBreak self ⌝ }
+    // The run of qualifying units set to none.
+    fn without_run(self) -> Phase
+        ensures { λ r. ⌜ r ≡ withoutRun self ⌝ }
     {
         match self {
-            Phase::Designated {
-                designated,
-                previous: _,
-            } => Phase::Designated {
-                designated: designated,
-                previous: Previous::NoFailure,
-            },
-            Phase::StepThree {
-                designated,
-                lower,
-                run: _,
-            } => Phase::StepThree {
-                designated: designated,
+            Phase::Designated => Phase::Designated,
+            Phase::StepThree { lower, run: _ } => Phase::StepThree {
                 lower: lower,
                 run: 0,
             },
         }
     }
 
-    // Whether step 3 ends at a unit.
-    pub fn ends_step_three(self, grading: Grading) -> bool
-        ensures { λ r. ⌜ r ≡ unitEndsStepThree self grading ⌝ }
+    // Whether a redesignation keeps step 3.
+    fn keeps_step_three(self, new: u8) -> bool
+        ensures { λ r. ⌜ r ≡ keepsStepThree self new ⌝ }
     {
         match self {
-            Phase::Designated {
-                designated: _,
-                previous: _,
-            } => false,
-            Phase::StepThree {
-                designated: _,
-                lower: _,
-                run,
-            } => grading.qualifies & (2 <= run),
-        }
-    }
-
-    fn starts_step_three(self, grading: Grading) -> bool
-        ensures { λ r. ⌜ r ≡ unitStartsStepThree self grading ⌝ }
-    {
-        match self {
-            Phase::Designated {
-                designated: _,
-                previous,
-            } => match previous {
-                Previous::NoFailure => false,
-                Previous::Failure(_) => grading.fails,
-            },
-            Phase::StepThree {
-                designated: _,
-                lower: _,
-                run: _,
-            } => false,
-        }
-    }
-
-    fn unit_restarts(self, grading: Grading) -> bool
-        ensures { λ r. ⌜ r ≡ unitRestarts self grading ⌝ }
-    {
-        self.ends_step_three(grading) | self.starts_step_three(grading)
-    }
-
-    fn redesignation_restarts(self, new: u8) -> bool
-        ensures { λ r. ⌜ r ≡ redesignationRestarts self new ⌝ }
-    {
-        match self {
-            Phase::Designated {
-                designated: _,
-                previous: _,
-            } => true,
-            Phase::StepThree {
-                designated: _,
-                lower,
-                run: _,
-            } => !(new < lower),
+            Phase::Designated => false,
+            Phase::StepThree { lower, run: _ } => new < lower,
         }
     }
 
@@ -256,99 +144,97 @@ impl Phase {
             return RECOVERED;
         }
         match self {
-            Phase::Designated {
-                designated: _,
-                previous: _,
-            } => {
+            Phase::Designated => {
                 if fails {
                     return 1;
                 }
                 0
             }
-            Phase::StepThree {
-                designated: _,
-                lower: _,
-                run: _,
-            } => 2,
+            Phase::StepThree { lower: _, run: _ } => 2,
         }
-    }
-}
-
-// A state in a phase, with these CuSums or, at a restart, every class of the plan in force at its S.
-fn state_with(table: Table, phase: Phase, restarts: bool, cusums: Cusums) -> State
-    ensures { λ r. ⌜ r ≡ stateWith table phase restarts cusums ⌝ }
-{
-    if restarts {
-        let started = starts(row_of(table, phase.in_force()));
-        return State {
-            phase: phase,
-            cusums: started,
-        };
-    }
-    State {
-        phase: phase,
-        cusums: cusums,
     }
 }
 
 impl State {
-    // The designated plan in force, every class at its S.
-    pub fn opening(table: Table, designated: u8) -> State
-        ensures { λ r. ⌜ r ≡ opening table designated ⌝ }
+    // Every class of the plan then in force at its S, and a failure just before forgotten.
+    fn restarting(table: Table, designated: u8, phase: Phase) -> State
+        ensures { λ r. ⌜ r ≡ restarted table designated phase ⌝ }
     {
-        let started = starts(row_of(table, designated));
+        let started = starts(row_of(table, phase.in_force(designated)));
         State {
-            phase: Phase::Designated {
-                designated: designated,
-                previous: Previous::NoFailure,
-            },
+            designated: designated,
+            previous: Previous::NoFailure,
+            phase: phase,
             cusums: started,
         }
     }
 
-    // A unit graded under the plan in force.
-    pub fn grade(self, table: Table, unit: SampleUnit) -> Grading
-        ensures { λ r. ⌜ r ≡ graded table self unit ⌝ }
+    // The designated plan in force, every class at its S.
+    pub fn opening(table: Table, designated: u8) -> State
+        ensures { λ r. ⌜ r ≡ opening table designated ⌝ }
+    {
+        State::restarting(table, designated, Phase::Designated)
+    }
+
+    // The grade of the plan in force, or 3 if there is none.
+    pub fn in_force(self) -> u8
+        ensures { λ r. ⌜ r ≡ inForce self ⌝ }
     {
         let phase = self.phase;
-        let cusums = self.cusums;
-        grade_unit(table, phase.designated(), phase.in_force(), cusums, unit)
+        phase.in_force(self.designated)
     }
 
     // The state after a unit that was graded in this state.
-    pub fn after_unit(self, table: Table, grading: Grading) -> State
-        ensures { λ r. ⌜ r ≡ stateWith table (phaseAfterUnit (self .phase) grading) (unitRestarts (self .phase) grading) (grading .cusums) ⌝ }
+    pub fn after_unit(self, table: Table, grading: Grading, qualifies: bool) -> State
+        ensures { λ r. ⌜ r ≡ afterUnit table self grading qualifies ⌝ }
     {
         let phase = self.phase;
+        let previous = self.previous;
+        if phase.ends_step_three(qualifies) {
+            return State::restarting(table, self.designated, Phase::Designated);
+        }
+        if previous.two_in_a_row(grading.fails) {
+            let lower = previous.worse_of_two(grading.grade);
+            return State::restarting(
+                table,
+                self.designated,
+                Phase::StepThree {
+                    lower: lower,
+                    run: 0,
+                },
+            );
+        }
         let cusums = grading.cusums;
-        state_with(
-            table,
-            phase.after_unit(grading),
-            phase.unit_restarts(grading),
-            cusums,
-        )
+        State {
+            designated: self.designated,
+            previous: phase.failure_after(grading.fails, grading.grade),
+            phase: phase.with_unit(qualifies),
+            cusums: cusums,
+        }
     }
 
     // The state after a redesignation.
     pub fn after_redesignation(self, table: Table, new: u8) -> State
-        ensures { λ r. ⌜ r ≡ next table self (Redesignation new) ⌝ }
+        ensures { λ r. ⌜ r ≡ afterRedesignation table self new ⌝ }
     {
         let phase = self.phase;
         let cusums = self.cusums;
-        state_with(
-            table,
-            phase.after_redesignation(new),
-            phase.redesignation_restarts(new),
-            cusums,
-        )
+        if phase.keeps_step_three(new) {
+            return State {
+                designated: new,
+                previous: Previous::NoFailure,
+                phase: phase.without_run(),
+                cusums: cusums,
+            };
+        }
+        State::restarting(table, new, Phase::Designated)
     }
 
     // The state after a break.
     pub fn after_break(self, table: Table) -> State
-        ensures { λ r. ⌜ r ≡ next table self Break ⌝ }
+        ensures { λ r. ⌜ r ≡ afterBreak table self ⌝ }
     {
         let phase = self.phase;
-        let cusums = self.cusums;
-        state_with(table, phase.after_break(), true, cusums)
+        State::restarting(table, self.designated, phase.without_run())
     }
 }

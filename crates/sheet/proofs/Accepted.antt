@@ -12,16 +12,16 @@ use lib.ListN.{length}
 use borrow.Author.Tests.{leb-true, leb-false, eqb-true, eqb-false}
 use Rattle.units.specs.Conditions.{pick}
 use Rattle.layout.specs.Layout.{planSize, sizeOf, offset, mark, unitsBefore}
-use Rattle.sheet.specs.Refusals.{planRefusal, designatedBefore, recordRefusal, checkFrom, verdict}
+use Rattle.sheet.specs.Refusals.{planRefusal, recordRefusal, checkFrom, verdict}
 use Rattle.sheet.specs.declared.Verdict.{Verdict}
 use Rattle.sheet.specs.declared.Verdict.the-variants.{Accepted, Refused}
 use Rattle.layout.proofs.Offsets.{offset-lt, offset-ge}
-use Rattle.sheet.proofs.Grounds.{plan-whole, whole-at}
+use Rattle.sheet.proofs.Grounds.{plan-whole, whole-record}
 
 -- ---- the records
 
 -- records i to n - 1 pass, and end where the sheet ends
-pub record Passes (bytes : List ℕ) (i n units : ℕ) : Type 0 where
+record Passes (bytes : List ℕ) (i n units : ℕ) : Type 0 where
   pub end : offset bytes n ≡ length bytes
   pub counted : units ≡ unitsBefore bytes n
   pub within : (j : ℕ) → i ≤ j → j < n → (offset bytes j < length bytes) × (recordRefusal bytes j ≡ 0)
@@ -36,7 +36,7 @@ pub record Stops (bytes : List ℕ) (i number at : ℕ) : Type 0 where
   pub earlier : (j : ℕ) → i ≤ j → j < stop → recordRefusal bytes j ≡ 0
 
 -- what a verdict on the records from i on says
-unfoldable pub Fits : List ℕ → ℕ → Verdict → Type 0
+unfoldable Fits : List ℕ → ℕ → Verdict → Type 0
 Fits bytes i (Accepted n units) = Passes bytes i n units
 Fits bytes i (Refused number at) = Stops bytes i number at
 
@@ -66,8 +66,8 @@ module _ (bytes : List ℕ) where
       go j k (inr less) = later .earlier j less k
 
   next-within : (i : ℕ) → recordRefusal bytes i ≡ 0 → offset bytes (suc i) ≤ length bytes
-  unfolding recordRefusal offset
-  next-within i passed = whole-at bytes (offset bytes i) (unitsBefore bytes i) (designatedBefore bytes i) passed
+  unfolding offset
+  next-within i passed = whole-record bytes i passed
 
   fits-from : (most i : ℕ) → length bytes ≤ i + most → offset bytes i ≤ length bytes → Fits bytes i (checkFrom bytes most i)
   unfolding checkFrom pick Fits
@@ -105,7 +105,7 @@ module _ (bytes : List ℕ) where
       outer later false e = inner (leb-false (length bytes) (offset bytes i) e) later (eqb (recordRefusal bytes i) 0) refl
 
   -- the sheet's length is always enough: every record is accepted, or the first that is not is refused
-  pub check-fits : planSize ≤ length bytes → Fits bytes 0 (checkFrom bytes (length bytes) 0)
+  check-fits : planSize ≤ length bytes → Fits bytes 0 (checkFrom bytes (length bytes) 0)
   unfolding offset
   check-fits h = fits-from (length bytes) 0 (omega arith) h
 

@@ -1,7 +1,7 @@
 -- How a loop over the records follows `checkFrom`: what it knows at a place, and what each of its ways out answers.
 -- From one step of `checkFrom`; the length of the sheet is enough, as a record has two bytes or more.
 use Prim.Native.Nat.{ℕ, zero, suc, _+_, _-_, _≤_, _<_}
-use mathlib.Core.Path.{_≡_, refl, sym, _∙_, ap, ap₂}
+use mathlib.Core.Path.{_≡_, refl, sym, _∙_, ap, ap₂, subst⁻¹}
 use mathlib.Core.List.{List}
 use native.Mathlib.Nat.{sub-zero}
 use native.Mathlib.Omega.{arith}
@@ -10,12 +10,17 @@ use lib.ListN.{length}
 use borrow.Author.Tests.{le-leb, lt-leb, eq-eqb, ne-eqb}
 use Rattle.units.specs.Conditions.{pick}
 use Rattle.encoding.specs.Bytes.{byte}
-use Rattle.layout.specs.Layout.{planSize, planOf, markAt, sizeOf, entryOf, entryAt, offset, unitsIn, unitsBefore}
-use Rattle.sheet.specs.Refusals.{refusalAt, designatedBy, designatedBefore, recordRefusal, checkFrom}
+use Rattle.units.specs.Records.{designatedBy}
+use Rattle.layout.specs.Layout.{markSize, gradeOffset, planSize, planOf, markAt, sizeOf, entryOf, entryAt, offset, unitsBefore}
+use Rattle.layout.specs.Walk.{firstPlace, placeAt, placeAfter, Walk, largestOffset, RoomPast}
+use Rattle.layout.specs.declared.Mark.{Mark}
+use Rattle.layout.specs.declared.Mark.the-variants.{NoMark}
+use Rattle.layout.specs.declared.Place.{Place}
+use Rattle.layout.proofs.Offsets.{size-ge, offset-ge, short-mark}
+use Rattle.layout.proofs.Walk.{walk-first, walk-longer, at-is, units-are, whole-here, next-place, room-past}
+use Rattle.sheet.specs.Refusals.{refusalBy, designatedBefore, recordRefusal, checkFrom}
 use Rattle.sheet.specs.declared.Verdict.the-variants.{Accepted, Refused}
-use Rattle.sheet.specs.declared.Place.{Place}
-use Rattle.layout.proofs.Offsets.{offset-ge, units-before-le}
-use Rattle.sheet.proofs.Grounds.{whole-at}
+use Rattle.sheet.proofs.Grounds.{refusal-by-mark, whole-record}
 
 -- ---- one step of `checkFrom`
 
@@ -45,73 +50,88 @@ module _ (bytes : List ℕ) (i : ℕ) where
 
 -- ---- the loop
 
--- the place of the next record, in the sheet
-pub record Stands (bytes : List ℕ) (place : Place) : Type 0 where
-  pub at-offset : place .at ≡ offset bytes (place .records)
-  pub units-before : place .units ≡ unitsBefore bytes (place .records)
-  pub designated-before : place .designated ≡ designatedBefore bytes (place .records)
-  pub still : checkFrom bytes (length bytes) 0 ≡ checkFrom bytes (length bytes - place .records) (place .records)
+-- the place of the next record, the records before it whole, and the grade designated before it
+pub record Stands (bytes : List ℕ) (place : Place) (designated : ℕ) : Type 0 where
+  pub walk : Walk bytes (place .index) place
   pub within : place .at ≤ length bytes
+  pub designated-before : designated ≡ designatedBefore bytes (place .index)
+  pub still : checkFrom bytes (length bytes) 0 ≡ checkFrom bytes (length bytes - place .index) (place .index)
 
 -- behind the plan
-pub stands-first : (bytes : List ℕ) → planSize ≤ length bytes
-    → Stands bytes (record { records = 0; at = planSize; units = 0; designated = byte bytes 2 })
-unfolding offset unitsBefore designatedBefore planOf
-stands-first bytes h =
-    record { at-offset = refl; units-before = refl; designated-before = refl; still = ap (λ (most : ℕ). checkFrom bytes most 0) (sym (sub-zero (length bytes))); within = h }
+pub stands-first : (bytes : List ℕ) → planSize ≤ length bytes → (place : Place) → place ≡ firstPlace
+    → Stands bytes place (byte bytes gradeOffset)
+unfolding designatedBefore planOf
+stands-first bytes h place e =
+    subst⁻¹ (λ (p : Place). Stands bytes p (byte bytes gradeOffset)) e
+    (record {
+      walk = walk-first bytes 0 (λ j none. absurd (omega arith));
+      within = h;
+      designated-before = refl;
+      still = ap (λ (most : ℕ). checkFrom bytes most 0) (sym (sub-zero (length bytes)));
+    })
 
-module _ (bytes : List ℕ) (place : Place) (stands : Stands bytes place) where
-  refusal-here : refusalAt bytes (place .at) (place .units) (place .designated) ≡ recordRefusal bytes (place .records)
-  unfolding recordRefusal
-  refusal-here = rw (stands .at-offset, stands .units-before, stands .designated-before)
+module _ (bytes : List ℕ) (place : Place) (designated : ℕ) (stands : Stands bytes place designated) where
+  abbrev i : ℕ
+  i = place .index
 
-  pub few-units : place .units ≤ place .records
-  few-units = omega (arith, stands .units-before, units-before-le bytes (place .records))
+  at-offset : place .at ≡ offset bytes i
+  at-offset = at-is bytes i place (stands .walk)
 
-  pub few-records : place .records ≤ place .at
-  few-records = omega (arith, stands .at-offset, offset-ge bytes (place .records))
+  units-before : place .units ≡ unitsBefore bytes i
+  units-before = units-are bytes i place (stands .walk)
 
-  pub stands-done : length bytes ≤ place .at → Accepted (place .records) (place .units) ≡ checkFrom bytes (length bytes) 0
+  pub stands-done : length bytes ≤ place .at → Accepted i (place .units) ≡ checkFrom bytes (length bytes) 0
   stands-done h =
-      ap (Accepted (place .records)) (stands .units-before)
-      ∙ sym (stands .still ∙ check-done bytes (place .records) (length bytes - place .records) (omega (arith, stands .at-offset)))
+      ap (Accepted i) units-before ∙ sym (stands .still ∙ check-done bytes i (length bytes - i) (omega (arith, at-offset)))
 
-  module _ (h : place .at < length bytes) (number : ℕ)
-      (e : number ≡ refusalAt bytes (place .at) (place .units) (place .designated)) where
-    before-end : offset bytes (place .records) < length bytes
-    before-end = omega (arith, stands .at-offset)
+  module _ (h : place .at < length bytes) (mark : Mark) (is-mark : mark ≡ markAt bytes (place .at))
+      (number : ℕ) (e : number ≡ refusalBy bytes (place .at) (place .units) designated mark) where
+    before-end : offset bytes i < length bytes
+    before-end = omega (arith, at-offset)
+
+    refusal-here : number ≡ recordRefusal bytes i
+    unfolding recordRefusal
+    refusal-here =
+        e
+        ∙ ap (refusalBy bytes (place .at) (place .units) designated) is-mark
+        ∙ refusal-by-mark bytes (place .at) (place .units) designated
+        ∙ rw (at-offset, units-before, stands .designated-before)
 
     pub stands-refused : (number ≡ 0 → ⊥) → Refused number (place .at) ≡ checkFrom bytes (length bytes) 0
     stands-refused refused =
-        ap₂ Refused (e ∙ refusal-here) (stands .at-offset)
-        ∙ sym (stands .still ∙ check-refused bytes (place .records) before-end (λ zero-here. refused (e ∙ refusal-here ∙ zero-here)))
+        ap₂ Refused refusal-here at-offset
+        ∙ sym (stands .still ∙ check-refused bytes i before-end (λ zero-here. refused (refusal-here ∙ zero-here)))
 
     module _ (passed : number ≡ 0) where
-      pub stands-whole : place .at + sizeOf (markAt bytes (place .at)) ≤ length bytes
-      stands-whole = whole-at bytes (place .at) (place .units) (place .designated) (sym e ∙ passed)
+      -- the walk over one record more
+      longer : Walk bytes (suc i) place
+      longer = walk-longer bytes i place (stands .walk) (whole-record bytes i (sym refusal-here ∙ passed))
 
-      pub stands-on : (later : Place)
-          → later ≡ record {
-            records = place .records + 1;
-            at = place .at + sizeOf (markAt bytes (place .at));
-            units = place .units + unitsIn (markAt bytes (place .at));
-            designated = designatedBy (place .designated) (entryOf bytes (place .at) (markAt bytes (place .at)));
-          }
-          → Stands bytes later
-      unfolding offset unitsBefore designatedBefore entryAt
-      stands-on later q =
-          rw q
+      pub stands-whole : place .at + sizeOf mark ≤ length bytes
+      stands-whole = rw is-mark (whole-here bytes (suc i) place longer (omega arith))
+
+      pub stands-room : length bytes ≤ largestOffset → RoomPast place mark
+      stands-room fits = rw is-mark (room-past bytes (suc i) place longer (omega arith) fits)
+
+      pub stands-less : (later : Place) → later ≡ placeAfter place mark → length bytes - later .at < length bytes - place .at
+      stands-less later p = omega (arith, ap (λ (x : Place). x .at) p, size-ge mark)
+
+      pub stands-on : (later : Place) (behind : ℕ) → later ≡ placeAfter place mark
+          → behind ≡ designatedBy designated (entryOf bytes (place .at) mark) → Stands bytes later behind
+      unfolding offset designatedBefore entryAt
+      stands-on later behind p q =
+          let there : later ≡ placeAt bytes (suc i)
+          = p ∙ ap (placeAfter place) is-mark ∙ next-place bytes (suc i) place longer (omega arith) ∙ ap (placeAt bytes) (add-one i) in
+          subst⁻¹ (λ (x : Place). Stands bytes x behind) there
           (record {
-            at-offset = ap (λ (at : ℕ). at + sizeOf (markAt bytes at)) (stands .at-offset) ∙ sym (ap (offset bytes) (add-one (place .records)));
-            units-before =
-                ap₂ (λ (units at : ℕ). units + unitsIn (markAt bytes at)) (stands .units-before) (stands .at-offset)
-                ∙ sym (ap (unitsBefore bytes) (add-one (place .records)));
-            designated-before =
-                ap₂ (λ (designated at : ℕ). designatedBy designated (entryOf bytes at (markAt bytes at))) (stands .designated-before) (stands .at-offset)
-                ∙ sym (ap (designatedBefore bytes) (add-one (place .records)));
-            still =
-                stands .still
-                ∙ check-more bytes (place .records) before-end (sym refusal-here ∙ sym e ∙ passed)
-                ∙ sym (ap (λ (i : ℕ). checkFrom bytes (length bytes - i) i) (add-one (place .records)));
-            within = stands-whole;
+            walk = record { whole = longer .whole; inside = omega arith; here = refl };
+            within = longer .whole i (omega arith);
+            designated-before = q ∙ rw (is-mark, at-offset, stands .designated-before);
+            still = stands .still ∙ check-more bytes i before-end (sym refusal-here ∙ passed);
           })
+
+  -- where one byte is left, there is no mark
+  pub stands-short : place .at < length bytes → length bytes < place .at + markSize → Refused 6 (place .at) ≡ checkFrom bytes (length bytes) 0
+  unfolding refusalBy
+  stands-short h short =
+      stands-refused h NoMark (sym (short-mark bytes (place .at) short)) 6 refl (λ e. omega arith)

@@ -6,7 +6,7 @@ use mathlib.Core.Bool.{Bool, true, false}
 use mathlib.Core.List.{List}
 use mathlib.Core.Logic.{_⊎_, inl, inr}
 use native.Mathlib.Omega.{arith}
-use Rattle.units.specs.Words.{Table}
+use Rattle.units.specs.declared.Plan.{Plan}
 use Rattle.sheet.specs.Refusals.{refusedIf, tableRefusal, planRefusal, unitRefusal, redesignationRefusal, refusalBy, refusalAt, recordRefusal, verdict}
 use Rattle.layout.specs.declared.Mark.{Mark}
 use Rattle.layout.specs.declared.Mark.the-variants.{UnitMark, RedesignationMark, BreakMark, NoMark}
@@ -23,9 +23,9 @@ unfolding refusedIf
 ground-among first last true number rest from to others = inr (from, to)
 ground-among first last false number rest from to others = others
 
-table-among : (table : Table) → Among 1 5 (tableRefusal table)
+table-among : (plan : Plan) → Among 1 5 (tableRefusal plan)
 unfolding tableRefusal
-table-among table =
+table-among plan =
     ground-among 1 5 _ 3 _ (omega arith) (omega arith)
     (ground-among 1 5 _ 4 _ (omega arith) (omega arith)
     (ground-among 1 5 _ 5 _ (omega arith) (omega arith) (inl refl)))
@@ -59,13 +59,16 @@ some : (first last number known : ℕ) → (number ≡ 0 → ⊥) → number ≡
 some first last number known other same (inl none) = absurd (other (same ∙ none))
 some first last number known other same (inr (from, to)) = (omega arith, omega arith)
 
-pub refusal-listed : (bytes : List ℕ) (number at : ℕ) → verdict bytes ≡ Refused number at
-    → ((1 ≤ number) × (number ≤ 5) × (number ≡ planRefusal bytes) × (at ≡ 0)) ⊎ ((6 ≤ number) × (number ≤ 12) × Stops bytes 0 number at)
+-- a refusal of the plan, or of the first record refused
+abbrev pub Which : List ℕ → ℕ → ℕ → Type 0
+Which bytes number at =
+    ((1 ≤ number) × (number ≤ 5) × (number ≡ planRefusal bytes) × (at ≡ 0)) ⊎ ((6 ≤ number) × (number ≤ 12) × Stops bytes 0 number at)
+
+pub refusal-listed : (bytes : List ℕ) (number at : ℕ) → verdict bytes ≡ Refused number at → Which bytes number at
 unfolding Says
 refusal-listed bytes number at refused = go (subst (Says bytes) refused (verdict-says bytes))
   where
-    go : Says bytes (Refused number at)
-        → ((1 ≤ number) × (number ≤ 5) × (number ≡ planRefusal bytes) × (at ≡ 0)) ⊎ ((6 ≤ number) × (number ≤ 12) × Stops bytes 0 number at)
+    go : Says bytes (Refused number at) → Which bytes number at
     go (other, inl (of-plan, at-start)) =
         let (from, to) = some 1 5 number (planRefusal bytes) other of-plan (plan-among bytes) in inl (from, to, of-plan, at-start)
     go (other, inr (passed, stops)) =

@@ -7,11 +7,11 @@ use lib.ListN.{length}
 use Rattle.cusum.specs.declared.PlanNumbers.{PlanNumbers}
 use Rattle.encoding.specs.Bytes.{byte, number}
 use Rattle.units.specs.Conditions.{any, pick}
-use Rattle.units.specs.Words.{plannedGrades, classes, Table, inClass, rowOf, numbersOf, tableOf}
-use Rattle.rules.specs.declared.Entry.{Entry}
-use Rattle.rules.specs.declared.Entry.the-variants.{UnitRecord, Redesignation, Break}
+use Rattle.units.specs.Words.{classes, cellOf, numbersOf, tableOf}
+use Rattle.units.specs.Records.{designatedBy}
+use Rattle.units.specs.declared.Plan.{Plan}
 use Rattle.units.specs.declared.SampleUnit.{SampleUnit}
-use Rattle.layout.specs.Layout.{markSize, gradeOffset, planSize, unitSize, redesignationSize, prerequisiteOffset, recoverableOffset, planOf, sampleUnitAt, markAt, offset, entryAt, unitsBefore}
+use Rattle.layout.specs.Layout.{markSize, gradeOffset, planSize, unitSize, redesignationSize, prerequisiteOffset, recoverableOffset, cells, planOf, sampleUnitAt, markAt, offset, entryAt, unitsBefore}
 use Rattle.layout.specs.declared.Mark.{Mark}
 use Rattle.layout.specs.declared.Mark.the-variants.{UnitMark, RedesignationMark, BreakMark, NoMark}
 use Rattle.sheet.specs.declared.Verdict.{Verdict}
@@ -34,46 +34,47 @@ mostUnits = 1000
 
 -- ---- the plan, at offset 0
 
--- a condition holds of a class in the plan of a grade, and in that of any grade
-unfoldable pub anyClass : (PlanNumbers → Bool) → List PlanNumbers → Bool
-anyClass condition row = any (λ class. condition (inClass row class)) classes
+-- a condition holds of the numbers of a class in the plan of a grade
+unfoldable pub anyNumbers : (PlanNumbers → Bool) → Plan → Bool
+anyNumbers condition plan = any (λ cell. condition (cellOf plan cell)) cells
 
-unfoldable pub anyNumbers : (PlanNumbers → Bool) → Table → Bool
-anyNumbers condition table = any (λ grade. anyClass condition (rowOf table grade)) plannedGrades
-
--- 1: shorter than 75 bytes, or first mark not 50 4C
+-- 1: shorter than a plan, or first mark not 50 4C
 unfoldable pub noPlanRecord : List ℕ → Bool
 noPlanRecord bytes = ltb (length bytes) planSize || not (eqb (number bytes 0) 0x504C)
 
 -- 3: an S, T or L above 9,999
 unfoldable pub tooLarge : PlanNumbers → Bool
-tooLarge numbers = ltb largestPlanNumber (numbers .start) || (ltb largestPlanNumber (numbers .tolerance) || ltb largestPlanNumber (numbers .limit))
+tooLarge numbers =
+    ltb largestPlanNumber (numbers .start)
+    || (ltb largestPlanNumber (numbers .tolerance) || ltb largestPlanNumber (numbers .limit))
 
 -- 4: an S above its L
 unfoldable pub startAboveLimit : PlanNumbers → Bool
 startAboveLimit numbers = ltb (numbers .limit) (numbers .start)
 
--- 5: in a class, T or T+L smaller at B than at A, or at C than at B
+-- T or T+L smaller at a lower grade than at a better one
 unfoldable pub smaller : PlanNumbers → PlanNumbers → Bool
 smaller better lower =
     ltb (lower .tolerance) (better .tolerance) || ltb (lower .tolerance + lower .limit) (better .tolerance + better .limit)
 
-unfoldable pub anySmaller : Table → Bool
-anySmaller table =
-    any (λ class. smaller (numbersOf table 0 class) (numbersOf table 1 class) || smaller (numbersOf table 1 class) (numbersOf table 2 class)) classes
+-- 5: in a class, T or T+L smaller at B than at A, or at C than at B
+unfoldable pub smallerInClass : Plan → ℕ → Bool
+smallerInClass plan class =
+    let numbers : ℕ → PlanNumbers = λ grade. numbersOf (tableOf plan) grade class in
+    smaller (numbers 0) (numbers 1) || smaller (numbers 1) (numbers 2)
 
-unfoldable pub tableRefusal : Table → ℕ
-tableRefusal table =
-    refusedIf (anyNumbers tooLarge table) 3
-    (refusedIf (anyNumbers startAboveLimit table) 4
-    (refusedIf (anySmaller table) 5
+unfoldable pub tableRefusal : Plan → ℕ
+tableRefusal plan =
+    refusedIf (anyNumbers tooLarge plan) 3
+    (refusedIf (anyNumbers startAboveLimit plan) 4
+    (refusedIf (any (smallerInClass plan) classes) 5
     0))
 
 unfoldable pub planRefusal : List ℕ → ℕ
 planRefusal bytes =
     refusedIf (noPlanRecord bytes) 1
     (refusedIf (ltb 2 (byte bytes gradeOffset)) 2
-    (tableRefusal (tableOf (planOf bytes))))
+    (tableRefusal (planOf bytes)))
 
 -- ---- a record, at the offset of its mark
 
@@ -113,13 +114,7 @@ unfoldable pub refusalAt : List ℕ → ℕ → ℕ → ℕ → ℕ
 refusalAt bytes at units designated =
     refusedIf (ltb (length bytes) (at + markSize)) 6 (refusalBy bytes at units designated (markAt bytes at))
 
--- the grade designated behind a record
-unfoldable pub designatedBy : ℕ → Entry → ℕ
-designatedBy designated (UnitRecord unit) = designated
-designatedBy designated (Redesignation new) = new
-designatedBy designated Break = designated
-
--- the grade designated just before record i, told without grading (law `designated-before`: the grading has the same)
+-- the grade designated just before record i, told without grading
 unfoldable pub designatedBefore : List ℕ → ℕ → ℕ
 designatedBefore bytes zero = planOf bytes .designated
 designatedBefore bytes (suc i) = designatedBy (designatedBefore bytes i) (entryAt bytes i)
@@ -142,3 +137,16 @@ checkFrom bytes (suc most) i =
 unfoldable pub verdict : List ℕ → Verdict
 verdict bytes =
     pick (eqb (planRefusal bytes) 0) (checkFrom bytes (length bytes) 0) (Refused (planRefusal bytes) 0)
+
+-- ---- the answer
+
+-- a number (0 for acceptance), the units and an offset
+pub record CheckAnswer : Type 0 where
+  pub number : ℕ
+  pub units : ℕ
+  pub offset : ℕ
+
+-- of each case: acceptance has the number of units and the sheet's length, a refusal no units and the place where the sheet stopped
+abbrev pub answerOf : List ℕ → Verdict → CheckAnswer
+answerOf bytes (Accepted records units) = record { number = 0; units = units; offset = length bytes }
+answerOf bytes (Refused number offset) = record { number = number; units = 0; offset = offset }

@@ -1,10 +1,12 @@
 // The check of a tally sheet for refusals 1 to 12.
 ghost use mathlib.Core.Path.{_≡_};
-ghost use mathlib.Core.Bool.{_||_};
-ghost use Prim.Native.Nat.{_+_, _≤_};
+ghost use Prim.Native.Nat.{_+_, _≤_, _<_};
 ghost use lib.ListN.{length};
-ghost use Rattle.layout.specs.Layout.{planSize, markAt, sizeOf, entryOf, unitsIn};
-ghost use Rattle.sheet.specs.Refusals.{tooLarge, startAboveLimit, smaller, anyClass, anyNumbers, anySmaller, tableRefusal, planRefusal, countTooLarge, unitRefusal, redesignationRefusal, refusalAt, designatedBy, checkFrom, verdict};
+ghost use Rattle.units.specs.Conditions.{any};
+ghost use Rattle.units.specs.Words.{classes};
+ghost use Rattle.units.specs.Records.{designatedBy};
+ghost use Rattle.layout.specs.Layout.{planSize, sizeOf, entryOf};
+ghost use Rattle.sheet.specs.Refusals.{tooLarge, startAboveLimit, smaller, smallerInClass, anyNumbers, tableRefusal, planRefusal, countTooLarge, unitRefusal, redesignationRefusal, refusalBy, checkFrom, verdict};
 use cusum::PlanNumbers;
 use encoding::number_at;
 use layout::GRADE_OFFSET;
@@ -12,20 +14,17 @@ use layout::MARK_SIZE;
 use layout::Mark;
 use layout::PLAN_SIZE;
 use layout::PREREQUISITE_OFFSET;
+use layout::Place;
 use layout::RECOVERABLE_OFFSET;
 use layout::REDESIGNATION_SIZE;
 use layout::UNIT_SIZE;
-use layout::entry_at;
 use layout::mark_at;
 use layout::plan_of;
 use layout::sample_unit_at;
-use layout::size_of;
-use layout::units_in;
-use rules::Entry;
-use units::Row;
+use units::CELLS;
+use units::CLASSES;
+use units::Plan;
 use units::SampleUnit;
-use units::Table;
-use units::row_of;
 
 // The largest S, T, L and count, and the most units, of a sheet.
 const LARGEST_PLAN_NUMBER: u16 = 9999;
@@ -33,14 +32,6 @@ const LARGEST_PLAN_NUMBER: u16 = 9999;
 const LARGEST_COUNT: u16 = 2000;
 
 pub const MOST_UNITS: usize = 1000;
-
-// Where a check stands: so many records and units before it, the offset of the next record, the grade designated there.
-struct Place {
-    records: usize,
-    at: usize,
-    units: usize,
-    designated: u8,
-}
 
 // A sheet that passes, with the number of its records and of its units; or a refusal, with its number and offset.
 pub enum Verdict {
@@ -55,17 +46,18 @@ fn too_large(numbers: PlanNumbers) -> bool
         | ((LARGEST_PLAN_NUMBER < numbers.tolerance) | (LARGEST_PLAN_NUMBER < numbers.limit))
 }
 
-fn row_too_large(row: Row) -> bool
-    ensures { λ r. ⌜ r ≡ anyClass tooLarge row ⌝ }
+// Whether a number of the plan is too large.
+fn any_too_large(plan: Plan) -> bool
+    ensures { λ r. ⌜ r ≡ anyNumbers tooLarge plan ⌝ }
 {
-    too_large(row[0]) | (too_large(row[1]) | (too_large(row[2]) | too_large(row[3])))
-}
-
-fn table_too_large(table: Table) -> bool
-    ensures { λ r. ⌜ r ≡ anyNumbers tooLarge table ⌝ }
-{
-    row_too_large(row_of(table, 0))
-        | (row_too_large(row_of(table, 1)) | row_too_large(row_of(table, 2)))
+    let numbers = plan.numbers;
+    let mut found = false;
+    let mut cell: usize = 0;
+    while cell < CELLS {
+        found = found | too_large(numbers[cell]);
+        cell += 1;
+    }
+    found
 }
 
 fn start_above_limit(numbers: PlanNumbers) -> bool
@@ -74,18 +66,18 @@ fn start_above_limit(numbers: PlanNumbers) -> bool
     numbers.limit < numbers.start
 }
 
-fn row_start_above_limit(row: Row) -> bool
-    ensures { λ r. ⌜ r ≡ anyClass startAboveLimit row ⌝ }
+// Whether an S of the plan is above its L.
+fn any_start_above_limit(plan: Plan) -> bool
+    ensures { λ r. ⌜ r ≡ anyNumbers startAboveLimit plan ⌝ }
 {
-    start_above_limit(row[0])
-        | (start_above_limit(row[1]) | (start_above_limit(row[2]) | start_above_limit(row[3])))
-}
-
-fn table_start_above_limit(table: Table) -> bool
-    ensures { λ r. ⌜ r ≡ anyNumbers startAboveLimit table ⌝ }
-{
-    row_start_above_limit(row_of(table, 0))
-        | (row_start_above_limit(row_of(table, 1)) | row_start_above_limit(row_of(table, 2)))
+    let numbers = plan.numbers;
+    let mut found = false;
+    let mut cell: usize = 0;
+    while cell < CELLS {
+        found = found | start_above_limit(numbers[cell]);
+        cell += 1;
+    }
+    found
 }
 
 // Whether T or T+L is smaller at the lower grade than at the better one.
@@ -97,34 +89,40 @@ fn is_smaller(better: PlanNumbers, lower: PlanNumbers) -> bool
     (lower.tolerance < better.tolerance) | (at_lower < at_better)
 }
 
-// The same in one class of A, B and C.
-fn smaller_in_class(a: PlanNumbers, b: PlanNumbers, c: PlanNumbers) -> bool
-    ensures { λ r. ⌜ r ≡ (smaller a b || smaller b c) ⌝ }
+// The same in a class: at B than at A, or at C than at B.
+fn smaller_in_class(plan: Plan, class: usize) -> bool
+    requires { ⌜ class < length classes ⌝ }
+    ensures { λ r. ⌜ r ≡ smallerInClass plan class ⌝ }
 {
+    let numbers = plan.numbers;
+    let a = numbers[class];
+    let b = numbers[CLASSES + class];
+    let c = numbers[2 * CLASSES + class];
     is_smaller(a, b) | is_smaller(b, c)
 }
 
-fn any_smaller(table: Table) -> bool
-    ensures { λ r. ⌜ r ≡ anySmaller table ⌝ }
+fn any_smaller(plan: Plan) -> bool
+    ensures { λ r. ⌜ r ≡ any (smallerInClass plan) classes ⌝ }
 {
-    let a = row_of(table, 0);
-    let b = row_of(table, 1);
-    let c = row_of(table, 2);
-    smaller_in_class(a[0], b[0], c[0])
-        | (smaller_in_class(a[1], b[1], c[1])
-            | (smaller_in_class(a[2], b[2], c[2]) | smaller_in_class(a[3], b[3], c[3])))
+    let mut found = false;
+    let mut class: usize = 0;
+    while class < CLASSES {
+        found = found | smaller_in_class(plan, class);
+        class += 1;
+    }
+    found
 }
 
-fn table_refusal(table: Table) -> u8
-    ensures { λ r. ⌜ r ≡ tableRefusal table ⌝ }
+fn table_refusal(plan: Plan) -> u8
+    ensures { λ r. ⌜ r ≡ tableRefusal plan ⌝ }
 {
-    if table_too_large(table) {
+    if any_too_large(plan) {
         return 3;
     }
-    if table_start_above_limit(table) {
+    if any_start_above_limit(plan) {
         return 4;
     }
-    if any_smaller(table) {
+    if any_smaller(plan) {
         return 5;
     }
     0
@@ -143,8 +141,7 @@ fn plan_refusal(bytes: &[u8]) -> u8
     if 2 < bytes[GRADE_OFFSET] {
         return 2;
     }
-    let plan = plan_of(bytes);
-    table_refusal(plan.table())
+    table_refusal(plan_of(bytes))
 }
 
 fn count_too_large(unit: SampleUnit) -> bool
@@ -191,44 +188,29 @@ fn redesignation_refusal(bytes: &[u8], at: usize, designated: u8) -> u8
     0
 }
 
-// The number of the first ground that the record at an offset meets, or 0.
-fn refusal_at(bytes: &[u8], at: usize, units: usize, designated: u8) -> u8
-    requires { ⌜ at ≤ length (now bytes) ⌝ }
-    ensures { λ r. ⌜ r ≡ refusalAt (now (bytes .entry)) at units designated ⌝ }
+// The number of the first ground that the record at a place meets, or 0, by its mark.
+fn refusal_by(bytes: &[u8], place: Place, designated: u8, mark: Mark) -> u8
+    requires { ⌜ place .at ≤ length (now bytes) ⌝ }
+    ensures { λ r. ⌜ r ≡ refusalBy (now (bytes .entry)) (place .at) (place .units) designated mark ⌝ }
 {
-    if bytes.len() - at < MARK_SIZE {
-        return 6;
-    }
-    match mark_at(bytes, at) {
-        Mark::UnitMark => unit_refusal(bytes, at, units),
-        Mark::RedesignationMark => redesignation_refusal(bytes, at, designated),
+    match mark {
+        Mark::UnitMark => unit_refusal(bytes, place.at, place.units),
+        Mark::RedesignationMark => redesignation_refusal(bytes, place.at, designated),
         Mark::BreakMark => 0,
         Mark::NoMark => 6,
     }
 }
 
-fn designated_by(designated: u8, entry: Entry) -> u8
-    ensures { λ r. ⌜ r ≡ designatedBy designated entry ⌝ }
+// The grade designated behind the record at an offset, which has its mark and is whole.
+fn designated_after(bytes: &[u8], at: usize, mark: Mark, designated: u8) -> u8
+    requires { ⌜ at + sizeOf mark ≤ length (now bytes) ⌝ }
+    ensures { λ r. ⌜ r ≡ designatedBy designated (entryOf (now (bytes .entry)) at mark) ⌝ }
 {
-    match entry {
-        Entry::UnitRecord(_) => designated,
-        Entry::Redesignation(new) => new,
-        Entry::Break => designated,
-    }
-}
-
-// The place behind the record at a place, which is whole.
-fn place_after(bytes: &[u8], place: Place) -> Place
-    requires { ⌜ (place .at + sizeOf (markAt (now bytes) (place .at)) ≤ length (now bytes)) × (place .units ≤ place .records) × (place .records ≤ place .at) ⌝ }
-    ensures { λ r. ⌜ r ≡ record { records = place .records + 1; at = place .at + sizeOf (markAt (now (bytes .entry)) (place .at)); units = place .units + unitsIn (markAt (now (bytes .entry)) (place .at)); designated = designatedBy (place .designated) (entryOf (now (bytes .entry)) (place .at) (markAt (now (bytes .entry)) (place .at))) } ⌝ }
-{
-    let mark = mark_at(bytes, place.at);
-    let entry = entry_at(bytes, place.at, mark);
-    Place {
-        records: place.records + 1,
-        at: place.at + size_of(mark),
-        units: place.units + units_in(mark),
-        designated: designated_by(place.designated, entry),
+    match mark {
+        Mark::UnitMark => designated,
+        Mark::RedesignationMark => bytes[at + GRADE_OFFSET],
+        Mark::BreakMark => designated,
+        Mark::NoMark => designated,
     }
 }
 
@@ -237,24 +219,30 @@ fn check_records(bytes: &[u8]) -> Verdict
     requires { ⌜ planSize ≤ length (now bytes) ⌝ }
     ensures { λ r. ⌜ r ≡ checkFrom (now (bytes .entry)) (length (now (bytes .entry))) 0 ⌝ }
 {
-    let mut place = Place {
-        records: 0,
-        at: PLAN_SIZE,
-        units: 0,
-        designated: bytes[GRADE_OFFSET],
-    };
-    while place.at < bytes.len() {
-        let number = refusal_at(bytes, place.at, place.units, place.designated);
+    let mut place = Place::first();
+    let mut designated = bytes[GRADE_OFFSET];
+    while MARK_SIZE <= bytes.len() - place.at {
+        let at = place.at;
+        let mark = mark_at(bytes, at);
+        let number = refusal_by(bytes, place, designated, mark);
         if number != 0 {
             return Verdict::Refused {
                 number: number,
-                offset: place.at,
+                offset: at,
             };
         }
-        place = place_after(bytes, place);
+        designated = designated_after(bytes, at, mark, designated);
+        place = place.past(mark);
+    }
+    // One byte is left.
+    if place.at < bytes.len() {
+        return Verdict::Refused {
+            number: 6,
+            offset: place.at,
+        };
     }
     Verdict::Accepted {
-        records: place.records,
+        records: place.index,
         units: place.units,
     }
 }

@@ -11,16 +11,18 @@ use lib.Seq.{drop-at}
 use borrow.Author.Tests.{ltb-false}
 use Rattle.units.specs.Conditions.{pick}
 use Rattle.rules.specs.Sheet.{codeGrade}
-use Rattle.layout.specs.Layout.{unitsBefore, sheetOf}
+use Rattle.layout.specs.Layout.{unitsBefore}
+use Rattle.layout.proofs.Units.{units-among}
 use Rattle.sheet.specs.Refusals.{verdict}
 use Rattle.sheet.specs.declared.Verdict.{Verdict}
 use Rattle.sheet.specs.declared.Verdict.the-variants.{Accepted, Refused}
 use Rattle.sheet.proofs.Accepted.{Facts, facts, refusal-number}
 use Rattle.results.specs.Record.{resultSize}
+use Rattle.results.proofs.Written.{length-written}
+use Rattle.writing.specs.Sheet.{sheetOf, resultOf}
 use Rattle.tally.specs.declared.Answer.{Answer}
-use Rattle.tally.specs.Outcome.{written, overfullBefore, Outcome, refusal, acceptance, outcomeBy, outcome, recordsOf, recordsIn}
-use Rattle.tally.specs.Demand3.{AcceptedAs, sheetIn}
-use Rattle.tally.proofs.Written.{length-written}
+use Rattle.tally.specs.Outcome.{overfullBefore, Outcome, refusal, resultsOf, acceptance, outcomeBy, outcome, recordsOf, recordsIn}
+use Rattle.tally.specs.Accepted.{AcceptedAs, sheetIn}
 
 -- ---- the cases of the outcome
 
@@ -75,6 +77,13 @@ refused-by bytes buffer (Accepted records units) other =
     go false true other = (refl, refl)
     go false false other = absurd (other refl)
 
+-- the result records of a sheet fill exactly the size of one times the units
+length-results : (bytes : List ℕ) (n : ℕ) → length (resultsOf (sheetOf bytes n)) ≡ resultSize * unitsBefore bytes n
+unfolding sheetOf
+length-results bytes n =
+    length-written (resultOf (sheetOf bytes n)) (codeGrade (sheetOf bytes n)) (sheetOf bytes n .entry) n
+    ∙ ap (λ (units : ℕ). resultSize * units) (sym (units-among bytes n))
+
 -- ---- an accepted sheet
 
 pub record AcceptedSheet (bytes buffer : List ℕ) (answer : Answer) (results : List ℕ) : Type 0 where
@@ -86,7 +95,7 @@ pub record AcceptedSheet (bytes buffer : List ℕ) (answer : Answer) (results : 
   pub none-overfull : overfullBefore (sheetIn bytes) (recordsIn bytes) ≡ false
   pub answered-units : answer .units ≡ unitsBefore bytes (recordsIn bytes)
   pub answered-offset : answer .offset ≡ length bytes
-  pub filled : results ≡ written (codeGrade (sheetIn bytes)) (sheetIn bytes) (recordsIn bytes) ++ drop (resultSize * unitsBefore bytes (recordsIn bytes)) buffer
+  pub filled : results ≡ resultsOf (sheetIn bytes) ++ drop (resultSize * unitsBefore bytes (recordsIn bytes)) buffer
   pub same-length : length results ≡ length buffer
 
 pub accepted-sheet : (bytes buffer : List ℕ) (answer : Answer) (results : List ℕ)
@@ -97,9 +106,9 @@ accepted-sheet bytes buffer answer results graded =
     let by = accepted-by bytes buffer (verdict bytes) (refusal-number bytes) number-zero in
     let (passes, counted) = facts bytes (recordsIn bytes) (by .units) (by .passed) in
     let same : _≡_ {A = Outcome} (record { answer = answer; buffer = results }) (acceptance bytes buffer (recordsIn bytes) (by .units)) = graded .promise ∙ by .is-acceptance in
-    let filled : results ≡ written (codeGrade (sheetIn bytes)) (sheetIn bytes) (recordsIn bytes) ++ drop (resultSize * unitsBefore bytes (recordsIn bytes)) buffer
+    let filled : results ≡ resultsOf (sheetIn bytes) ++ drop (resultSize * unitsBefore bytes (recordsIn bytes)) buffer
     = ap (λ (given : Outcome). given .buffer) same
-    ∙ ap (λ (u : ℕ). written (codeGrade (sheetIn bytes)) (sheetIn bytes) (recordsIn bytes) ++ drop (resultSize * u) buffer) counted in
+    ∙ ap (λ (u : ℕ). resultsOf (sheetIn bytes) ++ drop (resultSize * u) buffer) counted in
     let room : resultSize * unitsBefore bytes (recordsIn bytes) ≤ length buffer = omega (arith, by .room, counted) in
     record {
       units = by .units;
@@ -112,7 +121,7 @@ accepted-sheet bytes buffer answer results graded =
       answered-offset = ap (λ (given : Outcome). given .answer .offset) same;
       filled = filled;
       same-length = ap length filled
-          ∙ simp (length-append, length-drop, length-written (codeGrade (sheetIn bytes)) bytes (recordsIn bytes) (recordsIn bytes)) (omega arith);
+          ∙ simp (length-append, length-drop, length-results bytes (recordsIn bytes)) (omega arith);
     }
 
 -- a refused sheet leaves every byte of the buffer, and no units are counted
@@ -125,7 +134,7 @@ refused-untouched bytes buffer answer results promise other =
     let (buffer-same, units-zero) = refused-by bytes buffer (verdict bytes) (λ e. other (number-same ∙ e)) in
     (ap (λ (given : Outcome). given .buffer) promise ∙ buffer-same, ap (λ (given : Outcome). given .answer .units) promise ∙ units-zero)
 
--- an accepted sheet changes only its result records: they fill exactly 16 times the units, and the bytes behind them are as before
+-- an accepted sheet changes only its result records: the bytes behind them are as before
 pub rest-untouched : (bytes buffer : List ℕ) (answer : Answer) (results : List ℕ)
     → AcceptedAs bytes buffer answer results → drop (resultSize * answer .units) results ≡ drop (resultSize * answer .units) buffer
 unfolding sheetIn
@@ -133,7 +142,7 @@ rest-untouched bytes buffer answer results graded =
     let sheet = accepted-sheet bytes buffer answer results graded in
     let n = resultSize * unitsBefore bytes (recordsIn bytes) in
     let same : resultSize * answer .units ≡ n = ap (λ (u : ℕ). resultSize * u) (sheet .answered-units) in
-    let records = written (codeGrade (sheetIn bytes)) (sheetIn bytes) (recordsIn bytes) in
+    let records = resultsOf (sheetIn bytes) in
     rw same
     (ap (drop n) (sheet .filled)
-    ∙ drop-at records (drop n buffer) n (length-written (codeGrade (sheetIn bytes)) bytes (recordsIn bytes) (recordsIn bytes)))
+    ∙ drop-at records (drop n buffer) n (length-results bytes (recordsIn bytes)))

@@ -1,82 +1,114 @@
 -- The outcome of a sheet that passes refusals 1 to 12, case by case as the code takes them: 13, 14, accepted.
--- Each case rewrites the outcome with the tests on the way; the accepted buffer comes from the passes over the records.
-use Prim.Native.Nat.{ℕ, _+_, _*_, _≤_, _<_}
-use mathlib.Core.Path.{_≡_, sym, _∙_, ap, subst⁻¹}
+-- Each case rewrites the outcome with the tests on the way; the accepted buffer comes from the writing pass and the code grading.
+use Prim.Native.Nat.{ℕ, _*_, _≤_, _<_}
+use mathlib.Core.Path.{_≡_, refl, sym, _∙_, ap, ap₂, subst⁻¹}
 use mathlib.Core.Bool.{true, true≢false}
 use mathlib.Core.List.{List, _++_}
 use native.Mathlib.Omega.{arith}
-use lib.ListN.{length, drop}
+use lib.ListN.{length, drop, length-append}
 use borrow.Author.Tests.{lt-ltb, le-ltb}
 use Rattle.encoding.specs.Bytes.{byte}
-use Rattle.units.specs.Words.{tableOf}
 use Rattle.units.specs.Conditions.{pick}
-use Rattle.rules.specs.Sheet.{codeGrade}
-use Rattle.layout.specs.Layout.{planSize, planOf, unitsBefore, sheetOf}
-use Rattle.sheet.specs.Refusals.{verdict, anyNumbers}
+use Rattle.units.specs.Words.{Table, tableOf}
+use Rattle.units.specs.Records.{unitsAmong, worstBefore}
+use Rattle.units.specs.declared.SampleUnit.{SampleUnit}
+use Rattle.units.specs.declared.Entry.the-variants.{UnitRecord}
+use Rattle.rules.specs.Sheet.{Sheet, portionGrade, codeGrade}
+use Rattle.layout.specs.Layout.{planSize, planOf, entryAt, unitsBefore}
+use Rattle.layout.proofs.Offsets.{past-entry}
+use Rattle.layout.proofs.Units.{units-among}
+use Rattle.sheet.specs.Refusals.{mostUnits, verdict, anyNumbers}
 use Rattle.sheet.specs.declared.Verdict.the-variants.{Accepted}
 use Rattle.sheet.proofs.Grounds.{plan-whole}
 use Rattle.sheet.proofs.Accepted.{Facts, facts}
 use Rattle.sheet.proofs.Ranges.{units-most}
 use Rattle.results.specs.Record.{resultSize}
-use Rattle.results.specs.Codes.{ungraded, codesGraded, Ungraded}
-use Rattle.tally.specs.Outcome.{Outcome, refusal, acceptance, outcomeBy, limitTooLarge, written}
+use Rattle.results.specs.Written.{written}
+use Rattle.results.proofs.Written.{length-written}
+use Rattle.codes.specs.Codes.{ungraded, codesGraded, Ungraded}
+use Rattle.codes.proofs.Coding.{Gradable, ungraded-yet, codes-are}
+use Rattle.writing.specs.Sheet.{sheetOf, resultWith, resultOf}
+use Rattle.writing.specs.Writable.{Writable}
+use Rattle.tally.specs.Outcome.{Outcome, refusal, resultsOf, acceptance, outcomeBy, limitTooLarge}
 use Rattle.tally.proofs.Overfull.{limits-fit, none-overfull}
-use Rattle.tally.specs.Writing.{writtenSoFar}
-use Rattle.tally.proofs.Writing.{length-so-far, all-written}
-use Rattle.tally.proofs.Coding.{ungraded-yet, codes-are}
+use Rattle.tally.proofs.Entries.{code-fits, designated-planned, portion-le}
 
 module _ (bytes buffer : List ℕ) (records units : ℕ) (accepted : verdict bytes ≡ Accepted records units) where
   sheet-facts : Facts bytes records
   sheet-facts = facts bytes records units accepted .0
 
+  abbrev sheet : Sheet
+  sheet = sheetOf bytes records
+
   pub units-counted : units ≡ unitsBefore bytes records
   units-counted = facts bytes records units accepted .1
 
-  pub units-few : units ≤ 1000
-  units-few = omega (arith, units-counted, units-most bytes records sheet-facts records (omega arith))
+  units-in-sheet : units ≡ unitsAmong (entryAt bytes) records
+  units-in-sheet = units-counted ∙ units-among bytes records
+
+  pub units-few : units ≤ mostUnits
+  units-few = omega (arith, units-counted, units-most bytes records sheet-facts records)
 
   pub plan-here : planSize ≤ length bytes
   plan-here = plan-whole bytes (sheet-facts .plan)
 
   pub too-short : length buffer < resultSize * units → refusal 13 (length bytes) buffer ≡ outcomeBy bytes buffer (Accepted records units)
   unfolding outcomeBy pick
-  too-short h = rw (lt-ltb (length buffer) (resultSize * units) h)
+  too-short short = rw (lt-ltb (length buffer) (resultSize * units) short)
 
   module _ (room : resultSize * units ≤ length buffer) where
-    pub room-for-records : resultSize * unitsBefore bytes records ≤ length buffer
-    room-for-records = omega (arith, units-counted)
-
     -- the code tests every L, and no L is too large
-    pub never-overfull : anyNumbers limitTooLarge (tableOf (planOf bytes)) ≡ true → ⊥
-    never-overfull e = true≢false (sym e ∙ limits-fit bytes records sheet-facts)
+    pub never-overfull : anyNumbers limitTooLarge (planOf bytes) ≡ true → ⊥
+    never-overfull found = true≢false (sym found ∙ limits-fit bytes records sheet-facts)
 
-    module _ (raw : List ℕ) (is-raw : raw ≡ writtenSoFar bytes records buffer records) (small : (at : ℕ) → byte bytes at < 256) where
+    -- the writing pass can begin
+    pub writable : {table : Table} {designated : ℕ} → table ≡ tableOf (planOf bytes) → designated ≡ planOf bytes .designated
+        → Writable bytes records table designated (length buffer)
+    writable same-table same-designated =
+        record {
+          same-table = same-table;
+          same-designated = same-designated;
+          whole = sheet-facts .whole;
+          breaks-behind = past-entry bytes records (sheet-facts .end);
+          planned = designated-planned bytes records sheet-facts;
+          room = omega (arith, units-counted);
+        }
+
+    module _ (small : (at : ℕ) → byte bytes at < 256) where
       abbrev behind : List ℕ
       behind = drop (resultSize * unitsBefore bytes records) buffer
 
-      as-written : raw ≡ written (λ code. ungraded) (sheetOf bytes records) records ++ behind
-      as-written = is-raw ∙ all-written bytes records buffer sheet-facts
+      -- what is recorded of a unit can be graded by its code
+      gradable : (i : ℕ) → i < records → (unit : SampleUnit) → entryAt bytes i ≡ UnitRecord unit → Gradable unit (resultOf sheet i unit)
+      unfolding resultOf resultWith
+      gradable i inside unit is-unit =
+          record {
+            own-code = refl;
+            code-fits = code-fits bytes small i unit is-unit;
+            portion-grade = unfold portionGrade in portion-le bytes records sheet-facts i unit is-unit;
+          }
 
-      pub ready-for-codes : (resultSize * units ≤ length raw) × Ungraded raw units
-      ready-for-codes =
-          subst⁻¹ (λ (l : List ℕ). (resultSize * units ≤ length l) × Ungraded l units) as-written
-          (subst⁻¹ (λ (n : ℕ). (resultSize * n ≤ length (written (λ code. ungraded) (sheetOf bytes records) records ++ behind)) × Ungraded (written (λ code. ungraded) (sheetOf bytes records) records ++ behind) n)
-          units-counted (
-            omega (arith, room-for-records, ap length (sym (all-written bytes records buffer sheet-facts)), length-so-far bytes records buffer records room-for-records),
-            ungraded-yet bytes records sheet-facts small behind,
-          ))
+      module _ (raw : List ℕ) (is-raw : raw ≡ written (resultOf sheet) (λ code. ungraded) (entryAt bytes) records ++ behind) where
+        pub ready-for-codes : (resultSize * units ≤ length raw) × Ungraded raw units
+        ready-for-codes =
+            subst⁻¹ (λ (l : List ℕ). (resultSize * units ≤ length l) × Ungraded l units) is-raw
+            (subst⁻¹ (λ (n : ℕ). (resultSize * n ≤ length (written (resultOf sheet) (λ code. ungraded) (entryAt bytes) records ++ behind))
+            × Ungraded (written (resultOf sheet) (λ code. ungraded) (entryAt bytes) records ++ behind) n) units-in-sheet (
+              simp length-append (omega (arith, length-written (resultOf sheet) (λ code. ungraded) (entryAt bytes) records)),
+              ungraded-yet (resultOf sheet) (entryAt bytes) records behind gradable,
+            ))
 
-      pub done : (graded : List ℕ) → graded ≡ codesGraded raw units
-          → _≡_ {A = Outcome} (record { answer = record { number = 0; units = units; offset = length bytes }; buffer = graded }) (outcomeBy bytes buffer (Accepted records units))
-      unfolding outcomeBy pick acceptance
-      done graded is-graded =
-          rw (le-ltb (length buffer) (resultSize * units) room, none-overfull bytes records sheet-facts records)
-          (ap (λ (l : List ℕ). record { answer = record { number = 0; units = units; offset = length bytes }; buffer = l }) final)
-        where
-          final : graded ≡ written (codeGrade (sheetOf bytes records)) (sheetOf bytes records) records ++ drop (resultSize * units) buffer
-          final =
-              is-graded
-              ∙ ap (λ (l : List ℕ). codesGraded l units) as-written
-              ∙ ap (codesGraded (written (λ code. ungraded) (sheetOf bytes records) records ++ drop (resultSize * unitsBefore bytes records) buffer)) units-counted
-              ∙ codes-are bytes records sheet-facts small (drop (resultSize * unitsBefore bytes records) buffer)
-              ∙ sym (ap (λ (n : ℕ). written (codeGrade (sheetOf bytes records)) (sheetOf bytes records) records ++ drop (resultSize * n) buffer) units-counted)
+        codes-done : codesGraded raw units ≡ resultsOf (sheetOf bytes records) ++ drop (resultSize * units) buffer
+        unfolding codeGrade sheetOf portionGrade resultOf resultWith
+        codes-done =
+            ap₂ codesGraded is-raw units-in-sheet
+            ∙ codes-are (resultOf sheet) (entryAt bytes) records behind gradable
+            ∙ ap (λ (n : ℕ). resultsOf (sheetOf bytes records) ++ drop (resultSize * n) buffer) (sym units-counted)
+
+        pub done : (graded : List ℕ) → graded ≡ codesGraded raw units
+            → _≡_ {A = Outcome} (record { answer = record { number = 0; units = units; offset = length bytes }; buffer = graded })
+            (outcomeBy bytes buffer (Accepted records units))
+        unfolding outcomeBy pick acceptance
+        done graded is-graded =
+            rw (le-ltb (length buffer) (resultSize * units) room, none-overfull bytes records sheet-facts records)
+            (ap (λ (l : List ℕ). record { answer = record { number = 0; units = units; offset = length bytes }; buffer = l }) (is-graded ∙ codes-done))

@@ -1,15 +1,5 @@
-pub mod Written
-pub mod Walking
+pub mod Entries
 pub mod Overfull
-pub mod Recovering
-pub mod Writing
-pub mod Coding
 pub mod Cases
 pub mod AcceptedSheet
-pub mod Listed
-pub mod Recorded
-pub mod FirstHalf
-pub mod AlikeSheets
-pub mod SecondHalf
-pub mod AlikeExample
-pub mod WorkedCases
+pub mod Computing

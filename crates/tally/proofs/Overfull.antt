@@ -1,90 +1,90 @@
 -- Number 14 never applies: every L of an accepted plan fits in two bytes, and a CuSum is at most its L.
 -- From the ranges of the plan, for any grade and any class, and by induction on the records.
 use Prim.Native.Nat.{ℕ, zero, suc, _≤_, _<_}
-use mathlib.Core.Path.{_≡_, refl}
-use mathlib.Core.Bool.{Bool, true, false}
-use mathlib.Core.List.{List, [], _∷_}
+use mathlib.Core.Path.{_≡_, refl, sym, _∙_, ap}
+use mathlib.Core.Logic.{_⊎_, inl, inr}
+use mathlib.Core.Bool.{Bool, false}
+use mathlib.Core.List.{List}
+use native.Mathlib.Nat.{eq-or-lt-of-le, le-of-suc-le-suc}
 use native.Mathlib.Omega.{arith}
-use lib.Dec.{leb}
-use borrow.Author.Tests.{le-ltb, leb-true, leb-false}
+use lib.Dec.{ltb}
+use lib.ListN.{length}
+use borrow.Author.Tests.{le-ltb, ltb-false}
 use Rattle.cusum.specs.Step.{largestTenths}
-use Rattle.units.specs.Conditions.{any}
-use Rattle.units.specs.Words.{classes, numbersOf, tableOf, countsOf}
+use Rattle.cusum.specs.declared.Cusum.{Cusum}
+use Rattle.units.specs.Words.{classes, tenthsIn, tableOf, cellOf, countsOf}
 use Rattle.units.specs.Unit.{classCusum, newCusums}
-use Rattle.rules.specs.StepThree.{graded}
-use Rattle.rules.specs.Sheet.{before, inForceAt, gradedAt}
-use Rattle.units.specs.declared.Plan.{Plan}
 use Rattle.units.specs.declared.SampleUnit.{SampleUnit}
-use Rattle.rules.specs.declared.Entry.{Entry}
-use Rattle.rules.specs.declared.Entry.the-variants.{UnitRecord, Redesignation, Break}
-use Rattle.rules.proofs.Grades.{class-cusum-le}
-use Rattle.layout.specs.Layout.{planOf, sheetOf}
-use Rattle.sheet.specs.Refusals.{largestPlanNumber, anyClass, anyNumbers}
+use Rattle.units.specs.declared.Entry.{Entry}
+use Rattle.units.specs.declared.Entry.the-variants.{UnitRecord, Redesignation, Break}
+use Rattle.units.proofs.Bounds.{class-cusum-le}
+use Rattle.units.proofs.Classes.{at-class}
+use Rattle.units.proofs.Lists.{in-none, none-in}
+use Rattle.units.proofs.Tests.{or-first, or-second}
+use Rattle.rules.specs.StepThree.{graded}
+use Rattle.rules.specs.Sheet.{Sheet, before, inForceAt, gradedAt}
+use Rattle.layout.specs.Layout.{tableSize, planOf}
+use Rattle.sheet.specs.Refusals.{anyNumbers}
 use Rattle.sheet.proofs.Accepted.{Facts}
-use Rattle.sheet.proofs.Ranges.{numbers-in-range}
+use Rattle.sheet.proofs.Ranges.{cell-limit-le, limit-le}
+use Rattle.writing.specs.Sheet.{sheetOf}
 use Rattle.tally.specs.Outcome.{anyTooLarge, overfullBy, overfullBefore, limitTooLarge}
 
-none-of : (p : ℕ → Bool) → ((k : ℕ) → p k ≡ false) → (ks : List ℕ) → any p ks ≡ false
-unfolding any
-none-of p h [] = refl
-none-of p h (k ∷ ks) = rw (h k) (none-of p h ks)
+-- the CuSum of a class behind a unit
+pub cusum-graded : (sheet : Sheet) (i : ℕ) (unit : SampleUnit) (class : ℕ) → class < length classes
+    → tenthsIn (gradedAt sheet i unit .cusums) class ≡ classCusum (sheet .table) (inForceAt sheet i) (before sheet i .cusums) (countsOf unit) class
+unfolding graded newCusums
+cusum-graded sheet i unit class inside = at-class (classCusum (sheet .table) (inForceAt sheet i) (before sheet i .cusums) (countsOf unit)) class inside
 
--- where there is no plan, and behind the last class, L is zero
-no-plan : (plan : Plan) (grade class : ℕ) → 3 ≤ grade → numbersOf (tableOf plan) grade class .limit ≤ largestPlanNumber
-no-plan plan zero class h = absurd (omega arith)
-no-plan plan (suc zero) class h = absurd (omega arith)
-no-plan plan (suc (suc zero)) class h = absurd (omega arith)
-no-plan plan (suc (suc (suc grade))) zero h = omega arith
-no-plan plan (suc (suc (suc grade))) (suc zero) h = omega arith
-no-plan plan (suc (suc (suc grade))) (suc (suc zero)) h = omega arith
-no-plan plan (suc (suc (suc grade))) (suc (suc (suc zero))) h = omega arith
-no-plan plan (suc (suc (suc grade))) (suc (suc (suc (suc class)))) h = omega arith
-
-behind : (plan : Plan) (grade class : ℕ) → grade < 3 → 4 ≤ class → numbersOf (tableOf plan) grade class .limit ≤ largestPlanNumber
-behind plan grade zero h k = absurd (omega arith)
-behind plan grade (suc zero) h k = absurd (omega arith)
-behind plan grade (suc (suc zero)) h k = absurd (omega arith)
-behind plan grade (suc (suc (suc zero))) h k = absurd (omega arith)
-behind plan zero (suc (suc (suc (suc class)))) h k = omega arith
-behind plan (suc zero) (suc (suc (suc (suc class)))) h k = omega arith
-behind plan (suc (suc zero)) (suc (suc (suc (suc class)))) h k = omega arith
-behind plan (suc (suc (suc grade))) (suc (suc (suc (suc class)))) h k = absurd (omega arith)
-
-by-entry : (bytes : List ℕ) (records i : ℕ) (entry : Entry) → ((unit : SampleUnit) → anyTooLarge (gradedAt (sheetOf bytes records) i unit .cusums) ≡ false)
-    → overfullBy (sheetOf bytes records) i entry ≡ false
+by-entry : (sheet : Sheet) (i : ℕ) (entry : Entry) → ((unit : SampleUnit) → anyTooLarge (gradedAt sheet i unit .cusums) ≡ false) → overfullBy sheet i entry ≡ false
 unfolding overfullBy
-by-entry bytes records i (UnitRecord unit) h = h unit
-by-entry bytes records i (Redesignation new) h = refl
-by-entry bytes records i Break h = refl
+by-entry sheet i (UnitRecord unit) fit = fit unit
+by-entry sheet i (Redesignation new) fit = refl
+by-entry sheet i Break fit = refl
 
-module _ (bytes : List ℕ) (records : ℕ) (facts : Facts bytes records) where
-  -- every L is small, also where there is no plan and behind the last class
-  limit-small : (grade class : ℕ) → numbersOf (tableOf (planOf bytes)) grade class .limit ≤ largestPlanNumber
-  limit-small grade class = go (leb 3 grade) refl (leb 4 class) refl
-    where
-      go : (g : Bool) → leb 3 grade ≡ g → (k : Bool) → leb 4 class ≡ k → numbersOf (tableOf (planOf bytes)) grade class .limit ≤ largestPlanNumber
-      go false e false f = numbers-in-range bytes records facts grade class (omega (arith, leb-false 3 grade e)) (leb-false 4 class f) .limit-le
-      go false e true f = behind (planOf bytes) grade class (leb-false 3 grade e) (leb-true 4 class f)
-      go true e k f = no-plan (planOf bytes) grade class (leb-true 3 grade e)
+-- ---- no accepted plan and no counts lead to it
 
-  pub limits-fit : anyNumbers limitTooLarge (tableOf (planOf bytes)) ≡ false
-  unfolding anyNumbers anyClass limitTooLarge
-  limits-fit = none-of _ (λ grade. none-of _ (λ class. le-ltb largestTenths (numbersOf (tableOf (planOf bytes)) grade class .limit) (omega (arith, limit-small grade class))) classes) (0 ∷ 1 ∷ 2 ∷ [])
+module _ (bytes : List ℕ) (n : ℕ) (facts : Facts bytes n) where
+  pub limits-fit : anyNumbers limitTooLarge (planOf bytes) ≡ false
+  unfolding anyNumbers limitTooLarge
+  limits-fit =
+      none-in tableSize _ (λ cell inside. le-ltb largestTenths (cellOf (planOf bytes) cell .limit) (omega (arith, cell-limit-le bytes n facts cell inside)))
 
-  cusums-fit : (i : ℕ) (unit : SampleUnit) → anyTooLarge (gradedAt (sheetOf bytes records) i unit .cusums) ≡ false
-  unfolding anyTooLarge graded newCusums sheetOf any
+  cusums-fit : (i : ℕ) (unit : SampleUnit) → anyTooLarge (gradedAt (sheetOf bytes n) i unit .cusums) ≡ false
+  unfolding anyTooLarge sheetOf
   cusums-fit i unit =
-      let sheet = sheetOf bytes records in
-      let grade = inForceAt sheet i in
-      let small : (class : ℕ) → classCusum (tableOf (planOf bytes)) grade (before sheet i .cusums) (countsOf unit) class ≤ largestTenths
-      = λ class. omega (arith, class-cusum-le (tableOf (planOf bytes)) grade (before sheet i .cusums) (countsOf unit) class, limit-small grade class) in
-      rw (le-ltb largestTenths _ (small 0), le-ltb largestTenths _ (small 1), le-ltb largestTenths _ (small 2), le-ltb largestTenths _ (small 3))
+      let sheet = sheetOf bytes n in
+      none-in (length classes) _
+      (λ class inside.
+      let table = tableOf (planOf bytes) in
+      let at-most = class-cusum-le table (inForceAt sheet i) (before sheet i .cusums) (countsOf unit) class in
+      le-ltb largestTenths (tenthsIn (gradedAt sheet i unit .cusums) class)
+      (omega (arith, cusum-graded sheet i unit class inside, at-most, limit-le bytes n facts (inForceAt sheet i) class)))
 
-  -- no accepted plan and no counts lead to number 14
-  pub none-overfull : (n : ℕ) → overfullBefore (sheetOf bytes records) n ≡ false
+  pub none-overfull : (k : ℕ) → overfullBefore (sheetOf bytes n) k ≡ false
   unfolding overfullBefore
   none-overfull zero = refl
-  none-overfull (suc n) = rw (none-overfull n) (at-record n (sheetOf bytes records .entry n))
-    where
-      at-record : (i : ℕ) (entry : Entry) → overfullBy (sheetOf bytes records) i entry ≡ false
-      at-record i entry = by-entry bytes records i entry (cusums-fit i)
+  none-overfull (suc k) = rw (none-overfull k) (by-entry (sheetOf bytes n) k (sheetOf bytes n .entry k) (cusums-fit k))
+
+-- ---- and so every CuSum fits in two bytes
+
+none-too-large : (cusums : List Cusum) → anyTooLarge cusums ≡ false → (class : ℕ) → class < length classes → tenthsIn cusums class ≤ largestTenths
+unfolding anyTooLarge
+none-too-large cusums none class inside = ltb-false largestTenths (tenthsIn cusums class) (in-none (length classes) _ none class inside)
+
+not-overfull : (sheet : Sheet) (n : ℕ) → overfullBefore sheet n ≡ false → (i : ℕ) → i < n → overfullBy sheet i (sheet .entry i) ≡ false
+unfolding overfullBefore
+not-overfull sheet zero none i below = absurd (omega arith)
+not-overfull sheet (suc n) none i below = go (eq-or-lt-of-le (le-of-suc-le-suc below)) (not-overfull sheet n (or-first _ _ none) i)
+  where
+    go : (i ≡ n) ⊎ (i < n) → (i < n → overfullBy sheet i (sheet .entry i) ≡ false) → overfullBy sheet i (sheet .entry i) ≡ false
+    go (inl same) earlier = rw same (or-second (overfullBefore sheet n) _ none)
+    go (inr less) earlier = earlier less
+
+-- in a sheet of which no record is overfull
+pub cusum-fits : (sheet : Sheet) (n : ℕ) → overfullBefore sheet n ≡ false → (i : ℕ) → i < n
+    → (unit : SampleUnit) → sheet .entry i ≡ UnitRecord unit → (class : ℕ) → class < length classes
+    → tenthsIn (gradedAt sheet i unit .cusums) class ≤ largestTenths
+unfolding overfullBy
+cusum-fits sheet n none i below unit is-unit class inside =
+    none-too-large (gradedAt sheet i unit .cusums) (sym (ap (overfullBy sheet i) is-unit) ∙ not-overfull sheet n none i below) class inside

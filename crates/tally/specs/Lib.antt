@@ -1,6 +1,2 @@
 pub mod Outcome
-pub mod Demand1
-pub mod Demand3
-pub mod WorkedCases
-pub mod Position
-pub mod Writing
+pub mod Accepted

@@ -1,7 +1,7 @@
 -- Grading a whole sheet into a result buffer: the answer and the buffer as it is left, for every sheet and every buffer.
 use Prim.Native.Nat.{ℕ, zero, suc, _*_}
 use mathlib.Core.Bool.{Bool, false, _||_}
-use mathlib.Core.List.{List, [], _++_}
+use mathlib.Core.List.{List, _++_}
 use lib.Dec.{ltb}
 use lib.ListN.{length, drop}
 use Rattle.cusum.specs.declared.PlanNumbers.{PlanNumbers}
@@ -9,41 +9,16 @@ use Rattle.cusum.specs.declared.Cusum.{Cusum}
 use Rattle.cusum.specs.Step.{largestTenths}
 use Rattle.units.specs.Conditions.{any, pick}
 use Rattle.units.specs.Words.{classes, tenthsIn}
-use Rattle.rules.specs.Sheet.{Sheet, inForceAt, gradedAt, portionGrade, standing, codeGrade}
-use Rattle.units.specs.declared.SampleUnit.{SampleUnit}
-use Rattle.rules.specs.declared.Entry.{Entry}
-use Rattle.rules.specs.declared.Entry.the-variants.{UnitRecord, Redesignation, Break}
-use Rattle.layout.specs.Layout.{sheetOf}
-use Rattle.sheet.specs.Refusals.{verdict}
+use Rattle.units.specs.declared.Entry.{Entry}
+use Rattle.units.specs.declared.Entry.the-variants.{UnitRecord, Redesignation, Break}
+use Rattle.rules.specs.Sheet.{Sheet, gradedAt, codeGrade}
+use Rattle.sheet.specs.Refusals.{verdict, CheckAnswer, answerOf}
 use Rattle.sheet.specs.declared.Verdict.{Verdict}
 use Rattle.sheet.specs.declared.Verdict.the-variants.{Accepted, Refused}
-use Rattle.results.specs.Record.{resultSize, resultBytes}
-use Rattle.results.specs.declared.ResultRecord.{ResultRecord}
+use Rattle.results.specs.Record.{resultSize}
+use Rattle.results.specs.Written.{written}
+use Rattle.writing.specs.Sheet.{sheetOf, resultOf}
 use Rattle.tally.specs.declared.Answer.{Answer}
-
--- ---- the result records
-
--- what is recorded of the unit that is record i, but for its code grade
-unfoldable pub resultOf : Sheet → ℕ → SampleUnit → ResultRecord
-resultOf sheet i unit =
-    record {
-      code = unit .code;
-      portion = portionGrade sheet i unit;
-      plan = inForceAt sheet i;
-      standing = standing sheet i unit;
-      cusums = gradedAt sheet i unit .cusums;
-    }
-
--- what record i writes, where this is the grade of each code: a unit writes its result record
-unfoldable pub bytesBy : (ℕ → ℕ) → Sheet → ℕ → Entry → List ℕ
-bytesBy grades sheet i (UnitRecord unit) = resultBytes (grades (unit .code)) (resultOf sheet i unit)
-bytesBy grades sheet i (Redesignation new) = []
-bytesBy grades sheet i Break = []
-
--- what the first n records write: each result record after those before it
-unfoldable pub written : (ℕ → ℕ) → Sheet → ℕ → List ℕ
-written grades sheet zero = []
-written grades sheet (suc n) = written grades sheet n ++ bytesBy grades sheet n (sheet .entry n)
 
 -- ---- number 14
 
@@ -72,18 +47,25 @@ pub record Outcome : Type 0 where
 abbrev pub refusal : ℕ → ℕ → List ℕ → Outcome
 refusal number offset buffer = record { answer = record { number = number; units = 0; offset = offset }; buffer = buffer }
 
--- acceptance returns 0, the number of units and the sheet's length; bytes behind the last result record keep theirs
+-- what a sheet writes: the result records of its units, one after the other, with the code grades of the sheet
+abbrev pub resultsOf : Sheet → List ℕ
+resultsOf sheet = written (resultOf sheet) (codeGrade sheet) (sheet .entry) (sheet .size)
+
+-- an answer of the check, as it is
+abbrev pub answeredBy : CheckAnswer → Answer
+answeredBy given = record { number = given .number; units = given .units; offset = given .offset }
+
+-- acceptance is the check's; bytes behind the last result record keep theirs
 unfoldable pub acceptance : List ℕ → List ℕ → ℕ → ℕ → Outcome
 acceptance bytes buffer records units =
     record {
-      answer = record { number = 0; units = units; offset = length bytes };
-      buffer = written (codeGrade (sheetOf bytes records)) (sheetOf bytes records) records ++ drop (resultSize * units) buffer;
+      answer = answeredBy (answerOf bytes (Accepted records units));
+      buffer = resultsOf (sheetOf bytes records) ++ drop (resultSize * units) buffer;
     }
 
--- number, units and offset for each case of the check's verdict: 1 to 12 by the check of the sheet; then 13, a buffer shorter than 16
--- times the units; then 14; both at the sheet's length
+-- 1 to 12 by the check of the sheet; then 13, a buffer shorter than 16 times the units; then 14; both at the sheet's length
 unfoldable pub outcomeBy : List ℕ → List ℕ → Verdict → Outcome
-outcomeBy bytes buffer (Refused number offset) = refusal number offset buffer
+outcomeBy bytes buffer (Refused number offset) = record { answer = answeredBy (answerOf bytes (Refused number offset)); buffer = buffer }
 outcomeBy bytes buffer (Accepted records units) =
     pick (ltb (length buffer) (resultSize * units)) (refusal 13 (length bytes) buffer)
     (pick (overfullBefore (sheetOf bytes records) records) (refusal 14 (length bytes) buffer)

@@ -9,16 +9,26 @@ use lines::TEXT_SIZE;
 // No test has more cases.
 const MOST_CASES: u64 = 10000;
 
-// Reads the length of a sheet, or more than any sheet's where no case is left.
+// Room for one byte more than is taken for a sheet, and the length that stands for no case.
+const ROOM: usize = LARGEST_INPUT + 1;
+
+const NO_CASE: usize = ROOM + 1;
+
+// The length of a sheet is two numbers of two bytes, each of which has so many values.
+const NUMBER_SIZE: usize = 2;
+
+const NUMBERS: usize = 65536;
+
+// Reads the length of a sheet, or that no case is left.
 fn read_length() -> usize {
-    let mut header = [0u8; 4];
+    let mut header = [0u8; 2 * NUMBER_SIZE];
     let got = io::read_full(libc::STDIN_FILENO, &mut header);
-    if got < 4 {
-        return LARGEST_INPUT + 2;
+    if got < 2 * NUMBER_SIZE {
+        return NO_CASE;
     }
     let high = number_at(&header, 0);
-    let low = number_at(&header, 2);
-    high as usize * 65536 + low as usize
+    let low = number_at(&header, NUMBER_SIZE);
+    high as usize * NUMBERS + low as usize
 }
 
 // Reads a sheet of this length.
@@ -46,10 +56,10 @@ fn print_sheet(sheet: &[u8]) {
 // Prints one case; false where none is left.
 fn print_case(number: u64) -> bool {
     let length = read_length();
-    if LARGEST_INPUT + 1 < length {
+    if ROOM < length {
         return false;
     }
-    let mut input = [0u8; LARGEST_INPUT + 1];
+    let mut input = [0u8; ROOM];
     let bytes = read_sheet(&mut input, length);
     print_number(number);
     print_sheet(&input[..bytes]);

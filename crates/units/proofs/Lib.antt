@@ -1,3 +1,10 @@
 pub mod Tests
 pub mod Lists
+pub mod Classes
 pub mod Monotone
+pub mod Bounds
+pub mod BestLower
+pub mod Records
+pub mod Planned
+pub mod Computing
+pub mod CodeGrade

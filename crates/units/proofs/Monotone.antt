@@ -1,20 +1,20 @@
 -- Fewer defects and no higher CuSums before a unit give no higher CuSum, no failure that was not there, and no lower grade.
 -- For any class, from the step's own laws.
-use Prim.Native.Nat.{ℕ, zero, suc, _+_, _*_, _≤_}
+use Prim.Native.Nat.{ℕ, zero, suc, _+_, _≤_}
 use mathlib.Core.Path.{_≡_, refl}
 use mathlib.Core.Bool.{Bool, true, false, cond, _&&_, false≢true}
 use mathlib.Core.List.{List, [], _∷_, map}
 use native.Mathlib.Omega.{arith}
 use lib.Dec.{ltb, leb}
-use borrow.Author.Tests.{leb-true, le-leb, le-ltb}
+use borrow.Author.Tests.{leb-true, le-leb, ltb-true}
 use Rattle.cusum.specs.declared.Cusum.{Cusum}
 use Rattle.cusum.specs.declared.PlanNumbers.{PlanNumbers}
-use Rattle.cusum.specs.Step.{fails, newCusum}
+use Rattle.cusum.specs.Step.{tenthsOf, fails, newCusum}
 use Rattle.cusum.proofs.Laws.{new-cusum-mono, fails-mono}
 use Rattle.units.specs.declared.SampleUnit.{SampleUnit}
 use Rattle.units.specs.Words.{substandard, hasPlan, classes, Table, rowOf, inClass, numbersOf, countsOf, countIn, tenthsIn}
-use Rattle.units.specs.Unit.{classFails, classCusum, newCusums, unitFails, admits, bestLower, defectGrade}
-use Rattle.units.proofs.Tests.{any-mono, all-mono}
+use Rattle.units.specs.Unit.{classFails, classCusum, newCusums, unitFails, noneAbove, admits, bestLower, defectGrade}
+use Rattle.units.proofs.Tests.{and-both, any-mono, all-mono}
 
 -- no count of the first unit exceeds its fellow in the second
 pub record Fewer (u v : SampleUnit) : Type 0 where
@@ -27,12 +27,20 @@ pub record Fewer (u v : SampleUnit) : Type 0 where
 abbrev pub NoMore : List ℕ → List ℕ → Type 0
 NoMore counts counts' = (class : ℕ) → countIn counts class ≤ countIn counts' class
 
+data Pairwise : List ℕ → List ℕ → Type 0 where
+  none : Pairwise [] []
+  more : {x y : ℕ} {xs ys : List ℕ} → x ≤ y → Pairwise xs ys → Pairwise (x ∷ xs) (y ∷ ys)
+
+pairwise-no-more : {xs ys : List ℕ} → Pairwise xs ys → NoMore xs ys
+pairwise-no-more none class = omega arith
+pairwise-no-more (more h others) zero = h
+pairwise-no-more (more h others) (suc class) = pairwise-no-more others class
+
 pub counts-fewer : (u v : SampleUnit) → Fewer u v → NoMore (countsOf u) (countsOf v)
-counts-fewer u v f zero = f .critical
-counts-fewer u v f (suc zero) = f .severe
-counts-fewer u v f (suc (suc zero)) = f .major
-counts-fewer u v f (suc (suc (suc zero))) = omega (arith, f .critical, f .severe, f .major, f .minor)
-counts-fewer u v f (suc (suc (suc (suc k)))) = omega arith
+counts-fewer u v f =
+    let total : u .critical + u .severe + u .major + u .minor ≤ v .critical + v .severe + v .major + v .minor = omega arith in
+    let counts : Pairwise (countsOf u) (countsOf v) = more (f .critical) (more (f .severe) (more (f .major) (more total none))) in
+    pairwise-no-more counts
 
 -- no CuSum of the first list is higher
 abbrev pub NoHigher : List Cusum → List Cusum → Type 0
@@ -47,7 +55,8 @@ map-no-higher f g h (k ∷ ks) (suc i) = map-no-higher f g h ks i
 pub same-no-higher : (cusums : List Cusum) → NoHigher cusums cusums
 same-no-higher cusums class = omega arith
 
-module _ (table : Table) (grade : ℕ) (cusums cusums' : List Cusum) (counts counts' : List ℕ) (lower : NoHigher cusums cusums') (fewer : NoMore counts counts') where
+module _ (table : Table) (grade : ℕ) (cusums cusums' : List Cusum) (counts counts' : List ℕ)
+    (lower : NoHigher cusums cusums') (fewer : NoMore counts counts') where
   pub class-cusum-mono : (class : ℕ) → classCusum table grade cusums counts class ≤ classCusum table grade cusums' counts' class
   unfolding classCusum
   class-cusum-mono class = go (hasPlan grade)
@@ -76,55 +85,47 @@ module _ (table : Table) (grade : ℕ) (cusums cusums' : List Cusum) (counts cou
 
 -- ---- grades
 
+-- of two numbers one of which a condition picks
+at-least : (t : Bool) (low x y : ℕ) → (t ≡ true → low ≤ x) → low ≤ y → low ≤ cond t x y
+at-least true low x y h k = h refl
+at-least false low x y h k = k
+
+pick-mono : (t t' : Bool) (x y y' : ℕ) → (t' ≡ true → t ≡ true) → x ≤ y' → y ≤ y' → cond t x y ≤ cond t' x y'
+pick-mono true true x y y' h k l = omega arith
+pick-mono true false x y y' h k l = k
+pick-mono false true x y y' h k l = absurd (false≢true (h refl))
+pick-mono false false x y y' h k l = l
+
+and-mono : (s t t' : Bool) → (t' ≡ true → t ≡ true) → (s && t') ≡ true → (s && t) ≡ true
+and-mono true t t' h e = h e
+and-mono false t t' h e = e
+
 module _ (counts counts' : List ℕ) (fewer : NoMore counts counts') where
-  pub admits-mono : (row : List PlanNumbers) → admits row counts' ≡ true → admits row counts ≡ true
-  unfolding admits
-  admits-mono row e = all-mono _ _ step classes e
+  none-above-mono : (bound : PlanNumbers → ℕ) (row : List PlanNumbers) → noneAbove bound row counts' ≡ true → noneAbove bound row counts ≡ true
+  unfolding noneAbove
+  none-above-mono bound row e = all-mono _ _ step classes e
     where
-      step : (class : ℕ) → leb (10 * countIn counts' class) (inClass row class .tolerance + inClass row class .limit) ≡ true
-          → leb (10 * countIn counts class) (inClass row class .tolerance + inClass row class .limit) ≡ true
-      step class e = le-leb (10 * countIn counts class) (inClass row class .tolerance + inClass row class .limit)
-          (omega (arith, fewer class, leb-true (10 * countIn counts' class) (inClass row class .tolerance + inClass row class .limit) e))
+      step : (class : ℕ) → leb (tenthsOf (countIn counts' class)) (bound (inClass row class)) ≡ true
+          → leb (tenthsOf (countIn counts class)) (bound (inClass row class)) ≡ true
+      step class e = le-leb (tenthsOf (countIn counts class)) (bound (inClass row class))
+          (omega (arith, fewer class, leb-true (tenthsOf (countIn counts' class)) (bound (inClass row class)) e))
 
   pub best-lower-mono : (table : Table) (grade : ℕ) → bestLower table grade counts ≤ bestLower table grade counts'
-  unfolding bestLower
+  unfolding bestLower admits
   best-lower-mono table grade =
-      go (ltb grade 1) (ltb grade 2) (admits (rowOf table 1) counts) (admits (rowOf table 1) counts') (admits-mono (rowOf table 1))
-      (admits (rowOf table 2) counts) (admits (rowOf table 2) counts') (admits-mono (rowOf table 2))
-    where
-      pair : (x y : Bool) → (y ≡ true → x ≡ true) → cond x 2 3 ≤ cond y 2 3
-      pair true true h = omega arith
-      pair true false h = omega arith
-      pair false true h = absurd (false≢true (h refl))
-      pair false false h = omega arith
-
-      at-most : (x : Bool) → 1 ≤ cond x 2 3
-      at-most true = omega arith
-      at-most false = omega arith
-
-      last : (s z w : Bool) → (w ≡ true → z ≡ true) → cond (s && z) 2 3 ≤ cond (s && w) 2 3
-      last true z w k = pair z w k
-      last false z w k = omega arith
-
-      go : (r s x y : Bool) → (y ≡ true → x ≡ true) → (z w : Bool) → (w ≡ true → z ≡ true)
-          → cond (r && x) 1 (cond (s && z) 2 3) ≤ cond (r && y) 1 (cond (s && w) 2 3)
-      go false s x y h z w k = last s z w k
-      go true s true true h z w k = omega arith
-      go true s true false h z w k = at-most (s && w)
-      go true s false true h z w k = absurd (false≢true (h refl))
-      go true s false false h z w k = last s z w k
+      let lower : (better : ℕ) → Bool = λ better. ltb grade better && admits (rowOf table better) counts in
+      let lower' : (better : ℕ) → Bool = λ better. ltb grade better && admits (rowOf table better) counts' in
+      let admitted : (better : ℕ) → lower' better ≡ true → lower better ≡ true
+      = λ better. and-mono (ltb grade better) _ _ (none-above-mono _ (rowOf table better)) in
+      pick-mono (lower 1) (lower' 1) 1 _ _ (admitted 1) (at-least (lower' 2) 1 2 substandard (λ e. omega arith) (omega arith))
+      (pick-mono (lower 2) (lower' 2) 2 substandard substandard (admitted 2) (omega arith) (omega arith))
 
 -- a lower grade is lower, or Substandard
 pub best-lower-le : (table : Table) (grade : ℕ) (counts : List ℕ) → grade ≤ substandard → grade ≤ bestLower table grade counts
 unfolding bestLower
-best-lower-le table zero counts h = omega arith
-best-lower-le table (suc zero) counts h = go (admits (rowOf table 2) counts)
-  where
-    go : (w : Bool) → 1 ≤ cond w 2 3
-    go true = omega arith
-    go false = omega arith
-best-lower-le table (suc (suc grade)) counts h =
-    rw (le-ltb (suc (suc grade)) 1 (omega arith), le-ltb (suc (suc grade)) 2 (omega arith)) h
+best-lower-le table grade counts h =
+    at-least (ltb grade 1 && admits (rowOf table 1) counts) grade 1 _ (λ e. omega (arith, ltb-true grade 1 (and-both _ _ e .0)))
+    (at-least (ltb grade 2 && admits (rowOf table 2) counts) grade 2 substandard (λ e. omega (arith, ltb-true grade 2 (and-both _ _ e .0))) h)
 
 pub defect-grade-mono : (table : Table) (grade : ℕ) (cusums cusums' : List Cusum) (counts counts' : List ℕ)
     → NoHigher cusums cusums' → NoMore counts counts' → grade ≤ substandard

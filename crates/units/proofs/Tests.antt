@@ -21,6 +21,10 @@ pub or-true : (b : Bool) → (b || true) ≡ true
 or-true true = refl
 or-true false = refl
 
+pub or-assoc : (a b c : Bool) → (a || (b || c)) ≡ ((a || b) || c)
+or-assoc true b c = refl
+or-assoc false b c = refl
+
 -- of two conditions neither of which holds
 pub or-first : (first second : Bool) → (first || second) ≡ false → first ≡ false
 or-first true second e = e

@@ -33,10 +33,13 @@ module _ (table : Table) where
   unfoldable pub unitFails : ℕ → List Cusum → List ℕ → Bool
   unitFails grade cusums counts = any (classFails grade cusums counts) classes
 
+-- ten times the count is in no class above a bound that goes by the class's S, T and L
+unfoldable pub noneAbove : (PlanNumbers → ℕ) → List PlanNumbers → List ℕ → Bool
+noneAbove bound row counts = all (λ class. leb (tenthsOf (countIn counts class)) (bound (inClass row class))) classes
+
 -- a plan admits the counts if its T+L is not exceeded by ten times the count in any class
 unfoldable pub admits : List PlanNumbers → List ℕ → Bool
-admits row counts =
-    all (λ class. leb (tenthsOf (countIn counts class)) (inClass row class .tolerance + inClass row class .limit)) classes
+admits = noneAbove (λ numbers. numbers .tolerance + numbers .limit)
 
 module _ (table : Table) where
   -- the best grade lower than this one that admits the counts; Substandard exactly if none does
@@ -61,24 +64,21 @@ allZero cusums = all (λ class. eqb (tenthsIn cusums class) 0) classes
 
 -- no count exceeds the T of its class
 unfoldable pub withinTolerance : List PlanNumbers → List ℕ → Bool
-withinTolerance row counts = all (λ class. leb (tenthsOf (countIn counts class)) (inClass row class .tolerance)) classes
+withinTolerance = noneAbove (λ numbers. numbers .tolerance)
 
-module _ (table : Table) where
-  -- a unit in step 3 qualifies if all its CuSums are zero (so they are where there is no plan) and no count exceeds the designated T
-  -- of its class
-  unfoldable pub qualifies : ℕ → ℕ → List Cusum → List ℕ → Bool
-  qualifies designated grade cusums counts =
-      allZero (newCusums table grade cusums counts) && withinTolerance (rowOf table designated) counts
+-- a unit in step 3 qualifies if all its CuSums are zero (so they are where there is no plan) and no count exceeds the designated T of
+-- its class
+unfoldable pub qualifies : Table → ℕ → List Cusum → List ℕ → Bool
+qualifies table designated cusums counts = allZero cusums && withinTolerance (rowOf table designated) counts
 
-  -- all of this together: the designated grade, the grade of the plan in force, the CuSums before the unit, its counts
-  abbrev pub gradingOf : ℕ → ℕ → List Cusum → List ℕ → Grading
-  gradingOf designated grade cusums counts =
-      record {
-        cusums = newCusums table grade cusums counts;
-        fails = unitFails table grade cusums counts;
-        grade = defectGrade table grade cusums counts;
-        qualifies = qualifies designated grade cusums counts;
-      }
+-- a unit graded under the plan of a grade: that grade, the CuSums before the unit, its counts
+abbrev pub gradingOf : Table → ℕ → List Cusum → List ℕ → Grading
+gradingOf table grade cusums counts =
+    record {
+      cusums = newCusums table grade cusums counts;
+      fails = unitFails table grade cusums counts;
+      grade = defectGrade table grade cusums counts;
+    }
 
 -- for the contract of a private function: rule 2 in every class of one plan at once
 unfoldable pub steppedIn : List PlanNumbers → List Cusum → List ℕ → SteppedClasses

@@ -1,5 +1,5 @@
 -- The line and its words: grades, classes, the plan's table, a sample unit's counts by class, the CuSum of a class.
-use Prim.Native.Nat.{ℕ, _+_, _*_, max}
+use Prim.Native.Nat.{ℕ, zero, suc, _+_, _*_, max}
 use mathlib.Core.Bool.{Bool}
 use mathlib.Core.List.{List, [], _∷_, map}
 use lib.Dec.{ltb}
@@ -56,6 +56,11 @@ numbersOf table grade class = inClass (rowOf table grade) class
 -- a plan holds the cells of its table one after the other, grade by grade and in each class by class
 abbrev pub cellOf : Plan → ℕ → PlanNumbers
 cellOf plan cell = getD (plan .numbers) cell noNumbers
+
+-- so many numbers, one after the other from the first, as the grades that have a plan, the classes and the cells are numbered
+abbrev pub upFrom : ℕ → ℕ → List ℕ
+upFrom first zero = []
+upFrom first (suc size) = first ∷ upFrom (suc first) size
 
 -- the table of a plan
 abbrev pub tableOf : Plan → Table

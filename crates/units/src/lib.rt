@@ -1,10 +1,11 @@
 // Grading one sample unit under the plan of a grade: rules 1 to 4, and whether it qualifies.
 ghost use mathlib.Core.Path.{_≡_};
-ghost use Prim.Native.Nat.{_+_};
-ghost use lib.Dec.{leb};
-ghost use Rattle.cusum.specs.Step.{tenthsOf};
-ghost use Rattle.units.specs.Words.{tableOf, rowOf, countsOf, worse};
-ghost use Rattle.units.specs.Unit.{starting, steppedIn, admits, withinTolerance, allZero, newCusums, unitFails, bestLower, gradingOf, portionGradeOf};
+ghost use mathlib.Core.Bool.{cond};
+ghost use mathlib.Core.List.{map};
+ghost use Prim.Native.Nat.{_+_, _*_, _<_};
+ghost use lib.ListN.{length};
+ghost use Rattle.units.specs.Words.{plannedGrades, classes, cellOf, tableOf, noRow, rowOf, countsOf, worse};
+ghost use Rattle.units.specs.Unit.{starting, steppedIn, admits, withinTolerance, allZero, newCusums, unitFails, bestLower, qualifies};
 use cusum::Cusum;
 use cusum::PlanNumbers;
 
@@ -17,7 +18,7 @@ const GRADES: usize = 3;
 const SUBSTANDARD: u8 = 3;
 
 // The cells of a plan's table: a class of a grade.
-const CELLS: usize = GRADES * CLASSES;
+pub const CELLS: usize = GRADES * CLASSES;
 
 // The plan of a grade: S, T and L of each class.
 pub type Row = [PlanNumbers; CLASSES];
@@ -49,16 +50,22 @@ pub struct SampleUnit {
     pub recoverable: bool,
 }
 
-// A unit graded under the plan in force: its new CuSums, whether it fails, its defect grade, whether it qualifies.
+// A record of the sheet behind its plan.
+pub enum Entry {
+    UnitRecord(SampleUnit),
+    Redesignation(u8),
+    Break,
+}
+
+// A unit graded under the plan of a grade: its new CuSums, whether it fails, its defect grade.
 pub struct Grading {
     pub cusums: Cusums,
     pub fails: bool,
     pub grade: u8,
-    pub qualifies: bool,
 }
 
-// The four CuSums after a unit, and whether a class fails.
-struct SteppedClasses {
+// The CuSums after a unit, and whether a class fails.
+pub struct SteppedClasses {
     pub cusums: Cusums,
     pub fails: bool,
 }
@@ -68,28 +75,51 @@ impl Plan {
     pub fn table(self) -> Table
         ensures { λ r. ⌜ r ≡ tableOf self ⌝ }
     {
+        [self.row(0), self.row(1), self.row(2)]
+    }
+
+    // The row of a grade that has a plan.
+    fn row(self, grade: usize) -> Row
+        requires { ⌜ grade < length plannedGrades ⌝ }
+        ensures { λ r. ⌜ r ≡ map (λ class. cellOf self (length classes * grade + class)) classes ⌝ }
+    {
         let cells = self.numbers;
-        [
-            [cells[0], cells[1], cells[2], cells[3]],
-            [cells[4], cells[5], cells[6], cells[7]],
-            [cells[8], cells[9], cells[10], cells[11]],
-        ]
+        let mut row = [cells[0]; CLASSES];
+        let mut class: usize = 0;
+        while class < CLASSES {
+            row[class] = cells[CLASSES * grade + class];
+            class += 1;
+        }
+        row
     }
 }
 
-// The plan of a grade; zeros where there is none.
-pub fn row_of(table: Table, grade: u8) -> Row
-    ensures { λ r. ⌜ r ≡ rowOf table grade ⌝ }
+// Zeros for every class. A function of its own: within `row_of` this array is kept in memory at each call.
+fn no_row() -> Row
+    ensures { λ r. ⌜ r ≡ noRow ⌝ }
 {
-    if grade < SUBSTANDARD {
-        return table[grade as usize];
-    }
     let none = PlanNumbers {
         start: 0,
         tolerance: 0,
         limit: 0,
     };
-    [none, none, none, none]
+    [none; CLASSES]
+}
+
+// The plan of a grade; zeros where there is none. Literal indices: a computed one copies the whole table at each call.
+pub fn row_of(table: Table, grade: u8) -> Row
+    ensures { λ r. ⌜ r ≡ rowOf table grade ⌝ }
+{
+    if grade == 0 {
+        return table[0];
+    }
+    if grade == 1 {
+        return table[1];
+    }
+    if grade == 2 {
+        return table[2];
+    }
+    no_row()
 }
 
 fn counts_of(unit: SampleUnit) -> Counts
@@ -113,134 +143,110 @@ pub fn worse_of(first: u8, second: u8) -> u8
 pub fn starts(row: Row) -> Cusums
     ensures { λ r. ⌜ r ≡ starting row ⌝ }
 {
-    [
-        Cusum::starting(row[0]),
-        Cusum::starting(row[1]),
-        Cusum::starting(row[2]),
-        Cusum::starting(row[3]),
-    ]
+    let mut cusums = [Cusum::ZERO; CLASSES];
+    let mut class: usize = 0;
+    while class < CLASSES {
+        cusums[class] = Cusum::starting(row[class]);
+        class += 1;
+    }
+    cusums
 }
 
-fn step_classes(row: Row, cusums: Cusums, counts: Counts) -> SteppedClasses
-    ensures { λ r. ⌜ r ≡ steppedIn row cusums counts ⌝ }
+// Rule 2 in every class of a plan.
+pub fn step_classes(row: Row, cusums: Cusums, unit: SampleUnit) -> SteppedClasses
+    ensures { λ r. ⌜ r ≡ steppedIn row cusums (countsOf unit) ⌝ }
 {
-    let critical = cusums[0].step(row[0], counts[0]);
-    let severe = cusums[1].step(row[1], counts[1]);
-    let major = cusums[2].step(row[2], counts[2]);
-    let total = cusums[3].step(row[3], counts[3]);
-    let first = critical.cusum;
-    let second = severe.cusum;
-    let third = major.cusum;
-    let fourth = total.cusum;
+    let counts = counts_of(unit);
+    let mut new = [Cusum::ZERO; CLASSES];
+    let mut fails = false;
+    let mut class: usize = 0;
+    while class < CLASSES {
+        let stepped = cusums[class].step(row[class], counts[class]);
+        let cusum = stepped.cusum;
+        new[class] = cusum;
+        fails = fails | stepped.fails;
+        class += 1;
+    }
     SteppedClasses {
-        cusums: [first, second, third, fourth],
-        fails: critical.fails | (severe.fails | (major.fails | total.fails)),
+        cusums: new,
+        fails: fails,
     }
 }
 
 // Under the plan of a grade; where there is none no class fails, and every CuSum is zero.
-fn step_in_force(table: Table, grade: u8, cusums: Cusums, counts: Counts) -> SteppedClasses
-    ensures { λ r. ⌜ r ≡ record { cusums = newCusums table grade cusums counts; fails = unitFails table grade cusums counts } ⌝ }
+pub fn step_in_force(table: Table, grade: u8, cusums: Cusums, unit: SampleUnit) -> SteppedClasses
+    ensures { λ r. ⌜ r ≡ record { cusums = newCusums table grade cusums (countsOf unit); fails = unitFails table grade cusums (countsOf unit) } ⌝ }
 {
     if grade < SUBSTANDARD {
-        return step_classes(row_of(table, grade), cusums, counts);
+        return step_classes(row_of(table, grade), cusums, unit);
     }
     SteppedClasses {
-        cusums: [Cusum::ZERO, Cusum::ZERO, Cusum::ZERO, Cusum::ZERO],
+        cusums: [Cusum::ZERO; CLASSES],
         fails: false,
     }
 }
 
-// Whether ten times the count is at most T+L of its class.
-fn admits_class(numbers: PlanNumbers, count: u32) -> bool
-    ensures { λ r. ⌜ r ≡ leb (tenthsOf count) (numbers .tolerance + numbers .limit) ⌝ }
-{
-    let highest = numbers.tolerance as u64 + numbers.limit as u64;
-    cusum::tenths(count) <= highest
-}
+// What ten times a count is held against: T+L of its class, or T alone.
+const WITH_LIMIT: bool = true;
 
-fn admits_all(row: Row, counts: Counts) -> bool
-    ensures { λ r. ⌜ r ≡ admits row counts ⌝ }
-{
-    admits_class(row[0], counts[0])
-        & (admits_class(row[1], counts[1])
-            & (admits_class(row[2], counts[2]) & admits_class(row[3], counts[3])))
-}
+const TOLERANCE_ALONE: bool = false;
 
-// Whether ten times the count is at most T of its class.
-fn within_class(numbers: PlanNumbers, count: u32) -> bool
-    ensures { λ r. ⌜ r ≡ leb (tenthsOf count) (numbers .tolerance) ⌝ }
+fn highest_of(numbers: PlanNumbers, limits: bool) -> u64
+    ensures { λ r. ⌜ r ≡ cond limits (numbers .tolerance + numbers .limit) (numbers .tolerance) ⌝ }
 {
     let tolerance = numbers.tolerance as u64;
-    cusum::tenths(count) <= tolerance
+    if limits {
+        tolerance + numbers.limit as u64
+    } else {
+        tolerance
+    }
 }
 
-fn within_all(row: Row, counts: Counts) -> bool
-    ensures { λ r. ⌜ r ≡ withinTolerance row counts ⌝ }
+// Whether no count of a class is above that.
+fn none_above(limits: bool, row: Row, counts: Counts) -> bool
+    ensures { λ r. ⌜ r ≡ cond limits (admits row counts) (withinTolerance row counts) ⌝ }
 {
-    within_class(row[0], counts[0])
-        & (within_class(row[1], counts[1])
-            & (within_class(row[2], counts[2]) & within_class(row[3], counts[3])))
+    let mut class: usize = 0;
+    while class < CLASSES {
+        if highest_of(row[class], limits) < cusum::tenths(counts[class]) {
+            return false;
+        }
+        class += 1;
+    }
+    true
 }
 
 fn all_zero(cusums: Cusums) -> bool
     ensures { λ r. ⌜ r ≡ allZero cusums ⌝ }
 {
-    (cusums[0].tenths == 0)
-        & ((cusums[1].tenths == 0) & ((cusums[2].tenths == 0) & (cusums[3].tenths == 0)))
+    let mut class: usize = 0;
+    while class < CLASSES {
+        if cusums[class].tenths != 0 {
+            return false;
+        }
+        class += 1;
+    }
+    true
 }
 
-fn best_lower(table: Table, grade: u8, counts: Counts) -> u8
-    ensures { λ r. ⌜ r ≡ bestLower table grade counts ⌝ }
+// The best grade lower than this one that admits the counts; Substandard if none does.
+pub fn best_lower(table: Table, grade: u8, unit: SampleUnit) -> u8
+    ensures { λ r. ⌜ r ≡ bestLower table grade (countsOf unit) ⌝ }
 {
-    if (grade < 1) & admits_all(row_of(table, 1), counts) {
+    let counts = counts_of(unit);
+    if (grade < 1) & none_above(WITH_LIMIT, row_of(table, 1), counts) {
         return 1;
     }
-    if (grade < 2) & admits_all(row_of(table, 2), counts) {
+    if (grade < 2) & none_above(WITH_LIMIT, row_of(table, 2), counts) {
         return 2;
     }
     SUBSTANDARD
 }
 
-// A unit graded by its counts: the table, the designated grade, the grade of the plan in force, the CuSums before the unit.
-fn grade_counts(table: Table, designated: u8, grade: u8, cusums: Cusums, counts: Counts) -> Grading
-    ensures { λ r. ⌜ r ≡ gradingOf table designated grade cusums counts ⌝ }
+// Whether a unit with these new CuSums qualifies in step 3.
+pub fn qualifies_with(table: Table, designated: u8, cusums: Cusums, unit: SampleUnit) -> bool
+    ensures { λ r. ⌜ r ≡ qualifies table designated cusums (countsOf unit) ⌝ }
 {
-    let stepped = step_in_force(table, grade, cusums, counts);
-    let new = stepped.cusums;
-    let within = within_all(row_of(table, designated), counts);
-    let qualifies = all_zero(new) & within;
-    let mut defect_grade = grade;
-    if stepped.fails {
-        defect_grade = best_lower(table, grade, counts);
-    }
-    Grading {
-        cusums: new,
-        fails: stepped.fails,
-        grade: defect_grade,
-        qualifies: qualifies,
-    }
-}
-
-// The same for a unit.
-pub fn grade_unit(
-    table: Table,
-    designated: u8,
-    grade: u8,
-    cusums: Cusums,
-    unit: SampleUnit,
-) -> Grading
-    ensures { λ r. ⌜ r ≡ gradingOf table designated grade cusums (countsOf unit) ⌝ }
-{
-    grade_counts(table, designated, grade, cusums, counts_of(unit))
-}
-
-// The portion grade: the worse of the defect grade, or the designated grade where the portion is recovered, and the prerequisite.
-pub fn portion_grade(designated: u8, defect: u8, prerequisite: u8, recovered: bool) -> u8
-    ensures { λ r. ⌜ r ≡ portionGradeOf designated defect prerequisite recovered ⌝ }
-{
-    if recovered {
-        return worse_of(designated, prerequisite);
-    }
-    worse_of(defect, prerequisite)
+    let zero = all_zero(cusums);
+    zero & none_above(TOLERANCE_ALONE, row_of(table, designated), counts_of(unit))
 }

@@ -1,7 +1,9 @@
 //! Every refusal from 1 to 12, at several places and offsets, and which of two is returned.
 
-use crate::small::{counted, peach, unit};
+use crate::small::unit;
 use crate::Cases;
+use grader::generate::counted;
+use grader::peach::peach;
 use grader::sheet::{Record, Sheet, Unit};
 
 /// Bytes put over a sheet at a place, and the number and offset of the refusal.

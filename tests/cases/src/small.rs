@@ -1,21 +1,13 @@
 //! "Small sheets by hand" of paper 01, and the two sheets of the demands.
 
 use crate::Cases;
-use grader::generate::{table, PEACH};
-use grader::sheet::{Record, Sheet, Unit};
-
-/// A sheet of the peach plan.
-pub fn peach(records: Vec<Record>) -> Sheet {
-    Sheet { designated: 0, table: table(PEACH), records }
-}
+use grader::generate::counted;
+use grader::peach::{p10, peach, P10_LINES};
+use grader::sheet::Record;
 
 /// A unit of the peach plan that meets it.
 pub fn unit(code: u16) -> Record {
     counted(code, [0, 0, 1, 2])
-}
-
-pub fn counted(code: u16, counts: [i64; 4]) -> Record {
-    Record::Unit(Unit { code, counts, prerequisite: 0, recoverable: true })
 }
 
 /// Sheets as text. Where the paper names no class, the defects are major, as in the manual; the other
@@ -201,22 +193,7 @@ pub fn add_demands(cases: &mut Cases) {
     cases.add("the pea sheet", pea);
     // P10, the peach sheet of paper 01, with its seven lines. Filled in: nothing.
     let peach_sheet = read("peach.sheet");
-    #[rustfmt::skip]
-    let units = [
-        (1, [0, 1, 2, 4], 0, false), (2, [0, 2, 4, 6], 0, false), (3, [0, 1, 3, 3], 0, false),
-        (4, [0, 0, 1, 5], 0, true), (5, [0, 1, 2, 2], 0, true), (5, [0, 1, 1, 2], 0, false),
-        (7, [1, 0, 0, 0], 1, false),
-    ];
-    let records = units.map(|(code, counts, prerequisite, recoverable)| {
-        Record::Unit(Unit { code, counts, prerequisite, recoverable })
-    });
-    assert!(
-        peach_sheet == peach(records.to_vec()).bytes(),
-        "the peach sheet is not that of paper 01"
-    );
-    let lines = "1 1 A A m A 0.0 0.0 0.0 2.0\n2 2 B B f A 0.0 0.5 1.0 4.0\n\
-        3 3 B B f A 0.0 0.0 1.0 4.0\n4 4 A A r B 0.0 0.0 0.0 0.0\n5 5 A B r B 0.0 0.0 0.0 0.0\n\
-        6 5 B B u B 0.0 0.0 0.0 0.0\n7 7 B B m A 0.5 0.0 0.0 0.0\n";
-    assert_eq!(grader::print_checked(&peach_sheet, true), lines, "P10");
+    assert!(peach_sheet == p10(), "the peach sheet is not that of paper 01");
+    assert_eq!(grader::print_checked(&peach_sheet, true), P10_LINES, "P10");
     cases.add("P10, the peach sheet", peach_sheet);
 }

@@ -5,28 +5,12 @@
 //! `differential [CASES [SEED]]`. A sheet on which the two differ is written to a file and named. A
 //! run of 10,000 cases or more also fails if one of the things that it counts never came up.
 
-use grader::generate::{self, Counts, Dice};
+use grader::generate::{self, seed_of, Counts, Dice};
 use grader::rules::{Graded, Row, What, RECOVERED};
-use grader::{check, sheet, Answer};
+use grader::{check, failure, sheet, Answer};
+use hatmuyon::{ffi, RESULT_SIZE, UNIT_SIZE};
 use std::fmt::Debug;
 use std::time::Instant;
-
-#[repr(C)]
-#[derive(Clone, Copy, Debug, PartialEq, Eq)]
-struct Returned {
-    number: u32,
-    units: usize,
-    offset: usize,
-}
-
-extern "C" {
-    fn hatmuyon_grade(
-        sheet: *const u8,
-        sheet_length: usize,
-        results: *mut u8,
-        results_length: usize,
-    ) -> Returned;
-}
 
 const GUARD: usize = 32;
 /// From so many cases on, everything that is counted must come up.
@@ -39,8 +23,9 @@ fn library(seed: u64, sheet: &[u8], room: usize, fill: u8) -> (Answer, Vec<u8>) 
     let mut memory = vec![fill; GUARD + room + GUARD];
     let results = &mut memory[GUARD..GUARD + room];
     // Safety: both pointers are valid for their lengths, and the two buffers are apart.
-    let returned =
-        unsafe { hatmuyon_grade(lent.as_ptr(), lent.len(), results.as_mut_ptr(), results.len()) };
+    let ffi::Answer { number, units, offset } = unsafe {
+        ffi::hatmuyon_grade(lent.as_ptr(), lent.len(), results.as_mut_ptr(), results.len())
+    };
     let (before, rest) = memory.split_at(GUARD);
     let (results, behind) = rest.split_at(room);
     if before.iter().chain(behind).any(|&byte| byte != fill) {
@@ -49,35 +34,22 @@ fn library(seed: u64, sheet: &[u8], room: usize, fill: u8) -> (Answer, Vec<u8>) 
     if lent != sheet {
         report("the sheet after grading", seed, sheet, &"changed", &"kept");
     }
-    let Returned { number, units, offset } = returned;
     (Answer { number, units, offset }, results.to_vec())
 }
 
-/// Writes the sheet to a file, says what differs and how to see it, and ends the run.
+/// Says what differs, writes the sheet to a file, and ends the run.
 fn report(what: &str, seed: u64, sheet: &[u8], ours: &dyn Debug, theirs: &dyn Debug) -> ! {
-    let file = std::env::temp_dir().join(format!("hatmuyon-differs-{seed}.sheet"));
-    std::fs::write(&file, sheet).expect("cannot write the sheet");
-    println!("differential: {what} differs at seed {seed}");
-    println!("  library: {ours:?}\n  grader:  {theirs:?}");
-    println!("  the sheet: {}", file.display());
-    let grader = concat!(env!("CARGO_MANIFEST_DIR"), "/../grader/Cargo.toml");
-    println!("  see both: target/bin/print_tally < {}", file.display());
-    println!(
-        "            cargo run -q --release --offline --manifest-path {grader} < {}",
-        file.display()
-    );
-    std::process::exit(1);
-}
-
-fn two(bytes: &[u8], at: usize) -> i64 {
-    i64::from(u16::from_be_bytes([bytes[at], bytes[at + 1]]))
+    let what = format!("differential: {what} differs at seed {seed}");
+    let what = format!("{what}\n  library: {ours:?}\n  grader:  {theirs:?}");
+    let file = format!("hatmuyon-differs-{seed}.sheet");
+    failure::end(&what, &file, sheet, "target/bin/print_tally")
 }
 
 /// Counts what [`Counts::note`] does not see: how the buffer fits, and who shares a code or a recovery.
 fn note(counts: &mut Counts, sheet: &[u8], room: usize, answer: Answer, graded: Option<&Graded>) {
     counts.note(answer.number, graded);
-    let mut add = |name: &str, times: usize| *counts.0.entry(name.into()).or_default() += times;
-    let needed = 16 * sheet::read(sheet).map_or(0, |sheet| sheet.units());
+    let mut add = |name: &str, times: usize| counts.add(name, times);
+    let needed = RESULT_SIZE * sheet::read(sheet).map_or(0, |sheet| sheet.units());
     let accepted = answer.number == 0;
     add("buffer longer than needed", usize::from(accepted && room > needed));
     add("buffer exactly long enough", usize::from(accepted && room == needed && needed > 0));
@@ -116,11 +88,12 @@ fn note(counts: &mut Counts, sheet: &[u8], room: usize, answer: Answer, graded: 
     add("code of recovered units only", with([true, false]));
 }
 
-/// Compares one sheet, and hands out the grader's trace and the library's result bytes.
-fn compare(seed: u64, sheet: &[u8], room: usize, counts: &mut Counts) -> (Option<Graded>, Vec<u8>) {
+/// Compares one sheet, and hands out the grader's trace with the grades and CuSums that the library
+/// recorded.
+fn compare(seed: u64, sheet: &[u8], room: usize, counts: &mut Counts) -> Option<Graded> {
     let fill = (seed % 251) as u8;
     let mut expected = vec![fill; room];
-    let (answer, graded) = grader::grade_traced(sheet, &mut expected, false);
+    let (answer, mut graded) = grader::grade_traced(sheet, &mut expected, false);
     let (returned, results) = library(seed, sheet, room, fill);
     if returned != answer {
         report("the answer", seed, sheet, &returned, &answer);
@@ -130,46 +103,35 @@ fn compare(seed: u64, sheet: &[u8], room: usize, counts: &mut Counts) -> (Option
         report(&format!("byte {at} of the buffer"), seed, sheet, &results[at], &expected[at]);
     }
     note(counts, sheet, room, answer, graded.as_ref());
-    (graded, results)
+    let rows = graded.iter_mut().flat_map(|graded| &mut graded.rows);
+    for (row, record) in rows.zip(results.chunks_exact(RESULT_SIZE)) {
+        row.portion_grade = record[ffi::RESULT_PORTION_GRADE];
+        row.code_grade = record[ffi::RESULT_CODE_GRADE];
+        for (class, cusum) in row.cusums.iter_mut().enumerate() {
+            let at = ffi::RESULT_CRITICAL + 2 * class;
+            *cusum = i64::from(u16::from_be_bytes([record[at], record[at + 1]]));
+        }
+    }
+    graded
 }
 
 /// Demand 3, first half, on recorded bytes: the grader's 'largest of' form, with the anchor found by
 /// its place, against the CuSums that the library recorded.
-fn largest_of(seed: u64, sheet: &[u8], graded: &mut Graded, results: &[u8]) {
-    for (row, record) in graded.rows.iter_mut().zip(results.chunks_exact(16)) {
-        for (class, cusum) in row.cusums.iter_mut().enumerate() {
-            *cusum = two(record, 8 + 2 * class);
-        }
-    }
-    let held =
-        std::panic::catch_unwind(std::panic::AssertUnwindSafe(|| check::cusums_twice(graded)));
-    if held.is_err() {
+fn largest_of(seed: u64, sheet: &[u8], graded: &Graded) {
+    if std::panic::catch_unwind(|| check::cusums_twice(graded)).is_err() {
         report("the 'largest of' form", seed, sheet, &"recorded", &"computed");
     }
 }
 
 /// Demand 3, second half, on recorded bytes of a pair.
 fn monotone(seed: u64, first: &[u8], second: &[u8], counts: &mut Counts) -> bool {
-    let mut sides = [first, second].map(|sheet| {
-        let room = 16 * sheet.len() / 14;
-        let (graded, results) = compare(seed, sheet, room, counts);
-        (graded.expect("a pair is accepted"), results)
+    let sides = [first, second].map(|sheet| {
+        let room = RESULT_SIZE * sheet.len() / UNIT_SIZE;
+        compare(seed, sheet, room, counts).expect("a pair is accepted")
     });
-    for (graded, results) in &mut sides {
-        for (row, record) in graded.rows.iter_mut().zip(results.chunks_exact(16)) {
-            row.portion_grade = record[4];
-            row.code_grade = record[5];
-            for (class, cusum) in row.cusums.iter_mut().enumerate() {
-                *cusum = two(record, 8 + 2 * class);
-            }
-        }
-    }
-    match check::monotone(&sides[0].0, &sides[1].0) {
-        Ok(grades) => grades,
-        Err(what) => {
-            report(&format!("the monotone half: {what}"), seed, second, &"first", &"second")
-        }
-    }
+    check::monotone(&sides[0], &sides[1]).unwrap_or_else(|what| {
+        report(&format!("the monotone half: {what}"), seed, second, &"first", &"second")
+    })
 }
 
 fn main() {
@@ -180,16 +142,16 @@ fn main() {
     let mut counts = Counts::default();
     let (mut checked, mut pairs, mut graded_pairs) = (0, 0, 0);
     for case in 0..cases {
-        let seed = seed.wrapping_mul(1_000_003).wrapping_add(case);
+        let seed = seed_of(seed, case);
         let mut made = generate::case(seed);
         if case % 500 == 0 && made.sheet.len() > 75 {
             // Breaks behind the plan take the records beyond 65,536 bytes.
             let breaks = 32_000 + Dice(seed).below(50_000);
             made.sheet.splice(75..75, [0x42, 0x4B].repeat(breaks));
         }
-        let (graded, results) = compare(seed, &made.sheet, made.room, &mut counts);
-        if let Some(mut graded) = graded.filter(|graded| graded.rows.len() <= 60) {
-            largest_of(seed, &made.sheet, &mut graded, &results);
+        let graded = compare(seed, &made.sheet, made.room, &mut counts);
+        if let Some(graded) = graded.filter(|graded| graded.rows.len() <= 60) {
+            largest_of(seed, &made.sheet, &graded);
             checked += 1;
         }
         if case % 4 == 0 {
@@ -198,14 +160,11 @@ fn main() {
             pairs += 1;
         }
     }
-    for (name, times) in &counts.0 {
-        println!("{times:>9}  {name}");
-    }
+    print!("{counts}");
     println!("{checked:>9}  sheets whose recorded CuSums are the 'largest of' form");
     println!("{pairs:>9}  pairs alike but for fewer counts, {graded_pairs} with grades compared");
     // A short run need not have everything.
-    let missing = counts.0.iter().find(|(_, &times)| times == 0 && cases >= WHOLE);
-    if let Some((name, _)) = missing {
+    if let Some(name) = counts.missing().find(|_| cases >= WHOLE) {
         println!("differential: no case has: {name}");
         std::process::exit(1);
     }

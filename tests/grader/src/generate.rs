@@ -41,6 +41,11 @@ pub const PEACH: [[[i64; 3]; 4]; 3] = [
     [[10, 20, 20], [10, 50, 30], [10, 60, 40], [20, 170, 70]],
 ];
 
+/// A recoverable unit with prerequisite A.
+pub fn counted(code: u16, counts: [i64; 4]) -> Record {
+    Record::Unit(Unit { code, counts, prerequisite: 0, recoverable: true })
+}
+
 impl Record {
     pub fn bytes(&self) -> Vec<u8> {
         match *self {
@@ -84,13 +89,7 @@ impl Sheet {
     /// Gives the sheet at least so many units.
     pub fn fill(&mut self, units: usize) {
         for code in self.units() as u16..units as u16 {
-            let counts = [0, 0, 1, 2];
-            self.records.push(Record::Unit(Unit {
-                code,
-                counts,
-                prerequisite: 0,
-                recoverable: true,
-            }));
+            self.records.push(counted(code, [0, 0, 1, 2]));
         }
     }
 }
@@ -322,6 +321,11 @@ pub fn messy(dice: &mut Dice) -> Case {
     Case { sheet, room: dice.pick(&[0, 15, 160, 16_000]), expected: None }
 }
 
+/// The seed of one case of a run.
+pub fn seed_of(run: u64, case: u64) -> u64 {
+    run.wrapping_mul(1_000_003).wrapping_add(case)
+}
+
 /// The case of this seed: two in three valid, else damaged or messy.
 pub fn case(seed: u64) -> Case {
     let dice = &mut Dice(seed);
@@ -359,11 +363,20 @@ pub fn pair(seed: u64) -> (Vec<u8>, Vec<u8>) {
 pub struct Counts(pub std::collections::BTreeMap<String, usize>);
 
 impl Counts {
+    pub fn add(&mut self, name: &str, times: usize) {
+        *self.0.entry(name.into()).or_default() += times;
+    }
+
+    /// The names of what never happened.
+    pub fn missing(&self) -> impl Iterator<Item = &str> {
+        self.0.iter().filter(|(_, &times)| times == 0).map(|(name, _)| &name[..])
+    }
+
     /// Takes in one answer and its trace, as [`crate::grade_traced`] hands them out.
     pub fn note(&mut self, number: u32, graded: Option<&Graded>) {
         let rows: &[Row] = graded.map_or(&[], |graded| &graded.rows);
         let events: &[Event] = graded.map_or(&[], |graded| &graded.events);
-        let mut add = |name: &str, times: usize| *self.0.entry(name.into()).or_default() += times;
+        let mut add = |name: &str, times: usize| self.add(name, times);
         for known in 0..=13 {
             add(&format!("number {known:02}"), usize::from(number == known));
         }
@@ -414,5 +427,12 @@ impl Counts {
         for (name, what, test) in kinds {
             count_events(name, &|event| event.what == what && test(event.stage));
         }
+    }
+}
+
+/// A line for each.
+impl std::fmt::Display for Counts {
+    fn fmt(&self, f: &mut std::fmt::Formatter<'_>) -> std::fmt::Result {
+        self.0.iter().try_for_each(|(name, times)| writeln!(f, "{times:>9}  {name}"))
     }
 }

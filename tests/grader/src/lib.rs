@@ -3,7 +3,9 @@
 //! quotation marks at the code that follows them.
 
 pub mod check;
+pub mod failure;
 pub mod generate;
+pub mod peach;
 pub mod rules;
 pub mod sheet;
 #[cfg(test)]

@@ -1,16 +1,9 @@
 //! The sheets of paper 01 by hand, every refusal, the wrong readings, and random sheets.
 
-use crate::generate::{case, pair, table, Counts, PEACH};
-use crate::sheet::{Record, Sheet, Unit};
+use crate::generate::{case, counted, pair, table, Counts};
+use crate::peach::{p10, peach, peaches, P10_LINES};
+use crate::sheet::{Record, Sheet};
 use crate::{check, grade, grade_traced, print, print_checked, Answer};
-
-fn unit(code: u16, counts: [i64; 4]) -> Record {
-    Record::Unit(Unit { code, counts, prerequisite: 0, recoverable: true })
-}
-
-fn peach(records: Vec<Record>) -> Sheet {
-    Sheet { designated: 0, table: table(PEACH), records }
-}
 
 /// Grades, with the self check, recoverable units of major defects; S/T/L of major at A, B and C, the
 /// other classes being so wide that they neither fail nor hinder. The script lists counts (with a
@@ -24,8 +17,10 @@ fn majors(designated: u8, grades: [[i64; 3]; 3], script: &str) -> String {
         draft.records.push(match word.split_once('@') {
             _ if word == "|" => Record::Break,
             _ if "ABC".contains(word) => Record::Redesignation(word.as_bytes()[0] - b'A'),
-            None => unit(next, [0, 0, word.parse().unwrap(), 0]),
-            Some((count, code)) => unit(code.parse().unwrap(), [0, 0, count.parse().unwrap(), 0]),
+            None => counted(next, [0, 0, word.parse().unwrap(), 0]),
+            Some((count, code)) => {
+                counted(code.parse().unwrap(), [0, 0, count.parse().unwrap(), 0])
+            }
         });
     }
     let short = |line: &str| {
@@ -34,14 +29,6 @@ fn majors(designated: u8, grades: [[i64; 3]; 3], script: &str) -> String {
     };
     let printed = print_checked(&draft.bytes(), true);
     printed.lines().map(short).collect::<Vec<_>>().join(", ")
-}
-
-/// Units of the peach plan: code, counts, prerequisite, recoverable.
-fn peaches<const N: usize>(units: [(u16, [i64; 4], u8, u8); N]) -> Vec<u8> {
-    let records = units.map(|(code, counts, prerequisite, recoverable)| {
-        Record::Unit(Unit { code, counts, prerequisite, recoverable: recoverable == 1 })
-    });
-    peach(records.to_vec()).bytes()
 }
 
 /// Number, units and offset, with a buffer of `room` bytes, of which no other byte changes.
@@ -54,16 +41,8 @@ fn answer(sheet: &[u8], room: usize) -> (u32, usize, usize) {
 
 #[test]
 fn peach_sheet() {
-    #[rustfmt::skip]
-    let sheet = peaches([
-        (1, [0, 1, 2, 4], 0, 0), (2, [0, 2, 4, 6], 0, 0), (3, [0, 1, 3, 3], 0, 0),
-        (4, [0, 0, 1, 5], 0, 1), (5, [0, 1, 2, 2], 0, 1), (5, [0, 1, 1, 2], 0, 0),
-        (7, [1, 0, 0, 0], 1, 0),
-    ]);
-    let expected = "1 1 A A m A 0.0 0.0 0.0 2.0\n2 2 B B f A 0.0 0.5 1.0 4.0\n\
-        3 3 B B f A 0.0 0.0 1.0 4.0\n4 4 A A r B 0.0 0.0 0.0 0.0\n5 5 A B r B 0.0 0.0 0.0 0.0\n\
-        6 5 B B u B 0.0 0.0 0.0 0.0\n7 7 B B m A 0.5 0.0 0.0 0.0\n";
-    assert_eq!(print_checked(&sheet, true), expected);
+    let sheet = p10();
+    assert_eq!(print_checked(&sheet, true), P10_LINES);
     let mut results = [0xA5; 16 * 7 + 1];
     assert_eq!(grade(&sheet, &mut results), Answer { number: 0, units: 7, offset: 75 + 7 * 14 });
     assert_eq!(results[64..80], [0x47, 0x52, 0, 5, 0, 1, 1, 3, 0, 0, 0, 0, 0, 0, 0, 0]);
@@ -146,8 +125,8 @@ fn p1_to_p9() {
     let (before, recovered) = ("BBmB 1.0, CCfB 3.0, CCfB 3.0, CCuC 0.0, CCuC 0.0", "BBrC 0.0");
     assert_eq!(p8, format!("{before}, {recovered}, {recovered}, {recovered}, BBmB 1.0"));
     // P9: "count 2,001 is refused with 8, 2,000 is not".
-    assert_eq!(answer(&peach(vec![unit(1, [0, 0, 2_001, 0])]).bytes(), 16), (8, 0, 75));
-    assert_eq!(answer(&peach(vec![unit(1, [2_000; 4])]).bytes(), 16), (0, 1, 89));
+    assert_eq!(answer(&peach(vec![counted(1, [0, 0, 2_001, 0])]).bytes(), 16), (8, 0, 75));
+    assert_eq!(answer(&peach(vec![counted(1, [2_000; 4])]).bytes(), 16), (0, 1, 89));
 }
 
 #[test]
@@ -159,10 +138,10 @@ fn small_cases() {
     let mut many = peach(Vec::new());
     many.fill(1_000);
     assert_eq!(answer(&many.bytes(), 16_000), (0, 1_000, 14_075));
-    many.records.push(unit(1, [2_001, 0, 0, 0]));
+    many.records.push(counted(1, [2_001, 0, 0, 0]));
     assert_eq!(answer(&many.bytes(), 16_000), (12, 0, 14_075));
     assert_eq!(answer(&many.bytes()[..14_088], 16_000), (7, 0, 14_075));
-    let one = peach(vec![unit(1, [0; 4])]).bytes();
+    let one = peach(vec![counted(1, [0; 4])]).bytes();
     assert_eq!(answer(&one, 15), (13, 0, 89));
     assert_eq!(answer(&one, 16), (0, 1, 89));
     // A break between two failures: both fail, and step 3 does not begin.
@@ -205,8 +184,12 @@ fn in_step_3() {
 
 #[test]
 fn every_refusal_with_its_offset() {
-    let base =
-        peach(vec![unit(1, [0; 4]), Record::Break, Record::Redesignation(1), unit(2, [0; 4])]);
+    let base = peach(vec![
+        counted(1, [0; 4]),
+        Record::Break,
+        Record::Redesignation(1),
+        counted(2, [0; 4]),
+    ]);
     let sheet = base.bytes();
     assert_eq!(answer(&sheet, 32), (0, 2, 108));
     // Bytes put at an offset, and the refusal's number and offset.
@@ -246,7 +229,7 @@ fn wrong_readings_are_not_taken() {
     let grades = [[10, 30, 30], [10, 60, 40], [10, 90, 40]];
     assert_eq!(majors(0, grades, "10"), "BBfA 3.0");
     // Requiring the same class to fail twice: severe, then major, begins step 3.
-    let records = vec![unit(1, [0, 5, 0, 0]), unit(2, [0, 0, 7, 0]), unit(3, [0; 4])];
+    let records = vec![counted(1, [0, 5, 0, 0]), counted(2, [0, 0, 7, 0]), counted(3, [0; 4])];
     assert!(print(&peach(records).bytes()).ends_with("3 3 B B u B 0.0 0.0 0.0 0.0\n"));
     // Grading codes before recovery: code 3 of recovered portions alone is as good as they are, and
     // code 1, shared with a failed portion far off, is not.
@@ -268,8 +251,8 @@ fn random_sheets() {
         assert!(results[16 * answer.units..].iter().all(|&byte| byte == 0xA5), "seed {seed}");
         counts.note(answer.number, graded.as_ref());
     }
-    println!("{:#?}", counts.0);
-    assert_eq!(counts.0.iter().find(|(_, times)| **times == 0), None);
+    println!("{counts}");
+    assert_eq!(counts.missing().next(), None);
 }
 
 #[test]

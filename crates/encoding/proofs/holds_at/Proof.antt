@@ -1,5 +1,4 @@
--- `encoding::holds_at` meets its contract.
--- By the law that two numbers are equal exactly if they are with the low byte first; the ranges by omega.
+-- Two numbers are equal exactly if they are with the low byte first (`turned-equal`); the ranges because a byte is below 256.
 use Prim.Native.Nat.{_+_}
 use native.Mathlib.Omega.{arith}
 use Rattle.encoding.proofs.Turned.{turned-equal}
@@ -26,7 +25,9 @@ mul-low-first : tie.Need-mul-low-first
 mul-low-first c = omega (arith, c .shared-slice-known2 .given (c .before .before .args .at + 1))
 
 add-low-first-2 : tie.Need-add-low-first-2
-add-low-first-2 c = omega (arith, c .shared-slice-known2 .given (c .before .before .args .at + 1), c .before .shared-slice-known .given (c .before .before .args .at))
+add-low-first-2 c =
+    let at = c .before .before .args .at in
+    omega (arith, c .shared-slice-known2 .given (at + 1), c .before .shared-slice-known .given at)
 
 mul-result : tie.Need-mul-result
 mul-result c = search needs
@@ -35,7 +36,10 @@ add-result : tie.Need-add-result
 add-result c = search needs
 
 returns : tie.Need-returns
-returns c = turned-equal _ _ (c .before .before .args .value) (omega (arith, c .before .shared-slice-known .given (c .before .before .args .at))) (omega (arith, c .shared-slice-known2 .given (c .before .before .args .at + 1))) (omega arith)
+returns c =
+    let at = c .before .before .args .at in
+    turned-equal _ _ (c .before .before .args .value)
+    (omega (arith, c .before .shared-slice-known .given at)) (omega (arith, c .shared-slice-known2 .given (at + 1))) (omega arith)
 
 pub holds-at-spec : {M : Type 1} → statement M
 holds-at-spec =

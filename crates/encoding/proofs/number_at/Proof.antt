@@ -1,5 +1,4 @@
--- `encoding::number_at` meets its contract.
--- The return follows from what the callees promise.
+-- The number is that of the two bytes read; it is below 65536 because a byte is below 256.
 use Prim.Native.Nat.{_+_}
 use native.Mathlib.Omega.{arith}
 use borrow.Author.Needs.{needs}
@@ -25,7 +24,9 @@ cast-result-2 : tie.Need-cast-result-2
 cast-result-2 c = omega (arith, c .shared-slice-known2 .given (c .before .before .args .at + 1))
 
 add-result-2 : tie.Need-add-result-2
-add-result-2 c = omega (arith, c .shared-slice-known2 .given (c .before .before .args .at + 1), c .before .shared-slice-known .given (c .before .before .args .at))
+add-result-2 c =
+    let at = c .before .before .args .at in
+    omega (arith, c .shared-slice-known2 .given (at + 1), c .before .shared-slice-known .given at)
 
 returns : tie.Need-returns
 returns c = search needs

@@ -19,11 +19,25 @@ returns-2 c = rw (← c .before .before .number-at .ensures, ne-eqb _ _ (c .befo
 
 returns-3 : tie.Need-returns-3
 unfolding markAt markOf pick
-returns-3 c = rw (← c .before .before .before .number-at .ensures, ne-eqb _ _ (c .before .before .if1 .left), ne-eqb _ _ (c .before .if2 .left), eq-eqb _ _ (c .if3 .taken))
+returns-3 c =
+    let first = c .before .before in
+    rw (
+      ← first .before .number-at .ensures,
+      ne-eqb _ _ (first .if1 .left),
+      ne-eqb _ _ (c .before .if2 .left),
+      eq-eqb _ _ (c .if3 .taken),
+    )
 
 returns-4 : tie.Need-returns-4
 unfolding markAt markOf pick
-returns-4 c = rw (← c .before .before .before .number-at .ensures, ne-eqb _ _ (c .before .before .if1 .left), ne-eqb _ _ (c .before .if2 .left), ne-eqb _ _ (c .if3 .left))
+returns-4 c =
+    let first = c .before .before in
+    rw (
+      ← first .before .number-at .ensures,
+      ne-eqb _ _ (first .if1 .left),
+      ne-eqb _ _ (c .before .if2 .left),
+      ne-eqb _ _ (c .if3 .left),
+    )
 
 pub mark-at-spec : {M : Type 1} → statement M
 mark-at-spec = tie.close (tie.spec number-at-requires returns returns-2 returns-3 returns-4)

@@ -1,79 +1,69 @@
--- `plan_of` is `planOf`: its cells are those of the three rows, which stand one after the other.
-use Rattle.layout.specs.Layout.{planOf}
+-- `plan_of` is `planOf`. The loop's invariant is `Filled`: the cells before this one are there.
+use Prim.Native.Nat.{_+_, _*_, _-_}
+use mathlib.Core.Path.{refl}
+use native.Mathlib.Omega.{arith}
+use Rattle.units.specs.Words.{noNumbers}
+use Rattle.units.proofs.Lists.{Filled, fill-first, fill-next, fill-last}
+use Rattle.layout.specs.Layout.{tableOffset, planNumbersSize, tableSize, planNumbersAt, planOf}
 use borrow.Author.Needs.{needs}
 use Rattle.layout.proofs.plan_of.Statement.{statement}
 use Rattle.layout.proofs.plan_of.Tie as tie
 
-row-at-requires : tie.Need-row-at-requires
-row-at-requires c κs = search needs
+abbrev Inv-loop : tie.InvT-loop
+Inv-loop bytes numbers₀ cell₀ numbers cell =
+    Filled tableSize (λ k. planNumbersAt bytes (tableOffset + planNumbersSize * k)) noNumbers numbers cell
 
-row-at-requires-2 : tie.Need-row-at-requires-2
-row-at-requires-2 c κs = search needs
+abbrev μ-loop : tie.MeasureT-loop
+μ-loop bytes numbers₀ cell₀ numbers cell = tableSize - cell
 
-row-at-requires-3 : tie.Need-row-at-requires-3
-row-at-requires-3 c κs = search needs
+loop-holds : tie.Need-loop-holds Inv-loop μ-loop
+loop-holds c = fill-first refl
 
-array-copy-out-t9 : tie.Need-array-copy-out-t9
-array-copy-out-t9 c = search needs
+mul-plan-numbers-at : tie.Need-mul-plan-numbers-at Inv-loop μ-loop
+mul-plan-numbers-at c = search needs
 
-array-copy-out-t12 : tie.Need-array-copy-out-t12
-array-copy-out-t12 c = search needs
+add-plan-numbers-at : tie.Need-add-plan-numbers-at Inv-loop μ-loop
+add-plan-numbers-at c = search needs
 
-array-copy-out-t15 : tie.Need-array-copy-out-t15
-array-copy-out-t15 c = search needs
+plan-numbers-at-requires : tie.Need-plan-numbers-at-requires Inv-loop μ-loop
+plan-numbers-at-requires c κs = search needs
 
-array-copy-out-t18 : tie.Need-array-copy-out-t18
-array-copy-out-t18 c = search needs
+mul-numbers : tie.Need-mul-numbers Inv-loop μ-loop
+mul-numbers c = search needs
 
-array-copy-out-t21 : tie.Need-array-copy-out-t21
-array-copy-out-t21 c = search needs
+array-set-from-numbers : tie.Need-array-set-from-numbers Inv-loop μ-loop
+array-set-from-numbers c = search needs
 
-array-copy-out-t24 : tie.Need-array-copy-out-t24
-array-copy-out-t24 c = search needs
+add-cell : tie.Need-add-cell Inv-loop μ-loop
+add-cell c = search needs
 
-array-copy-out-t27 : tie.Need-array-copy-out-t27
-array-copy-out-t27 c = search needs
+loop-less : tie.Need-loop-less Inv-loop μ-loop
+loop-less c = search needs
 
-array-copy-out-t30 : tie.Need-array-copy-out-t30
-array-copy-out-t30 c = search needs
+loop-again : tie.Need-loop-again Inv-loop μ-loop
+loop-again c = fill-next (c .before .before .loop .inv) (omega arith) (c .plan-numbers-at .ensures)
 
-array-copy-out-t33 : tie.Need-array-copy-out-t33
-array-copy-out-t33 c = search needs
+shared-slice-read-t13 : tie.Need-shared-slice-read-t13 Inv-loop μ-loop
+shared-slice-read-t13 c = search needs
 
-array-copy-out-t36 : tie.Need-array-copy-out-t36
-array-copy-out-t36 c = search needs
-
-array-copy-out-t39 : tie.Need-array-copy-out-t39
-array-copy-out-t39 c = search needs
-
-array-copy-out-t42 : tie.Need-array-copy-out-t42
-array-copy-out-t42 c = search needs
-
-shared-slice-read-t44 : tie.Need-shared-slice-read-t44
-shared-slice-read-t44 c = search needs
-
-returns : tie.Need-returns
+returns : tie.Need-returns Inv-loop μ-loop
 unfolding planOf
-returns c = rw (c .before .before .before .before .before .before .before .before .before .before .before .before .before .before .before .row-at .ensures, c .before .before .before .before .before .before .before .before .before .before .before .before .before .before .row-at2 .ensures, c .before .before .before .before .before .before .before .before .before .before .before .before .before .row-at3 .ensures)
+returns c = rw (fill-last (c .before .before .loop .inv) (omega arith))
 
 pub plan-of-spec : {M : Type 1} → statement M
 plan-of-spec =
     tie.close
     (tie.spec
-    row-at-requires
-    row-at-requires-2
-    row-at-requires-3
-    array-copy-out-t9
-    array-copy-out-t12
-    array-copy-out-t15
-    array-copy-out-t18
-    array-copy-out-t21
-    array-copy-out-t24
-    array-copy-out-t27
-    array-copy-out-t30
-    array-copy-out-t33
-    array-copy-out-t36
-    array-copy-out-t39
-    array-copy-out-t42
-    shared-slice-read-t44
+    Inv-loop
+    μ-loop
+    loop-holds
+    mul-plan-numbers-at
+    add-plan-numbers-at
+    plan-numbers-at-requires
+    mul-numbers
+    array-set-from-numbers
+    add-cell
+    loop-less
+    loop-again
+    shared-slice-read-t13
     returns)

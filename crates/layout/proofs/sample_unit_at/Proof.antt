@@ -48,7 +48,18 @@ shared-slice-read-t18 c = search needs
 
 returns : tie.Need-returns
 unfolding sampleUnitAt
-returns c = rw (c .before .before .before .before .before .before .number-at .ensures, c .before .before .before .before .before .number-at2 .ensures, c .before .before .before .before .number-at3 .ensures, c .before .before .before .number-at4 .ensures, c .before .before .number-at5 .ensures)
+returns c =
+    let minor = c .before .before in
+    let major = minor .before in
+    let severe = major .before in
+    let critical = severe .before in
+    rw (
+      critical .before .number-at .ensures,
+      critical .number-at2 .ensures,
+      severe .number-at3 .ensures,
+      major .number-at4 .ensures,
+      minor .number-at5 .ensures,
+    )
 
 pub sample-unit-at-spec : {M : Type 1} → statement M
 sample-unit-at-spec =

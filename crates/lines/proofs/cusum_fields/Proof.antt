@@ -1,93 +1,95 @@
--- `lines::cusum_fields` meets its contract: four fields and the newline, one behind the other; the room for each by the length of all.
--- Assumes nothing.
+-- The loop's invariant: of the CuSums and the newline, the fields from the class on and the newline are left to write.
+use Prim.Native.Nat.{_+_, _-_, _≤_}
+use mathlib.Core.List.{[], _∷_, map}
 use native.Mathlib.Omega.{arith}
+use lib.ListN.{length, drop, drop-of-length-le}
+use Rattle.units.specs.Words.{classes}
+use Rattle.lines.specs.Lines.{newline, space, restOfLine, cusumField, cusumFields}
+use Rattle.lines.proofs.Writing.{Left, all-left, piece-fits, less-left, none-left}
+use Rattle.lines.proofs.Classes.{fields-left}
 use borrow.Author.Needs.{needs}
-use Rattle.lines.specs.Lines.{lineWith}
-use Rattle.lines.proofs.Writing.{joined}
-use Rattle.lines.proofs.LineLengths.{length-cusums}
 use Rattle.lines.proofs.cusum_fields.Statement.{statement}
 use Rattle.lines.proofs.cusum_fields.Tie as tie
 
-mul-record : tie.Need-mul-record
+abbrev Inv-loop : tie.InvT-loop
+Inv-loop results j out₀ at «record» end₀ class₀ out end class =
+    (class ≤ length classes)
+    × Left out₀ at (restOfLine (cusumFields results j)) out end (restOfLine (map (cusumField results j) (drop class classes)))
+
+abbrev μ-loop : tie.MeasureT-loop
+μ-loop results j out₀ at «record» end₀ class₀ out end class = length classes - class
+
+mul-record : tie.Need-mul-record Inv-loop μ-loop
 mul-record c = search needs
 
-add-tenths-field : tie.Need-add-tenths-field
+loop-holds : tie.Need-loop-holds Inv-loop μ-loop
+loop-holds c = (search needs, all-left _ _ _ (omega arith))
+
+mul-tenths-field : tie.Need-mul-tenths-field Inv-loop μ-loop
+mul-tenths-field c = search needs
+
+add-tenths-field : tie.Need-add-tenths-field Inv-loop μ-loop
 add-tenths-field c = search needs
 
-tenths-field-requires : tie.Need-tenths-field-requires
-tenths-field-requires c κs =
-    let args = c .before .before .before .args in
-    (omega arith, omega (arith, length-cusums (args .results .now) (args .j)))
-
-add-tenths-field-2 : tie.Need-add-tenths-field-2
+add-tenths-field-2 : tie.Need-add-tenths-field-2 Inv-loop μ-loop
 add-tenths-field-2 c = search needs
 
-add-tenths-field-3 : tie.Need-add-tenths-field-3
-add-tenths-field-3 c = search needs
+tenths-field-requires : tie.Need-tenths-field-requires Inv-loop μ-loop
+tenths-field-requires c κs =
+    let start = c .before .before in
+    let args = start .before .before .before .args in
+    let class = start .loop .class in
+    let field = cusumField (args .results .now) (args .j) in
+    let due = rw (fields-left field class (c .before .loop-test .taken)) at (start .loop .inv .1) in
+    (omega arith, piece-fits (space ∷ field class) (restOfLine (map field (drop (class + 1) classes))) due)
 
-tenths-field-requires-2 : tie.Need-tenths-field-requires-2
-tenths-field-requires-2 c κs =
-    let args = c .before .before .before .before .before .before .before .args in
-    (omega arith, omega (arith, length-cusums (args .results .now) (args .j)))
+add-class : tie.Need-add-class Inv-loop μ-loop
+add-class c = search needs
 
-add-tenths-field-4 : tie.Need-add-tenths-field-4
-add-tenths-field-4 c = search needs
+loop-less : tie.Need-loop-less Inv-loop μ-loop
+loop-less c = search needs
 
-add-tenths-field-5 : tie.Need-add-tenths-field-5
-add-tenths-field-5 c = search needs
+loop-again : tie.Need-loop-again Inv-loop μ-loop
+loop-again c =
+    let start = c .before .before .before .before .before in
+    let args = start .before .before .before .args in
+    let class = start .loop .class in
+    let field = cusumField (args .results .now) (args .j) in
+    let due = rw (fields-left field class (c .before .before .before .before .loop-test .taken)) at (start .loop .inv .1) in
+    let left = restOfLine (map field (drop (class + 1) classes)) in
+    (search needs, less-left (space ∷ field class) left due (c .before .before .tenths-field .ensures))
 
-tenths-field-requires-3 : tie.Need-tenths-field-requires-3
-tenths-field-requires-3 c κs =
-    let args = c .before .before .before .before .before .before .before .before .before .before .before .args in
-    (omega arith, omega (arith, length-cusums (args .results .now) (args .j)))
-
-add-tenths-field-6 : tie.Need-add-tenths-field-6
-add-tenths-field-6 c = search needs
-
-add-tenths-field-7 : tie.Need-add-tenths-field-7
-add-tenths-field-7 c = search needs
-
-tenths-field-requires-4 : tie.Need-tenths-field-requires-4
-tenths-field-requires-4 c κs =
-    let args = c .before .before .before .before .before .before .before .before .before .before .before .before .before .before .before .args in
-    (omega arith, omega (arith, length-cusums (args .results .now) (args .j)))
-
-put-requires : tie.Need-put-requires
+put-requires : tie.Need-put-requires Inv-loop μ-loop
+unfolding restOfLine
 put-requires c κs =
-    let args = c .before .before .before .before .before .before .before .before .before .before .before .before .before .before .before .before .before .before .before .args in
-    omega (arith, length-cusums (args .results .now) (args .j))
+    let start = c .before .before in
+    piece-fits (newline ∷ []) [] (rw (drop-of-length-le classes (c .before .loop-test .left)) at (start .loop .inv .1))
 
-same-length : tie.Need-same-length
+same-length : tie.Need-same-length Inv-loop μ-loop
 same-length c = search needs
 
-returns : tie.Need-returns
-unfolding lineWith
+returns : tie.Need-returns Inv-loop μ-loop
+unfolding restOfLine
 returns c =
-    let total = c .before .before .before .before in
-    let major = total .before .before .before .before in
-    let severe = major .before .before .before .before in
-    let critical = severe .before .before .before .before in
-    joined (critical .before .before .tenths-field .ensures)
-    (joined (severe .before .before .tenths-field2 .ensures)
-    (joined (major .before .before .tenths-field3 .ensures)
-    (joined (total .before .before .tenths-field4 .ensures) (c .before .before .put .ensures))))
+    let start = c .before .before .before .before .before in
+    let due = rw (drop-of-length-le classes (c .before .before .before .before .loop-test .left)) at (start .loop .inv .1) in
+    none-left (less-left (newline ∷ []) [] due (c .before .before .put .ensures))
 
 pub cusum-fields-spec : {M : Type 1} → statement M
 cusum-fields-spec =
     tie.close
     (tie.spec
+    Inv-loop
+    μ-loop
     mul-record
+    loop-holds
+    mul-tenths-field
     add-tenths-field
-    tenths-field-requires
     add-tenths-field-2
-    add-tenths-field-3
-    tenths-field-requires-2
-    add-tenths-field-4
-    add-tenths-field-5
-    tenths-field-requires-3
-    add-tenths-field-6
-    add-tenths-field-7
-    tenths-field-requires-4
+    tenths-field-requires
+    add-class
+    loop-less
+    loop-again
     put-requires
     same-length
     returns)

@@ -1,5 +1,4 @@
--- `lines::number_field` meets its contract: the space, and the number behind it.
--- Assumes nothing.
+-- The space, and the number behind it.
 use borrow.Author.Needs.{needs}
 use Rattle.lines.proofs.Writing.{joined}
 use Rattle.lines.proofs.number_field.Statement.{statement}

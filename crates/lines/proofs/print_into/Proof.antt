@@ -1,22 +1,20 @@
--- `lines::print_into` meets its contract: one law for each case of the text. An accepted sheet's records lie inside the result buffer.
--- Assumes nothing.
+-- One law for each case of the text; it fits, since the records of an accepted sheet lie inside the result buffer, and no refusal is longer.
 use native.Mathlib.Omega.{arith}
 use borrow.Author.Needs.{needs}
-use Rattle.lines.specs.Lines.{emptyResults}
-use Rattle.lines.proofs.Printed.{too-much, lines-printed, refusal-printed, records-inside}
+use Rattle.lines.specs.Lines.{largestInput, tooMuchInput, emptyResults}
+use Rattle.lines.proofs.LineLengths.{short-refusal}
+use Rattle.lines.proofs.Printed.{too-much, lines-printed, refusal-printed, records-inside, whole-printed}
 use Rattle.lines.proofs.print_into.Statement.{statement}
 use Rattle.lines.proofs.print_into.Tie as tie
 
 refusal-line-requires : tie.Need-refusal-line-requires
-refusal-line-requires c κs = search needs
-
-same-length : tie.Need-same-length
-same-length c = search needs
+refusal-line-requires c κs = omega (arith, short-refusal tooMuchInput largestInput (omega arith) (omega arith))
 
 returns : tie.Need-returns
 returns c =
-    rw (too-much (c .before .before .before .before .before .before .before .args .input .now) (c .before .before .before .before .if1 .taken))
-    (c .before .before .refusal-line .ensures)
+    let test = c .before .before in
+    let input = test .before .before .args .input .now in
+    whole-printed input (rw (too-much input (test .if1 .taken)) (c .refusal-line .ensures))
 
 slice-aggregate-grade : tie.Need-slice-aggregate-grade
 slice-aggregate-grade c = search needs
@@ -30,51 +28,49 @@ slice-aggregate-unit-lines c = search needs
 unit-lines-requires : tie.Need-unit-lines-requires
 unfolding emptyResults
 unit-lines-requires c κs =
-    let input = c .before .before .before .before .before .before .before .before .before .before .args .input .now in
-    let grade = c .before .before .before .before .before .grade in
+    let graded = c .before .before .before .before .before in
+    let input = graded .before .before .before .before .args .input .now in
+    let grade = graded .grade in
     let inside = records-inside input (grade .result) (grade .last .1 .0) (grade .ensures) (c .before .before .if2 .taken) in
     (inside .0, omega (arith, inside .1))
-
-same-length-2 : tie.Need-same-length-2
-same-length-2 c = search needs
 
 returns-2 : tie.Need-returns-2
 unfolding emptyResults
 returns-2 c =
-    let input = c .before .before .before .before .before .before .before .before .before .before .before .before .before .args .input .now in
-    let grade = c .before .before .before .before .before .before .before .before .grade in
-    let within = c .before .before .before .before .before .before .before .before .before .before .if1 .left in
-    rw (lines-printed input (grade .result) (grade .last .1 .0) (grade .ensures) within (c .before .before .before .before .before .if2 .taken))
-    (c .before .before .unit-lines .ensures)
+    let accepted = c .before .before .before in
+    let graded = accepted .before .before .before in
+    let input = graded .before .before .before .before .args .input .now in
+    let within = graded .before .before .if1 .left in
+    let grade = graded .grade in
+    let lines = lines-printed input (grade .result) (grade .last .1 .0) (grade .ensures) within (accepted .if2 .taken) in
+    whole-printed input (rw lines (c .unit-lines .ensures))
 
 refusal-line-requires-2 : tie.Need-refusal-line-requires-2
-refusal-line-requires-2 c κs = search needs
-
-same-length-3 : tie.Need-same-length-3
-same-length-3 c = search needs
+refusal-line-requires-2 c κs =
+    let answer = c .before .before .before .before .grade .result in
+    omega (arith, short-refusal (answer .number) (answer .offset) (omega arith) (omega arith))
 
 returns-3 : tie.Need-returns-3
 unfolding emptyResults
 returns-3 c =
-    let input = c .before .before .before .before .before .before .before .before .before .before .before .before .args .input .now in
-    let grade = c .before .before .before .before .before .before .before .grade in
-    let within = c .before .before .before .before .before .before .before .before .before .if1 .left in
-    rw (refusal-printed input (grade .result) (grade .last .1 .0) (grade .ensures) within (c .before .before .before .before .if2 .left))
-    (c .before .before .refusal-line2 .ensures)
+    let refused = c .before .before in
+    let graded = refused .before .before .before in
+    let input = graded .before .before .before .before .args .input .now in
+    let within = graded .before .before .if1 .left in
+    let grade = graded .grade in
+    let line = refusal-printed input (grade .result) (grade .last .1 .0) (grade .ensures) within (refused .if2 .left) in
+    whole-printed input (rw line (c .refusal-line2 .ensures))
 
 pub print-into-spec : {M : Type 1} → statement M
 print-into-spec =
     tie.close
     (tie.spec
     refusal-line-requires
-    same-length
     returns
     slice-aggregate-grade
     grade-requires
     slice-aggregate-unit-lines
     unit-lines-requires
-    same-length-2
     returns-2
     refusal-line-requires-2
-    same-length-3
     returns-3)

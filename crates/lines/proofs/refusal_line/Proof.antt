@@ -1,10 +1,9 @@
--- `lines::refusal_line` meets its contract: four texts, one behind the other; the room for each by the length of the line.
--- Assumes nothing.
+-- Four texts, one behind the other; the room for each by the length of the line.
 use native.Mathlib.Omega.{arith}
 use borrow.Author.Needs.{needs}
-use Rattle.lines.specs.Lines.{refusedLine, lineWith}
+use Rattle.lines.specs.Lines.{restOfLine, lineWith, refusedLine}
 use Rattle.lines.proofs.Writing.{joined}
-use Rattle.lines.proofs.Decimals.{length-decimal}
+use Rattle.lines.proofs.LineLengths.{length-refusal}
 use Rattle.lines.proofs.refusal_line.Statement.{statement}
 use Rattle.lines.proofs.refusal_line.Tie as tie
 
@@ -12,28 +11,30 @@ slice-aggregate-put-all : tie.Need-slice-aggregate-put-all
 slice-aggregate-put-all c = search needs
 
 put-all-requires : tie.Need-put-all-requires
-put-all-requires c κs = search needs
+put-all-requires c κs =
+    let args = c .before .before .before .args in
+    omega (arith, length-refusal (args .number) (args .offset))
 
 number-field-requires : tie.Need-number-field-requires
 number-field-requires c κs =
     let args = c .before .before .before .before .before .before .before .args in
-    omega (arith, length-decimal 19 (args .number) (omega arith), length-decimal 19 (args .offset) (omega arith))
+    omega (arith, length-refusal (args .number) (args .offset))
 
 number-field-requires-2 : tie.Need-number-field-requires-2
 number-field-requires-2 c κs =
     let args = c .before .before .before .before .before .before .before .before .before .before .before .args in
-    omega (arith, length-decimal 19 (args .number) (omega arith), length-decimal 19 (args .offset) (omega arith))
+    omega (arith, length-refusal (args .number) (args .offset))
 
 put-requires : tie.Need-put-requires
 put-requires c κs =
     let args = c .before .before .before .before .before .before .before .before .before .before .before .before .before .before .before .args in
-    omega (arith, length-decimal 19 (args .number) (omega arith), length-decimal 19 (args .offset) (omega arith))
+    omega (arith, length-refusal (args .number) (args .offset))
 
 same-length : tie.Need-same-length
 same-length c = search needs
 
 returns : tie.Need-returns
-unfolding refusedLine lineWith
+unfolding restOfLine lineWith refusedLine
 returns c =
     let after-offset = c .before .before .before .before in
     let after-number = after-offset .before .before .before .before in

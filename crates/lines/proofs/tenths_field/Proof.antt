@@ -1,13 +1,12 @@
--- `lines::tenths_field` meets its contract: three texts, one behind the other, of the number that was read.
--- Assumes nothing.
+-- The whole part and the fraction, one behind the other, of the number that was read.
 use Prim.Native.Nat.{ℕ}
 use mathlib.Core.Path.{ap}
 use native.Mathlib.Omega.{arith}
-use borrow.Author.Needs.{needs}
 use lib.ListN.{length}
 use Rattle.lines.specs.Lines.{oneDecimal}
 use Rattle.lines.proofs.Writing.{joined}
 use Rattle.lines.proofs.Decimals.{length-tenths}
+use borrow.Author.Needs.{needs}
 use Rattle.lines.proofs.tenths_field.Statement.{statement}
 use Rattle.lines.proofs.tenths_field.Tie as tie
 
@@ -22,20 +21,18 @@ number-field-requires c κs =
     let read = c .before .number-at in
     omega (arith, length-tenths (read .result), ap (λ (n : ℕ). length (oneDecimal n)) (read .ensures))
 
-put-requires : tie.Need-put-requires
-put-requires c κs =
-    let read = c .before .before .before .before .before .number-at in
-    omega (arith, length-tenths (read .result), ap (λ (n : ℕ). length (oneDecimal n)) (read .ensures))
+cast-t12 : tie.Need-cast-t12
+cast-t12 c = search needs
 
-cast-put : tie.Need-cast-put
-cast-put c = search needs
+add-t13 : tie.Need-add-t13
+add-t13 c = search needs
 
-add-put : tie.Need-add-put
-add-put c = search needs
+slice-aggregate-put-all : tie.Need-slice-aggregate-put-all
+slice-aggregate-put-all c = search needs
 
-put-requires-2 : tie.Need-put-requires-2
-put-requires-2 c κs =
-    let read = c .before .before .before .before .before .before .before .before .before .number-at in
+put-all-requires : tie.Need-put-all-requires
+put-all-requires c κs =
+    let read = c .before .before .before .before .before .before .number-at in
     omega (arith, length-tenths (read .result), ap (λ (n : ℕ). length (oneDecimal n)) (read .ensures))
 
 same-length : tie.Need-same-length
@@ -44,11 +41,8 @@ same-length c = search needs
 returns : tie.Need-returns
 unfolding oneDecimal
 returns c =
-    let after-point = c .before .before .before .before in
-    let after-whole = after-point .before .before .before .before in
-    rw (← after-whole .before .before .before .before .number-at .ensures)
-    (joined (after-whole .before .before .number-field .ensures)
-    (joined (after-point .before .before .put .ensures) (c .before .before .put2 .ensures)))
+    let whole = c .before .before .before .before .before .before .before in
+    rw (← whole .before .before .number-at .ensures) (joined (whole .number-field .ensures) (c .before .before .put-all .ensures))
 
 pub tenths-field-spec : {M : Type 1} → statement M
 tenths-field-spec =
@@ -57,9 +51,9 @@ tenths-field-spec =
     number-at-requires
     cast-number-field
     number-field-requires
-    put-requires
-    cast-put
-    add-put
-    put-requires-2
+    cast-t12
+    add-t13
+    slice-aggregate-put-all
+    put-all-requires
     same-length
     returns)

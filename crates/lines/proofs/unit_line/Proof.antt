@@ -1,11 +1,10 @@
--- `lines::unit_line` meets its contract: its four parts, one behind the other; the room for each by the length of the line.
--- Assumes nothing.
+-- Its four parts, one behind the other; the room for each by the length of the line.
 use Prim.Native.Nat.{ℕ}
 use mathlib.Core.Path.{ap}
 use native.Mathlib.Omega.{arith}
 use borrow.Author.Needs.{needs}
 use lib.ListN.{length}
-use Rattle.lines.specs.Lines.{decimal, lineOf, lineWith}
+use Rattle.lines.specs.Lines.{decimal, restOfLine, lineWith, lineOf}
 use Rattle.lines.proofs.Writing.{joined}
 use Rattle.lines.proofs.LineLengths.{length-unit-line}
 use Rattle.lines.proofs.unit_line.Statement.{statement}
@@ -33,26 +32,32 @@ cast-number-field c = search needs
 
 number-field-requires : tie.Need-number-field-requires
 number-field-requires c κs =
-    let args = c .before .before .before .before .before .before .before .before .args in
-    rw (c .before .before .before .before .before .number-at .ensures) (omega (arith, length-unit-line (args .results .now) (args .j)))
+    let read = c .before .before .before .before .before in
+    let args = read .before .before .before .args in
+    rw (read .number-at .ensures) (omega (arith, length-unit-line (args .results .now) (args .j)))
 
 letter-fields-requires : tie.Need-letter-fields-requires
 letter-fields-requires c κs =
-    let args = c .before .before .before .before .before .before .before .before .before .before .before .before .args in
-    let code-length = ap (λ (n : ℕ). length (decimal n)) (c .before .before .before .before .before .before .before .before .before .number-at .ensures) in
+    let after-number = c .before .before .before .before in
+    let read = after-number .before .before .before .before .before in
+    let args = read .before .before .before .args in
+    let code-length = ap (λ (n : ℕ). length (decimal n)) (read .number-at .ensures) in
     (omega arith, omega (arith, length-unit-line (args .results .now) (args .j), code-length))
 
 cusum-fields-requires : tie.Need-cusum-fields-requires
 cusum-fields-requires c κs =
-    let args = c .before .before .before .before .before .before .before .before .before .before .before .before .before .before .before .before .args in
-    let code-length = ap (λ (n : ℕ). length (decimal n)) (c .before .before .before .before .before .before .before .before .before .before .before .before .before .number-at .ensures) in
+    let after-code = c .before .before .before .before in
+    let after-number = after-code .before .before .before .before in
+    let read = after-number .before .before .before .before .before in
+    let args = read .before .before .before .args in
+    let code-length = ap (λ (n : ℕ). length (decimal n)) (read .number-at .ensures) in
     (omega arith, omega (arith, length-unit-line (args .results .now) (args .j), code-length))
 
 same-length : tie.Need-same-length
 same-length c = search needs
 
 returns : tie.Need-returns
-unfolding lineOf lineWith
+unfolding restOfLine lineWith lineOf
 returns c =
     let after-letters = c .before .before .before .before in
     let after-code = after-letters .before .before .before .before in

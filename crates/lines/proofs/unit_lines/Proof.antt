@@ -1,13 +1,12 @@
--- `lines::unit_lines` meets its contract. The loop's invariant: the lines of the units passed are written, none longer than 64 bytes.
--- Assumes nothing.
+-- The loop's invariant: the lines of the units passed are written, none longer than `lineSize`.
 use Prim.Native.Nat.{ℕ, _*_, _-_, _<_, _≤_}
 use mathlib.Core.Path.{_≡_, refl}
 use native.Mathlib.Omega.{arith}
 use borrow.Author.Needs.{needs}
 use lib.ListN.{length}
 use Rattle.encoding.specs.Bytes.{byte}
-use Rattle.lines.specs.Lines.{lineSize, linesOf}
-use Rattle.lines.specs.Wrote.{Wrote}
+use Rattle.lines.specs.Lines.{linesOf}
+use Rattle.lines.specs.Wrote.{Wrote, lineSize}
 use Rattle.lines.proofs.Writing.{nothing-written, line-next}
 use Rattle.lines.proofs.LineLengths.{short-line}
 use Rattle.lines.proofs.unit_lines.Statement.{statement}
@@ -26,9 +25,11 @@ loop-holds c = (search needs, refl, search needs, nothing-written _ 0 (omega ari
 
 unit-line-requires : tie.Need-unit-line-requires Inv-loop μ-loop
 unit-line-requires c κs =
-    let results = c .before .before .before .before .before .args .results .now in
-    let bytes : (at : ℕ) → byte results at < 256 = λ at. omega (arith, c .before .before .before .before .shared-slice-known .given at) in
-    (omega arith, omega (arith, short-line results bytes (c .before .before .loop .j) (omega arith)))
+    let start = c .before .before in
+    let known = start .before .before in
+    let results = known .before .args .results .now in
+    let bytes : (at : ℕ) → byte results at < 256 = λ at. omega (arith, known .shared-slice-known .given at) in
+    (omega arith, omega (arith, short-line results bytes (start .loop .j) (omega arith)))
 
 add-j : tie.Need-add-j Inv-loop μ-loop
 add-j c = search needs
@@ -38,9 +39,11 @@ loop-less c = search needs
 
 loop-again : tie.Need-loop-again Inv-loop μ-loop
 loop-again c =
-    let results = c .before .before .before .before .before .before .before .before .args .results .now in
-    let loop = c .before .before .before .before .before .loop in
-    let bytes : (at : ℕ) → byte results at < 256 = λ at. omega (arith, c .before .before .before .before .before .before .before .shared-slice-known .given at) in (
+    let start = c .before .before .before .before .before in
+    let known = start .before .before in
+    let results = known .before .args .results .now in
+    let bytes : (at : ℕ) → byte results at < 256 = λ at. omega (arith, known .shared-slice-known .given at) in
+    let loop = start .loop in (
       search needs,
       search needs,
       omega (arith, c .before .before .unit-line .ensures .ends, short-line results bytes (loop .j) (omega arith)),

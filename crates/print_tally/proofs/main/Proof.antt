@@ -1,9 +1,8 @@
--- `print_tally::main` is safe: what was read and what is written lie inside their arrays.
--- Assumes nothing.
+-- It is safe: what was read and what is written lie inside their arrays.
 use mathlib.Core.Path.{sym}
-use native.Mathlib.Omega.{arith}
-use borrow.Author.Needs.{needs}
 use lib.Seq.{length-take-le}
+use Rattle.lines.proofs.Printed.{printed-inside}
+use borrow.Author.Needs.{needs}
 use Rattle.print_tally.proofs.main.Statement.{statement}
 use Rattle.print_tally.proofs.main.Tie as tie
 
@@ -24,19 +23,16 @@ slice-aggregate-print-into c =
     let reading = c .before .before .before .read-input in
     sym (length-take-le (reading .result .bytes) (reading .last .0) (reading .ensures))
 
-slice-aggregate-print-into-2 : tie.Need-slice-aggregate-print-into-2
-slice-aggregate-print-into-2 c = search needs
-
 print-into-requires : tie.Need-print-into-requires
 print-into-requires c κs = search needs
 
 array-share-prefix-text : tie.Need-array-share-prefix-text
-array-share-prefix-text c = search needs
+array-share-prefix-text c = printed-inside _ _ (c .print-into .ensures)
 
 slice-aggregate-write-all : tie.Need-slice-aggregate-write-all
 slice-aggregate-write-all c =
-    let print = c .before .before .print-into in
-    sym (length-take-le (print .result) (print .last .1 .0) (omega (arith, print .ensures .inside, print .kept .1 .0)))
+    let print = c .before .print-into in
+    sym (length-take-le (print .result) (print .last .1 .0) (printed-inside _ _ (print .ensures)))
 
 write-all-requires : tie.Need-write-all-requires
 write-all-requires c κs = search needs
@@ -53,7 +49,6 @@ main-spec =
     returns
     array-share-prefix-input
     slice-aggregate-print-into
-    slice-aggregate-print-into-2
     print-into-requires
     array-share-prefix-text
     slice-aggregate-write-all

@@ -1,5 +1,4 @@
--- `print_tally::read_input` meets its contract and ends. The loop's invariant: what was read lies inside the room.
--- Assumes nothing.
+-- The loop's invariant: what was read lies inside the room; it ends as each turn reads a byte or more.
 use Prim.Native.Nat.{_-_, _≤_}
 use mathlib.Core.Path.{_≡_}
 use borrow.Author.Needs.{needs}

@@ -1,5 +1,4 @@
--- `results::bytes_of` meets its contract: byte for byte the definition.
--- Assumes nothing.
+-- Byte for byte the definition, by computation.
 use mathlib.Core.Path.{refl}
 use borrow.Author.Needs.{needs}
 use Rattle.results.specs.Record.{resultBytes, cusumBytes}
@@ -18,35 +17,35 @@ element-copy-out-major c = search needs
 element-copy-out-total : tie.Need-element-copy-out-total
 element-copy-out-total c = search needs
 
-cast-t18 : tie.Need-cast-t18
-cast-t18 c = search needs
+cast-t19 : tie.Need-cast-t19
+cast-t19 c = search needs
 
-cast-t20 : tie.Need-cast-t20
-cast-t20 c = search needs
+cast-t21 : tie.Need-cast-t21
+cast-t21 c = search needs
 
-cast-t23 : tie.Need-cast-t23
-cast-t23 c = search needs
+cast-t24 : tie.Need-cast-t24
+cast-t24 c = search needs
 
-cast-t25 : tie.Need-cast-t25
-cast-t25 c = search needs
+cast-t26 : tie.Need-cast-t26
+cast-t26 c = search needs
 
-cast-t28 : tie.Need-cast-t28
-cast-t28 c = search needs
+cast-t29 : tie.Need-cast-t29
+cast-t29 c = search needs
 
-cast-t30 : tie.Need-cast-t30
-cast-t30 c = search needs
+cast-t31 : tie.Need-cast-t31
+cast-t31 c = search needs
 
-cast-t33 : tie.Need-cast-t33
-cast-t33 c = search needs
+cast-t34 : tie.Need-cast-t34
+cast-t34 c = search needs
 
-cast-t35 : tie.Need-cast-t35
-cast-t35 c = search needs
+cast-t36 : tie.Need-cast-t36
+cast-t36 c = search needs
 
-cast-t38 : tie.Need-cast-t38
-cast-t38 c = search needs
+cast-t39 : tie.Need-cast-t39
+cast-t39 c = search needs
 
-cast-t40 : tie.Need-cast-t40
-cast-t40 c = search needs
+cast-t41 : tie.Need-cast-t41
+cast-t41 c = search needs
 
 returns : tie.Need-returns
 unfolding resultBytes cusumBytes
@@ -60,14 +59,14 @@ bytes-of-spec =
     element-copy-out-severe
     element-copy-out-major
     element-copy-out-total
-    cast-t18
-    cast-t20
-    cast-t23
-    cast-t25
-    cast-t28
-    cast-t30
-    cast-t33
-    cast-t35
-    cast-t38
-    cast-t40
+    cast-t19
+    cast-t21
+    cast-t24
+    cast-t26
+    cast-t29
+    cast-t31
+    cast-t34
+    cast-t36
+    cast-t39
+    cast-t41
     returns)

@@ -1,5 +1,4 @@
--- `results::put` meets its contract. The loop's invariant: what is left to store, stored, gives what all the stores give.
--- Assumes nothing.
+-- The loop's invariant: what is left to store, stored, gives what all the stores give.
 use Prim.Native.Nat.{_-_, _≤_}
 use mathlib.Core.Path.{_≡_, refl, sym, _∙_}
 use native.Mathlib.Omega.{arith}

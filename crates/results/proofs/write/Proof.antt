@@ -1,5 +1,4 @@
--- `results::write` meets its contract: what `put` stores are the bytes of the record.
--- Assumes nothing.
+-- What `put` stores are the bytes of the record.
 use mathlib.Core.Path.{_∙_, ap}
 use borrow.Author.Needs.{needs}
 use lib.Seq.{sets}

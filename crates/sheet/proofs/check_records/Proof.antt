@@ -3,43 +3,83 @@
 use Prim.Native.Nat.{_-_}
 use native.Mathlib.Omega.{arith}
 use lib.ListN.{length}
-use mathlib.Core.Path.{ap}
-use Rattle.layout.specs.Layout.{markAt}
-use Rattle.sheet.specs.declared.Place.{Place}
-use Rattle.layout.proofs.Offsets.{size-ge}
-use Rattle.sheet.proofs.Checking.{Stands, stands-first, few-units, few-records, stands-done, stands-refused, stands-whole, stands-on}
+use Rattle.sheet.proofs.Checking.{Stands, stands-first, stands-done, stands-short, stands-refused, stands-whole, stands-room, stands-less, stands-on}
+use borrow.Author.Needs.{needs}
 use Rattle.sheet.proofs.check_records.Statement.{statement}
 use Rattle.sheet.proofs.check_records.Tie as tie
 
 abbrev Inv-loop : tie.InvT-loop
-Inv-loop bytes place₀ place = Stands bytes place
+Inv-loop bytes place₀ designated₀ place designated = Stands bytes place designated
 
 abbrev μ-loop : tie.MeasureT-loop
-μ-loop bytes place₀ place = length bytes - place .at
+μ-loop bytes place₀ designated₀ place designated = length bytes - place .at
 
-shared-slice-read-t5 : tie.Need-shared-slice-read-t5 Inv-loop μ-loop
-shared-slice-read-t5 c = omega arith
+first-requires : tie.Need-first-requires Inv-loop μ-loop
+first-requires c κs = search needs
+
+shared-slice-read-designated : tie.Need-shared-slice-read-designated Inv-loop μ-loop
+shared-slice-read-designated c = search needs
 
 loop-holds : tie.Need-loop-holds Inv-loop μ-loop
-loop-holds c = stands-first _ (c .before .before .pre)
+loop-holds c = stands-first _ (c .before .before .before .pre) _ (c .before .first .ensures)
 
-refusal-at-requires : tie.Need-refusal-at-requires Inv-loop μ-loop
-refusal-at-requires c κs = c .before .before .loop .inv .within
+sub-if1 : tie.Need-sub-if1 Inv-loop μ-loop
+sub-if1 c = c .before .loop .inv .within
+
+mark-at-requires : tie.Need-mark-at-requires Inv-loop μ-loop
+mark-at-requires c κs = omega (arith, c .before .before .loop .inv .within, c .if1 .taken)
+
+refusal-by-requires : tie.Need-refusal-by-requires Inv-loop μ-loop
+refusal-by-requires c κs = c .before .before .before .loop .inv .within
 
 returns : tie.Need-returns Inv-loop μ-loop
-returns c = stands-refused _ _ (c .before .before .before .before .loop .inv) (c .before .before .if1 .taken) _ (c .before .refusal-at .ensures) (c .if2 .taken)
+returns c =
+    let refusal = c .before in
+    let mark = refusal .before in
+    let start = mark .before in
+    stands-refused _ _ _ (start .before .before .loop .inv) (omega (arith, start .if1 .taken)) _ (mark .mark-at .ensures) _ (refusal .refusal-by .ensures)
+    (c .if2 .taken)
 
-place-after-requires : tie.Need-place-after-requires Inv-loop μ-loop
-place-after-requires c κs = (stands-whole _ _ (c .before .before .before .before .loop .inv) (c .before .before .if1 .taken) _ (c .before .refusal-at .ensures) (c .if2 .left), few-units _ _ (c .before .before .before .before .loop .inv), few-records _ _ (c .before .before .before .before .loop .inv))
+designated-after-requires : tie.Need-designated-after-requires Inv-loop μ-loop
+designated-after-requires c κs =
+    let refusal = c .before in
+    let mark = refusal .before in
+    let start = mark .before in
+    stands-whole _ _ _ (start .before .before .loop .inv) (omega (arith, start .if1 .taken)) _ (mark .mark-at .ensures) _ (refusal .refusal-by .ensures)
+    (c .if2 .left)
+
+past-requires : tie.Need-past-requires Inv-loop μ-loop
+past-requires c κs =
+    let refusal = c .before .before in
+    let mark = refusal .before in
+    let start = mark .before in
+    let loop = start .before .before in
+    stands-room _ _ _ (loop .loop .inv) (omega (arith, start .if1 .taken)) _ (mark .mark-at .ensures) _ (refusal .refusal-by .ensures) (c .before .if2 .left)
+    (omega (arith, loop .before .before .before .before .good))
 
 loop-less : tie.Need-loop-less Inv-loop μ-loop
-loop-less c = omega (arith, ap (λ (p : Place). p .at) (c .place-after .ensures), size-ge (markAt (c .before .before .before .before .before .before .before .before .args .bytes .now) (c .before .before .before .before .before .loop .place .at)))
+loop-less c =
+    let refusal = c .before .before .before in
+    let mark = refusal .before in
+    let start = mark .before in
+    stands-less _ _ _ (start .before .before .loop .inv) (omega (arith, start .if1 .taken)) _ (mark .mark-at .ensures) _ (refusal .refusal-by .ensures)
+    (c .before .before .if2 .left) _ (c .past .ensures)
 
 loop-again : tie.Need-loop-again Inv-loop μ-loop
-loop-again c = stands-on _ _ (c .before .before .before .before .before .loop .inv) (c .before .before .before .if1 .taken) _ (c .before .before .refusal-at .ensures) (c .before .if2 .left) _ (c .place-after .ensures)
+loop-again c =
+    let refusal = c .before .before .before in
+    let mark = refusal .before in
+    let start = mark .before in
+    stands-on _ _ _ (start .before .before .loop .inv) (omega (arith, start .if1 .taken)) _ (mark .mark-at .ensures) _ (refusal .refusal-by .ensures)
+    (c .before .before .if2 .left) _ _ (c .past .ensures) (c .before .designated-after .ensures)
 
 returns-2 : tie.Need-returns-2 Inv-loop μ-loop
-returns-2 c = stands-done _ _ (c .before .before .loop .inv) (c .if1 .left)
+returns-2 c =
+    let loop = c .before .before .before .before .loop in
+    stands-short _ _ _ (loop .inv) (c .if3 .taken) (omega (arith, loop .inv .within, c .before .before .if1 .left))
+
+returns-3 : tie.Need-returns-3 Inv-loop μ-loop
+returns-3 c = stands-done _ _ _ (c .before .before .before .before .loop .inv) (c .if3 .left)
 
 pub check-records-spec : {M : Type 1} → statement M
 check-records-spec =
@@ -47,11 +87,16 @@ check-records-spec =
     (tie.spec
     Inv-loop
     μ-loop
-    shared-slice-read-t5
+    first-requires
+    shared-slice-read-designated
     loop-holds
-    refusal-at-requires
+    sub-if1
+    mark-at-requires
+    refusal-by-requires
     returns
-    place-after-requires
+    designated-after-requires
+    past-requires
     loop-less
     loop-again
-    returns-2)
+    returns-2
+    returns-3)

@@ -21,20 +21,34 @@ shared-slice-read-if3 c = search needs
 
 returns-3 : tie.Need-returns-3
 unfolding planRefusal noPlanRecord refusedIf
-returns-3 c = rw (le-ltb _ _ (c .before .before .before .before .if1 .left), ← c .before .before .before .number-at .ensures, eq-eqb _ _ (c .before .before .if2 .left), lt-ltb _ _ (c .if3 .taken))
+returns-3 c =
+    let marked = c .before .before in
+    rw (
+      le-ltb _ _ (marked .before .before .if1 .left),
+      ← marked .before .number-at .ensures,
+      eq-eqb _ _ (marked .if2 .left),
+      lt-ltb _ _ (c .if3 .taken),
+    )
 
 plan-of-requires : tie.Need-plan-of-requires
 plan-of-requires c κs = search needs
-
-table-requires : tie.Need-table-requires
-table-requires c κs = search needs
 
 table-refusal-requires : tie.Need-table-refusal-requires
 table-refusal-requires c κs = search needs
 
 returns-4 : tie.Need-returns-4
 unfolding planRefusal noPlanRecord refusedIf
-returns-4 c = rw (le-ltb _ _ (c .before .before .before .before .before .before .before .if1 .left), ← c .before .before .before .before .before .before .number-at .ensures, eq-eqb _ _ (c .before .before .before .before .before .if2 .left), le-ltb _ _ (c .before .before .before .if3 .left), c .table-refusal .ensures, c .before .table .ensures, c .before .before .plan-of .ensures)
+returns-4 c =
+    let graded = c .before .before in
+    let marked = graded .before .before in
+    rw (
+      le-ltb _ _ (marked .before .before .if1 .left),
+      ← marked .before .number-at .ensures,
+      eq-eqb _ _ (marked .if2 .left),
+      le-ltb _ _ (graded .if3 .left),
+      c .table-refusal .ensures,
+      c .before .plan-of .ensures,
+    )
 
 pub plan-refusal-spec : {M : Type 1} → statement M
 plan-refusal-spec =
@@ -46,6 +60,5 @@ plan-refusal-spec =
     shared-slice-read-if3
     returns-3
     plan-of-requires
-    table-requires
     table-refusal-requires
     returns-4)

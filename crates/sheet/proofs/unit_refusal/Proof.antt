@@ -3,6 +3,7 @@ use native.Mathlib.Omega.{arith}
 use Prim.Native.Nat.{_+_}
 use lib.ListN.{length}
 use borrow.Author.Tests.{lt-ltb, le-ltb, le-leb, lt-leb}
+use Rattle.layout.specs.Layout.{unitSize}
 use Rattle.sheet.specs.Refusals.{unitRefusal, refusedIf}
 use borrow.Author.Needs.{needs}
 use Rattle.sheet.proofs.unit_refusal.Statement.{statement}
@@ -13,11 +14,15 @@ sub-if1 c = search needs
 
 returns : tie.Need-returns
 unfolding unitRefusal refusedIf
-returns c = rw (lt-ltb (length (c .before .before .args .bytes .now)) (c .before .before .args .at + 14) (omega arith))
+returns c =
+    let args = c .before .before .args in
+    rw (lt-ltb (length (args .bytes .now)) (args .at + unitSize) (omega arith))
 
 returns-2 : tie.Need-returns-2
 unfolding unitRefusal refusedIf
-returns-2 c = rw (le-ltb (length (c .before .before .before .args .bytes .now)) (c .before .before .before .args .at + 14) (omega arith), le-leb _ _ (c .if2 .taken))
+returns-2 c =
+    let args = c .before .before .before .args in
+    rw (le-ltb (length (args .bytes .now)) (args .at + unitSize) (omega arith), le-leb _ _ (c .if2 .taken))
 
 sample-unit-at-requires : tie.Need-sample-unit-at-requires
 sample-unit-at-requires c κs = search needs
@@ -27,7 +32,17 @@ count-too-large-requires c κs = search needs
 
 returns-3 : tie.Need-returns-3
 unfolding unitRefusal refusedIf
-returns-3 c = rw (le-ltb (length (c .before .before .before .before .before .before .args .bytes .now)) (c .before .before .before .before .before .before .args .at + 14) (omega arith), lt-leb _ _ (c .before .before .before .if2 .left), ← c .before .before .sample-unit-at .ensures, ← c .before .count-too-large .ensures, c .if3 .taken)
+returns-3 c =
+    let counts = c in
+    let few = counts .before .before .before in
+    let args = few .before .before .before .args in
+    rw (
+      le-ltb (length (args .bytes .now)) (args .at + unitSize) (omega arith),
+      lt-leb _ _ (few .if2 .left),
+      ← counts .before .before .sample-unit-at .ensures,
+      ← counts .before .count-too-large .ensures,
+      c .if3 .taken,
+    )
 
 add-if4 : tie.Need-add-if4
 add-if4 c = search needs
@@ -43,11 +58,33 @@ shared-slice-read-if4-2 c = search needs
 
 returns-4 : tie.Need-returns-4
 unfolding unitRefusal refusedIf
-returns-4 c = rw (le-ltb (length (c .before .before .before .before .before .before .before .before .before .args .bytes .now)) (c .before .before .before .before .before .before .before .before .before .args .at + 14) (omega arith), lt-leb _ _ (c .before .before .before .before .before .before .if2 .left), ← c .before .before .before .before .before .sample-unit-at .ensures, ← c .before .before .before .before .count-too-large .ensures, c .before .before .before .if3 .left, c .if4 .taken)
+returns-4 c =
+    let counts = c .before .before .before in
+    let few = counts .before .before .before in
+    let args = few .before .before .before .args in
+    rw (
+      le-ltb (length (args .bytes .now)) (args .at + unitSize) (omega arith),
+      lt-leb _ _ (few .if2 .left),
+      ← counts .before .before .sample-unit-at .ensures,
+      ← counts .before .count-too-large .ensures,
+      counts .if3 .left,
+      c .if4 .taken,
+    )
 
 returns-5 : tie.Need-returns-5
 unfolding unitRefusal refusedIf
-returns-5 c = rw (le-ltb (length (c .before .before .before .before .before .before .before .before .before .args .bytes .now)) (c .before .before .before .before .before .before .before .before .before .args .at + 14) (omega arith), lt-leb _ _ (c .before .before .before .before .before .before .if2 .left), ← c .before .before .before .before .before .sample-unit-at .ensures, ← c .before .before .before .before .count-too-large .ensures, c .before .before .before .if3 .left, c .if4 .left)
+returns-5 c =
+    let counts = c .before .before .before in
+    let few = counts .before .before .before in
+    let args = few .before .before .before .args in
+    rw (
+      le-ltb (length (args .bytes .now)) (args .at + unitSize) (omega arith),
+      lt-leb _ _ (few .if2 .left),
+      ← counts .before .before .sample-unit-at .ensures,
+      ← counts .before .count-too-large .ensures,
+      counts .if3 .left,
+      c .if4 .left,
+    )
 
 pub unit-refusal-spec : {M : Type 1} → statement M
 unit-refusal-spec =

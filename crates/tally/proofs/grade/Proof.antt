@@ -1,8 +1,7 @@
--- `tally::grade` meets its contract.
--- Each return follows from the tests on the way and what the callees promise.
+-- By cases on the verdict of the check.
 use mathlib.Core.Path.{sym, _∙_, ap}
 use Rattle.tally.specs.declared.Answer.{Answer}
-use Rattle.tally.specs.Outcome.{outcome, outcomeBy}
+use Rattle.tally.specs.Outcome.{outcomeBy, outcome}
 use borrow.Author.Needs.{needs}
 use Rattle.tally.proofs.grade.Statement.{statement}
 use Rattle.tally.proofs.grade.Tie as tie
@@ -30,11 +29,21 @@ same-length c = search needs
 
 returns : tie.Need-returns
 unfolding outcome
-returns c = c .before .before .grade-accepted .ensures ∙ sym (ap (outcomeBy (c .before .before .before .before .before .before .before .before .before .before .args .sheet .now) (c .before .before .before .before .before .before .before .before .before .before .args .results .now)) (sym (c .before .before .before .before .before .before .before .check .ensures) ∙ c .before .before .before .before .before .records .given .1))
+returns c =
+    let told = c .before .before .before .before .before in
+    let checked = told .before .before in
+    let start = checked .before .before .before in
+    c .before .before .grade-accepted .ensures
+    ∙ sym (ap (outcomeBy (start .args .sheet .now) (start .args .results .now)) (sym (checked .check .ensures) ∙ told .records .given .1))
 
 returns-2 : tie.Need-returns-2
 unfolding outcome outcomeBy
-returns-2 c = ap (λ (a : Answer). record { answer = a; buffer = c .before .before .before .before .before .before .before .args .results .now }) (c .refusal .ensures) ∙ sym (ap (outcomeBy (c .before .before .before .before .before .before .before .args .sheet .now) (c .before .before .before .before .before .before .before .args .results .now)) (sym (c .before .before .before .before .check .ensures) ∙ c .before .before .number .given .1))
+returns-2 c =
+    let told = c .before .before in
+    let checked = told .before .before in
+    let start = checked .before .before .before in
+    ap (λ (a : Answer). record { answer = a; buffer = start .args .results .now }) (c .refusal .ensures)
+    ∙ sym (ap (outcomeBy (start .args .sheet .now) (start .args .results .now)) (sym (checked .check .ensures) ∙ told .number .given .1))
 
 pub grade-spec : {M : Type 1} → statement M
 grade-spec =

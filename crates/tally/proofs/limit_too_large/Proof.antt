@@ -1,5 +1,4 @@
--- `tally::limit_too_large` meets its contract.
--- The return follows from what the callees promise.
+-- Whether an L is too large for two bytes: the comparison itself, as a number of two bytes fits in four.
 use Rattle.tally.specs.Outcome.{limitTooLarge}
 use borrow.Author.Needs.{needs}
 use Rattle.tally.proofs.limit_too_large.Statement.{statement}

@@ -1,16 +1,18 @@
--- `tally_cases::main` meets its contract.
--- The loop's invariant and measure come first; each need is answered from it.
-use Prim.Native.Nat.{_≤_, _-_}
+-- It ends: the loop's invariant is that no more cases than the most are counted.
+use Prim.Native.Nat.{ℕ, _≤_, _-_}
 use native.Mathlib.Omega.{arith}
 use borrow.Author.Needs.{needs}
 use Rattle.tally_cases.proofs.main.Statement.{statement}
 use Rattle.tally_cases.proofs.main.Tie as tie
 
+abbrev mostCases : ℕ
+mostCases = 10000
+
 abbrev Inv-loop : tie.InvT-loop
-Inv-loop number₀ number = number ≤ 10000
+Inv-loop number₀ number = number ≤ mostCases
 
 abbrev μ-loop : tie.MeasureT-loop
-μ-loop number₀ number = 10000 - number
+μ-loop number₀ number = mostCases - number
 
 loop-holds : tie.Need-loop-holds Inv-loop μ-loop
 loop-holds c = omega arith

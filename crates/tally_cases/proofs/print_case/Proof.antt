@@ -1,5 +1,4 @@
--- `tally_cases::print_case` meets its contract.
--- Each return follows from the tests on the way and what the callees promise.
+-- It is safe: the bytes that were read lie inside the room.
 use mathlib.Core.Path.{sym}
 use lib.Seq.{length-take-le}
 use borrow.Author.Needs.{needs}
@@ -8,9 +7,6 @@ use Rattle.tally_cases.proofs.print_case.Tie as tie
 
 read-length-requires : tie.Need-read-length-requires
 read-length-requires c κs = search needs
-
-add-if1 : tie.Need-add-if1
-add-if1 c = search needs
 
 returns : tie.Need-returns
 returns c = search needs
@@ -28,7 +24,9 @@ array-share-prefix-input : tie.Need-array-share-prefix-input
 array-share-prefix-input c = search needs
 
 slice-aggregate-print-sheet : tie.Need-slice-aggregate-print-sheet
-slice-aggregate-print-sheet c = sym (length-take-le (c .before .before .before .read-sheet .result) (c .before .before .before .read-sheet .last .0) (c .before .before .before .read-sheet .ensures))
+slice-aggregate-print-sheet c =
+    let read = c .before .before .before .read-sheet in
+    sym (length-take-le (read .result) (read .last .0) (read .ensures))
 
 print-sheet-requires : tie.Need-print-sheet-requires
 print-sheet-requires c κs = search needs
@@ -41,7 +39,6 @@ print-case-spec =
     tie.close
     (tie.spec
     read-length-requires
-    add-if1
     returns
     slice-aggregate-read-sheet
     read-sheet-requires

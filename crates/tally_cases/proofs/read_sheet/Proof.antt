@@ -1,5 +1,4 @@
--- `tally_cases::read_sheet` meets its contract.
--- Each return follows from the tests on the way and what the callees promise.
+-- What is read lies inside the part of the room that was lent.
 use mathlib.Core.Path.{sym}
 use native.Mathlib.Omega.{arith}
 use lib.ListN.{length-append}
@@ -15,7 +14,9 @@ slice-relend-prefix-read-full : tie.Need-slice-relend-prefix-read-full
 slice-relend-prefix-read-full c = search needs
 
 slice-aggregate-read-full : tie.Need-slice-aggregate-read-full
-slice-aggregate-read-full c = sym (length-take-le (c .before .before .before .args .size) (c .before .before .before .args .room .now) (c .before .if1 .left))
+slice-aggregate-read-full c =
+    let args = c .before .before .before .args in
+    sym (length-take-le (args .size) (args .room .now) (c .before .if1 .left))
 
 read-full-requires : tie.Need-read-full-requires
 read-full-requires c κs = search needs

@@ -1,82 +1,105 @@
--- `units::step_classes` meets its contract.
--- The return follows from what the callees promise.
-use Rattle.units.specs.Conditions.{any}
+-- The loop's invariant: every class below this one has its new CuSum, and a class fails if one below did or one that is left does.
+use Prim.Native.Nat.{ℕ, _-_, _≤_}
+use mathlib.Core.Path.{_≡_, refl, ap}
+use mathlib.Core.Bool.{Bool}
+use mathlib.Core.List.{List}
+use native.Mathlib.Omega.{arith}
+use lib.ListN.{length}
+use Rattle.cusum.specs.declared.PlanNumbers.{PlanNumbers}
+use Rattle.cusum.specs.declared.Cusum.{Cusum}
+use Rattle.cusum.specs.Step.{fails, newCusum}
+use Rattle.units.specs.Words.{classes, zeroCusum, inClass, countIn, tenthsIn}
 use Rattle.units.specs.Unit.{steppedIn}
-use Rattle.units.proofs.Tests.{or-false}
+use Rattle.units.proofs.Lists.{Filled, fill-first, fill-next, fill-last, Tested, tested-first, tested-next, tested-last}
 use borrow.Author.Needs.{needs}
 use Rattle.units.proofs.step_classes.Statement.{statement}
 use Rattle.units.proofs.step_classes.Tie as tie
 
-array-copy-out-step : tie.Need-array-copy-out-step
+abbrev Stepped : List PlanNumbers → List Cusum → List ℕ → List Cusum → Bool → ℕ → Type 0
+Stepped row cusums counts new failed class =
+    Filled (length classes) (λ k. record { tenths = newCusum (inClass row k) (tenthsIn cusums k) (countIn counts k) }) zeroCusum new class
+    × Tested (length classes) (λ k. fails (inClass row k) (tenthsIn cusums k) (countIn counts k)) failed class
+
+all-stepped : (row : List PlanNumbers) (cusums : List Cusum) {counts counts' : List ℕ} {new : List Cusum} {failed : Bool} {class : ℕ}
+    → counts ≡ counts' → Stepped row cusums counts new failed class → length classes ≤ class
+    → record { cusums = new; fails = failed } ≡ steppedIn row cusums counts'
+unfolding steppedIn
+all-stepped row cusums same (filled, tested) past = rw (← same, fill-last filled past, tested-last tested past)
+
+abbrev Inv-loop : tie.InvT-loop
+Inv-loop row cusums counts new₀ fails₀ class₀ new fails class = Stepped row cusums counts new fails class
+
+abbrev μ-loop : tie.MeasureT-loop
+μ-loop row cusums counts new₀ fails₀ class₀ new fails class = length classes - class
+
+counts-of-requires : tie.Need-counts-of-requires Inv-loop μ-loop
+counts-of-requires c κs = search needs
+
+loop-holds : tie.Need-loop-holds Inv-loop μ-loop
+loop-holds c = (fill-first refl, tested-first)
+
+mul-step : tie.Need-mul-step Inv-loop μ-loop
+mul-step c = search needs
+
+array-copy-out-step : tie.Need-array-copy-out-step Inv-loop μ-loop
 array-copy-out-step c = search needs
 
-array-copy-out-step-2 : tie.Need-array-copy-out-step-2
+mul-step-2 : tie.Need-mul-step-2 Inv-loop μ-loop
+mul-step-2 c = search needs
+
+array-copy-out-step-2 : tie.Need-array-copy-out-step-2 Inv-loop μ-loop
 array-copy-out-step-2 c = search needs
 
-array-read-step : tie.Need-array-read-step
+mul-step-3 : tie.Need-mul-step-3 Inv-loop μ-loop
+mul-step-3 c = search needs
+
+array-read-step : tie.Need-array-read-step Inv-loop μ-loop
 array-read-step c = search needs
 
-step-requires : tie.Need-step-requires
+step-requires : tie.Need-step-requires Inv-loop μ-loop
 step-requires c κs = search needs
 
-array-copy-out-step-3 : tie.Need-array-copy-out-step-3
-array-copy-out-step-3 c = search needs
+mul-new : tie.Need-mul-new Inv-loop μ-loop
+mul-new c = search needs
 
-array-copy-out-step-4 : tie.Need-array-copy-out-step-4
-array-copy-out-step-4 c = search needs
+array-set-from-new : tie.Need-array-set-from-new Inv-loop μ-loop
+array-set-from-new c = search needs
 
-array-read-step-2 : tie.Need-array-read-step-2
-array-read-step-2 c = search needs
+add-class : tie.Need-add-class Inv-loop μ-loop
+add-class c = search needs
 
-step-requires-2 : tie.Need-step-requires-2
-step-requires-2 c κs = search needs
+loop-less : tie.Need-loop-less Inv-loop μ-loop
+loop-less c = search needs
 
-array-copy-out-step-5 : tie.Need-array-copy-out-step-5
-array-copy-out-step-5 c = search needs
+loop-again : tie.Need-loop-again Inv-loop μ-loop
+loop-again c =
+    let stepped = c .before .before in
+    let loop = stepped .before .before .before .before .loop in (
+      fill-next (loop .inv .0) (omega arith) (ap (λ s. s .cusum) (stepped .step .ensures)),
+      tested-next (loop .inv .1) (omega arith) (ap (λ s. s .fails) (stepped .step .ensures)),
+    )
 
-array-copy-out-step-6 : tie.Need-array-copy-out-step-6
-array-copy-out-step-6 c = search needs
-
-array-read-step-3 : tie.Need-array-read-step-3
-array-read-step-3 c = search needs
-
-step-requires-3 : tie.Need-step-requires-3
-step-requires-3 c κs = search needs
-
-array-copy-out-step-7 : tie.Need-array-copy-out-step-7
-array-copy-out-step-7 c = search needs
-
-array-copy-out-step-8 : tie.Need-array-copy-out-step-8
-array-copy-out-step-8 c = search needs
-
-array-read-step-4 : tie.Need-array-read-step-4
-array-read-step-4 c = search needs
-
-step-requires-4 : tie.Need-step-requires-4
-step-requires-4 c κs = search needs
-
-returns : tie.Need-returns
-unfolding steppedIn any
-returns c = rw (or-false, c .before .before .before .before .before .before .before .before .before .before .before .before .before .before .before .before .before .step .ensures, c .before .before .before .before .before .before .before .before .before .before .before .before .before .before .step2 .ensures, c .before .before .before .before .before .before .before .before .before .before .before .step3 .ensures, c .before .before .before .before .before .before .before .before .step4 .ensures)
+returns : tie.Need-returns Inv-loop μ-loop
+returns c = all-stepped _ _ (c .before .before .counts-of .ensures) (c .before .loop .inv) (omega arith)
 
 pub step-classes-spec : {M : Type 1} → statement M
 step-classes-spec =
     tie.close
     (tie.spec
+    Inv-loop
+    μ-loop
+    counts-of-requires
+    loop-holds
+    mul-step
     array-copy-out-step
+    mul-step-2
     array-copy-out-step-2
+    mul-step-3
     array-read-step
     step-requires
-    array-copy-out-step-3
-    array-copy-out-step-4
-    array-read-step-2
-    step-requires-2
-    array-copy-out-step-5
-    array-copy-out-step-6
-    array-read-step-3
-    step-requires-3
-    array-copy-out-step-7
-    array-copy-out-step-8
-    array-read-step-4
-    step-requires-4
+    mul-new
+    array-set-from-new
+    add-class
+    loop-less
+    loop-again
     returns)

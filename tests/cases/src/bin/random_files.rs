@@ -4,9 +4,9 @@
 //! standard input, and compares what it prints with what the grader prints. A signal, an exit status
 //! other than 0 or a difference fails: the file is written and named, with the commands to see both.
 
-use grader::generate::{self, Dice};
+use grader::failure;
+use grader::generate::{self, seed_of, Counts, Dice};
 use grader::sheet::Record;
-use std::collections::BTreeMap;
 use std::io::Write;
 use std::process::{Command, Output, Stdio};
 use std::sync::atomic::{AtomicU64, Ordering::Relaxed};
@@ -113,28 +113,26 @@ fn fault(output: &Output, expected: &str) -> Option<String> {
     Some(format!("line {} differs: {}, grader {}", same + 1, line(&printed), line(expected)))
 }
 
-/// How often each kind of file and each answer came up; names that must come up are put in at first.
-type Counts = BTreeMap<String, usize>;
-
+/// Zero for each kind of file and each answer that must come up.
 fn names() -> Counts {
     let numbers = (0..=12).chain([15]).map(|number| format!("number {number:02}"));
     let kinds = ["65,536 bytes accepted", "refused at an offset above 65,000", "1,000 lines"];
-    numbers.chain(kinds.map(String::from)).map(|name| (name, 0)).collect()
+    Counts(numbers.chain(kinds.map(String::from)).map(|name| (name, 0)).collect())
 }
 
 fn note(counts: &mut Counts, kind: &str, file: &[u8], expected: &str) {
-    let mut add = |name: String| *counts.entry(name).or_default() += 1;
-    add(format!("file: {kind}"));
+    let mut add = |name: &str| counts.add(name, 1);
+    add(&format!("file: {kind}"));
     let refusal: Option<Vec<usize>> = expected.strip_prefix("refused ").map(|words| {
         words.split_whitespace().map(|word| word.parse().expect("a number")).collect()
     });
-    add(format!("number {:02}", refusal.as_ref().map_or(0, |refusal| refusal[0])));
+    add(&format!("number {:02}", refusal.as_ref().map_or(0, |refusal| refusal[0])));
     match refusal {
         Some(refusal) if (65_001..MOST).contains(&refusal[1]) => {
-            add("refused at an offset above 65,000".into());
+            add("refused at an offset above 65,000");
         }
-        None if file.len() == MOST => add("65,536 bytes accepted".into()),
-        None if expected.lines().count() == 1_000 => add("1,000 lines".into()),
+        None if file.len() == MOST => add("65,536 bytes accepted"),
+        None if expected.lines().count() == 1_000 => add("1,000 lines"),
         _ => {}
     }
 }
@@ -149,7 +147,6 @@ fn main() {
         arguments.get(place).map_or(otherwise, |word| word.parse().expect("a number"))
     };
     let (files, seed) = (number(1, 10_000), number(2, 19_780_801));
-    let seed_of = |index: u64| seed.wrapping_mul(1_000_003).wrapping_add(index);
     let start = std::time::Instant::now();
     // The first file at fault, so that all workers stop there.
     let first_fault = AtomicU64::new(files);
@@ -160,7 +157,7 @@ fn main() {
             if index >= first_fault.load(Relaxed) {
                 break;
             }
-            let (kind, file) = file(seed_of(index));
+            let (kind, file) = file(seed_of(seed, index));
             let expected = grader::print(&file);
             note(&mut counts, kind, &file, &expected);
             bytes += file.len();
@@ -176,19 +173,17 @@ fn main() {
             (0..workers).map(|worker| scope.spawn(move || work(worker))).collect();
         for thread in threads {
             let (more, more_bytes) = thread.join().expect("a worker");
-            more.into_iter().for_each(|(name, times)| *counts.entry(name).or_default() += times);
+            more.0.iter().for_each(|(name, &times)| counts.add(name, times));
             bytes += more_bytes;
         }
     });
     let at_fault = first_fault.into_inner();
     if at_fault < files {
-        report(program, seed_of(at_fault));
+        report(program, seed_of(seed, at_fault));
     }
-    for (name, times) in &counts {
-        println!("{times:>9}  {name}");
-    }
+    print!("{counts}");
     // A short run need not have everything.
-    if let Some((name, _)) = counts.iter().find(|(_, &times)| times == 0 && files >= 10_000) {
+    if let Some(name) = counts.missing().find(|_| files >= 10_000) {
         println!("random_files: no file has: {name}");
         std::process::exit(1);
     }
@@ -201,15 +196,6 @@ fn report(program: &str, seed: u64) -> ! {
     let (kind, file) = file(seed);
     let what = fault(&run(program, &file), &grader::print(&file))
         .unwrap_or("was at fault at first, and not when run once more".into());
-    let path = std::env::temp_dir().join(format!("hatmuyon-random-{seed}.sheet"));
-    std::fs::write(&path, &file).expect("cannot write the file");
-    println!("random_files: {program} {what}");
-    println!("  the file: {} ({kind}, {} bytes, seed {seed})", path.display(), file.len());
-    let grader = concat!(env!("CARGO_MANIFEST_DIR"), "/../grader/Cargo.toml");
-    println!("  see both: {program} < {}", path.display());
-    println!(
-        "            cargo run -q --release --offline --manifest-path {grader} < {}",
-        path.display()
-    );
-    std::process::exit(1);
+    let what = format!("random_files: {program} {what}\n  {kind}, {} bytes", file.len());
+    failure::end(&what, &format!("hatmuyon-random-{seed}.sheet"), &file, program)
 }

@@ -1,8 +1,7 @@
--- `cusum::Cusum::step` meets its contract.
--- By the laws of the step, with omega for the ranges.
-use borrow.Author.Needs.{needs}
+-- Rule 2 by what is above T: the smaller of that and L, and whether that is above L.
 use native.Mathlib.Omega.{arith}
-use Rattle.cusum.proofs.Laws.{step-above, step-within}
+use Rattle.cusum.proofs.Laws.{step-is}
+use borrow.Author.Needs.{needs}
 use Rattle.cusum.proofs.Cusum.step.Statement.{statement}
 use Rattle.cusum.proofs.Cusum.step.Tie as tie
 
@@ -18,29 +17,20 @@ add-sum c = search needs
 cast-tolerance : tie.Need-cast-tolerance
 cast-tolerance c = search needs
 
-cast-highest : tie.Need-cast-highest
-cast-highest c = search needs
+cast-limit : tie.Need-cast-limit
+cast-limit c = search needs
 
-add-highest : tie.Need-add-highest
-add-highest c = search needs
+excess-requires : tie.Need-excess-requires
+excess-requires c κs = search needs
 
-cast-t10 : tie.Need-cast-t10
-cast-t10 c = search needs
+smaller-requires : tie.Need-smaller-requires
+smaller-requires c κs = search needs
+
+cast-t11 : tie.Need-cast-t11
+cast-t11 c = search needs
 
 returns : tie.Need-returns
-returns c = step-above _ _ _ (omega arith)
-
-returns-2 : tie.Need-returns-2
-returns-2 c = step-within _ _ _ 0 (omega arith) (omega arith)
-
-sub-t8 : tie.Need-sub-t8
-sub-t8 c = search needs
-
-cast-t13 : tie.Need-cast-t13
-cast-t13 c = search needs
-
-returns-3 : tie.Need-returns-3
-returns-3 c = step-within _ _ _ _ (omega arith) (omega arith)
+returns c = step-is _ _ _ (c .before .excess .result) _ (omega arith) (omega arith)
 
 pub step-spec : {M : Type 1} → statement M
 step-spec =
@@ -50,11 +40,8 @@ step-spec =
     tenths-requires
     add-sum
     cast-tolerance
-    cast-highest
-    add-highest
-    cast-t10
-    returns
-    returns-2
-    sub-t8
-    cast-t13
-    returns-3)
+    cast-limit
+    excess-requires
+    smaller-requires
+    cast-t11
+    returns)

@@ -1,23 +1,22 @@
--- `rules::Phase::in_force` meets its contract.
--- Each return follows from the tests on the way and what the callees promise.
-use Rattle.rules.specs.StepThree.{inForce}
+-- Outside step 3 the designated grade, in it the lower one.
+use Rattle.rules.specs.StepThree.{inForceIn}
 use borrow.Author.Needs.{needs}
 use Rattle.rules.proofs.Phase.in_force.Statement.{statement}
 use Rattle.rules.proofs.Phase.in_force.Tie as tie
 
+enum-told : tie.Need-enum-told
+enum-told c = search needs
+
 enum-known-self : tie.Need-enum-known-self
 enum-known-self c = search needs
 
-enum-known-self-2 : tie.Need-enum-known-self-2
-enum-known-self-2 c = search needs
-
 returns : tie.Need-returns
-unfolding inForce
-returns c = rw (c .before .self .given .1)
+unfolding inForceIn
+returns c = rw (c .enum-told .given .1)
 
 returns-2 : tie.Need-returns-2
-unfolding inForce
-returns-2 c = rw (c .before .self2 .given .1)
+unfolding inForceIn
+returns-2 c = rw (c .before .self .given .1)
 
 pub in-force-spec : {M : Type 1} → statement M
-in-force-spec = tie.close (tie.spec enum-known-self enum-known-self-2 returns returns-2)
+in-force-spec = tie.close (tie.spec enum-told enum-known-self returns returns-2)

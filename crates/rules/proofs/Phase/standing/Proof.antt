@@ -1,5 +1,4 @@
--- `rules::Phase::standing` meets its contract.
--- Each return follows from the tests on the way and what the callees promise.
+-- By cases on recovery, then on the phase, and outside step 3 on whether the unit fails.
 use Rattle.rules.specs.Sheet.{standingOf}
 use borrow.Author.Needs.{needs}
 use Rattle.rules.proofs.Phase.standing.Statement.{statement}

@@ -1,0 +1,393 @@
+//! A tuned streaming grader, the second peer of the library: written for speed, in Rust without
+//! `unsafe`. It reads the records twice, once to check and once to grade them, writes each result
+//! record as its unit is read, and keeps no list of records. Nothing is allocated but the table by
+//! code of [`Tuned`], which is made once and left cleared after each sheet.
+//!
+//! What made it faster: a path of its own for a unit of each phase, the table apart from the state,
+//! and no `map` of an array in the paths, which is not inlined.
+//!
+//! Refusal 14 is left out: no limit of an accepted plan is too large for two bytes.
+
+use crate::Answer;
+use hatmuyon::ffi::{
+    RESULT_CODE, RESULT_CODE_GRADE, RESULT_CRITICAL, RESULT_PLAN_GRADE, RESULT_PORTION_GRADE,
+    RESULT_STANDING,
+};
+use hatmuyon::{BREAK_SIZE, MOST_UNITS, PLAN_SIZE, REDESIGNATION_SIZE, RESULT_SIZE, UNIT_SIZE};
+
+const CLASSES: usize = 4;
+/// Grades A, B and C have a plan.
+const PLANS: usize = 3;
+/// The grade below them, which has none.
+const SUBSTANDARD: u8 = 3;
+
+const PLAN_MARK: [u8; 2] = [0x50, 0x4C];
+const UNIT_MARK: [u8; 2] = [0x53, 0x55];
+const REDESIGNATION_MARK: [u8; 2] = [0x52, 0x44];
+const BREAK_MARK: [u8; 2] = [0x42, 0x4B];
+const RESULT_MARK: [u8; 2] = [0x47, 0x52];
+
+/// Offsets in a plan, a redesignation and a unit.
+const GRADE: usize = 2;
+const TABLE: usize = 3;
+const CODE: usize = 2;
+const COUNTS: usize = 4;
+const PREREQUISITE: usize = 12;
+const RECOVERABLE: usize = 13;
+
+/// Standings.
+const MET: u8 = 0;
+const FAILED: u8 = 1;
+const IN_STEP_THREE: u8 = 2;
+const RECOVERED: u8 = 3;
+
+/// So many qualifying units in a row end step 3, and are recovered.
+const QUALIFYING: usize = 3;
+
+/// S, T and L of a class in a plan, in tenths.
+#[derive(Clone, Copy)]
+struct Numbers {
+    start: i32,
+    tolerance: i32,
+    limit: i32,
+}
+
+/// The plan of a grade, by class, and the plans by grade.
+type Row = [Numbers; CLASSES];
+type Table = [Row; PLANS];
+
+/// Tenths of each class: counts, or CuSums.
+type Tenths = [i32; CLASSES];
+
+fn number(bytes: &[u8], at: usize) -> i32 {
+    i32::from(u16::from_be_bytes([bytes[at], bytes[at + 1]]))
+}
+
+/// The plans of grades A, B and C of a sheet that is long enough for them.
+fn table(sheet: &[u8]) -> Table {
+    let mut table = [[Numbers { start: 0, tolerance: 0, limit: 0 }; CLASSES]; PLANS];
+    for (cell, numbers) in table.iter_mut().flatten().enumerate() {
+        let at = TABLE + 6 * cell;
+        *numbers = Numbers {
+            start: number(sheet, at),
+            tolerance: number(sheet, at + 2),
+            limit: number(sheet, at + 4),
+        };
+    }
+    table
+}
+
+/// Whether T or T+L of a class is smaller at the lower grade than at the better one.
+fn is_smaller(better: Numbers, lower: Numbers) -> bool {
+    lower.tolerance < better.tolerance
+        || lower.tolerance + lower.limit < better.tolerance + better.limit
+}
+
+/// Refusals 1 to 5; else the plans.
+fn check_plan(sheet: &[u8]) -> Result<Table, u32> {
+    if sheet.len() < PLAN_SIZE || sheet[..2] != PLAN_MARK {
+        return Err(1);
+    }
+    if usize::from(sheet[GRADE]) >= PLANS {
+        return Err(2);
+    }
+    let table = table(sheet);
+    let mut cells = table.iter().flatten();
+    if cells.clone().any(|cell| cell.start.max(cell.tolerance).max(cell.limit) > 9_999) {
+        return Err(3);
+    }
+    if cells.any(|cell| cell.start > cell.limit) {
+        return Err(4);
+    }
+    let [a, b, c] = table;
+    if (0..CLASSES).any(|class| is_smaller(a[class], b[class]) || is_smaller(b[class], c[class])) {
+        return Err(5);
+    }
+    Ok(table)
+}
+
+/// Refusals 7, 12, 8 and 9 of the unit at the start of the rest.
+fn check_unit(rest: &[u8], units: usize) -> Result<(), u32> {
+    let Some(unit) = rest.get(..UNIT_SIZE) else { return Err(7) };
+    if units == MOST_UNITS {
+        return Err(12);
+    }
+    if (0..CLASSES).any(|count| number(unit, COUNTS + 2 * count) > 2_000) {
+        return Err(8);
+    }
+    if unit[PREREQUISITE] > SUBSTANDARD || unit[RECOVERABLE] > 1 {
+        return Err(9);
+    }
+    Ok(())
+}
+
+/// Refusals 7, 10 and 11 of the redesignation at the start of the rest; else the new grade.
+fn check_redesignation(rest: &[u8], designated: u8) -> Result<u8, u32> {
+    let Some(&[.., new]) = rest.get(..REDESIGNATION_SIZE) else { return Err(7) };
+    if usize::from(new) >= PLANS {
+        return Err(10);
+    }
+    if new == designated {
+        return Err(11);
+    }
+    Ok(new)
+}
+
+/// Refusals 6 to 12, each with its offset; else the number of units.
+fn check_records(sheet: &[u8]) -> Result<usize, (u32, usize)> {
+    let (mut at, mut units, mut designated) = (PLAN_SIZE, 0, sheet[GRADE]);
+    while at < sheet.len() {
+        let rest = &sheet[at..];
+        let refused = |number| (number, at);
+        if rest.len() < 2 {
+            return Err(refused(6));
+        }
+        match [rest[0], rest[1]] {
+            UNIT_MARK => {
+                check_unit(rest, units).map_err(refused)?;
+                units += 1;
+                at += UNIT_SIZE;
+            }
+            REDESIGNATION_MARK => {
+                designated = check_redesignation(rest, designated).map_err(refused)?;
+                at += REDESIGNATION_SIZE;
+            }
+            BREAK_MARK => at += BREAK_SIZE,
+            _ => return Err(refused(6)),
+        }
+    }
+    Ok(units)
+}
+
+/// Ten times the count of each class of a unit; the last is the total.
+fn tenths(unit: &[u8]) -> Tenths {
+    let count = |place: usize| 10 * number(unit, COUNTS + 2 * place);
+    let (critical, severe, major, minor) = (count(0), count(1), count(2), count(3));
+    [critical, severe, major, critical + severe + major + minor]
+}
+
+/// Every CuSum of a grade's plan at its S, or at zero where the grade has none.
+fn starts(table: &Table, grade: u8) -> Tenths {
+    match table.get(usize::from(grade)) {
+        Some([critical, severe, major, total]) => {
+            [critical.start, severe.start, major.start, total.start]
+        }
+        None => [0; CLASSES],
+    }
+}
+
+/// The best grade below this one whose T+L no count exceeds.
+fn best_lower(table: &Table, grade: u8, tenths: Tenths) -> u8 {
+    let admits = |row: &Row| {
+        (0..CLASSES).all(|class| tenths[class] <= row[class].tolerance + row[class].limit)
+    };
+    (grade + 1..SUBSTANDARD)
+        .find(|&lower| admits(&table[usize::from(lower)]))
+        .unwrap_or(SUBSTANDARD)
+}
+
+/// Where the grading stands before a record. The table, which is indexed, is not a part of it, so
+/// that all of it can be kept in registers.
+struct State {
+    designated: u8,
+    /// The grade whose plan is in force in step 3; none outside it.
+    lower: Option<u8>,
+    /// In step 3: qualifying units in a row.
+    run: usize,
+    /// The defect grade of the unit just before, if it failed the designated plan.
+    previous: Option<u8>,
+    cusums: Tenths,
+}
+
+impl State {
+    fn in_force(&self) -> u8 {
+        self.lower.unwrap_or(self.designated)
+    }
+
+    /// The CuSums begin anew under the plan in force.
+    fn restart(&mut self, table: &Table) {
+        self.cusums = starts(table, self.in_force());
+        (self.previous, self.run) = (None, 0);
+    }
+
+    fn redesignate(&mut self, table: &Table, new: u8) {
+        self.designated = new;
+        if self.lower.is_some_and(|lower| new < lower) {
+            self.run = 0;
+        } else {
+            self.lower = None;
+            self.restart(table);
+        }
+    }
+
+    /// Takes the CuSums past a unit under the plan in force: whether it fails.
+    fn step(&mut self, row: &Row, tenths: Tenths) -> bool {
+        let mut fails = false;
+        for class in 0..CLASSES {
+            let Numbers { tolerance, limit, .. } = row[class];
+            let raw = self.cusums[class] + tenths[class] - tolerance;
+            fails |= raw > limit;
+            self.cusums[class] = raw.max(0).min(limit);
+        }
+        fails
+    }
+
+    /// Whether a unit of step 3 qualifies, the CuSums being those after it.
+    fn qualifies(&self, table: &Table, tenths: Tenths) -> bool {
+        let designated = &table[usize::from(self.designated)];
+        self.cusums == [0; CLASSES]
+            && (0..CLASSES).all(|class| tenths[class] <= designated[class].tolerance)
+    }
+
+    /// Grades a unit under the designated plan into its result record.
+    fn grade_designated(&mut self, table: &Table, unit: &[u8], record: &mut [u8]) {
+        let (plan, tenths) = (self.designated, tenths(unit));
+        if !self.step(&table[usize::from(plan)], tenths) {
+            write(record, unit, plan, plan, MET, self.cusums);
+            self.previous = None;
+            return;
+        }
+        let grade = best_lower(table, plan, tenths);
+        write(record, unit, grade, plan, FAILED, self.cusums);
+        match self.previous {
+            Some(earlier) => {
+                self.lower = Some(earlier.max(grade));
+                self.restart(table);
+            }
+            None => self.previous = Some(grade),
+        }
+    }
+
+    /// Grades a unit in step 3, under the plan of a lower grade, into its result record, not
+    /// recovered: whether step 3 ends at it.
+    fn grade_step_three(
+        &mut self,
+        table: &Table,
+        lower: u8,
+        unit: &[u8],
+        record: &mut [u8],
+    ) -> bool {
+        let tenths = tenths(unit);
+        let fails = table.get(usize::from(lower)).is_some_and(|row| self.step(row, tenths));
+        let grade = if fails { best_lower(table, lower, tenths) } else { lower };
+        write(record, unit, grade, lower, IN_STEP_THREE, self.cusums);
+        self.run = if self.qualifies(table, tenths) { self.run + 1 } else { 0 };
+        let ends = self.run == QUALIFYING;
+        if ends {
+            self.lower = None;
+            self.restart(table);
+        }
+        ends
+    }
+}
+
+/// Writes the result record of a unit that is not recovered, all but the code grade.
+fn write(record: &mut [u8], unit: &[u8], grade: u8, plan: u8, standing: u8, cusums: Tenths) {
+    record[..2].copy_from_slice(&RESULT_MARK);
+    record[RESULT_CODE..RESULT_CODE + 2].copy_from_slice(&unit[CODE..CODE + 2]);
+    record[RESULT_PORTION_GRADE] = grade.max(unit[PREREQUISITE]);
+    record[RESULT_PLAN_GRADE] = plan;
+    record[RESULT_STANDING] = standing;
+    for (class, cusum) in cusums.iter().enumerate() {
+        let at = RESULT_CRITICAL + 2 * class;
+        record[at..at + 2].copy_from_slice(&(*cusum as u16).to_be_bytes());
+    }
+}
+
+/// Recovers the last of these units, as many as end step 3, in the last of these records.
+fn recover(units: &[u8], designated: u8, records: &mut [u8]) {
+    let units = units.rchunks_exact(UNIT_SIZE);
+    for (unit, record) in units.zip(records.rchunks_exact_mut(RESULT_SIZE)).take(QUALIFYING) {
+        if unit[RECOVERABLE] == 1 {
+            record[RESULT_PORTION_GRADE] = designated.max(unit[PREREQUISITE]);
+            record[RESULT_STANDING] = RECOVERED;
+        }
+    }
+}
+
+/// Grades a sheet that was not refused into its result records, all but the code grades.
+fn write_records(sheet: &[u8], table: &Table, results: &mut [u8]) {
+    let mut state = State {
+        designated: sheet[GRADE],
+        lower: None,
+        run: 0,
+        previous: None,
+        cusums: [0; CLASSES],
+    };
+    state.restart(table);
+    let (mut at, mut written) = (PLAN_SIZE, 0);
+    while at < sheet.len() {
+        if sheet[at] == UNIT_MARK[0] {
+            let unit = &sheet[at..at + UNIT_SIZE];
+            let record = &mut results[written..written + RESULT_SIZE];
+            at += UNIT_SIZE;
+            written += RESULT_SIZE;
+            match state.lower {
+                None => state.grade_designated(table, unit, record),
+                Some(lower) => {
+                    if state.grade_step_three(table, lower, unit, record) {
+                        recover(&sheet[..at], state.designated, &mut results[..written]);
+                    }
+                }
+            }
+        } else if sheet[at] == REDESIGNATION_MARK[0] {
+            state.redesignate(table, sheet[at + GRADE]);
+            at += REDESIGNATION_SIZE;
+        } else {
+            state.restart(table);
+            at += BREAK_SIZE;
+        }
+    }
+}
+
+/// Grades a sheet into a result buffer, all but the code grades: the number of units, or the number
+/// and the offset of a refusal.
+fn grade_units(sheet: &[u8], results: &mut [u8]) -> Result<usize, (u32, usize)> {
+    let table = check_plan(sheet).map_err(|number| (number, 0))?;
+    let units = check_records(sheet)?;
+    let records = results.get_mut(..RESULT_SIZE * units).ok_or((13, sheet.len()))?;
+    write_records(sheet, &table, records);
+    Ok(units)
+}
+
+/// Grades a sheet into a result buffer, all but the code grades, which stay as they were.
+pub fn grade_but_codes(sheet: &[u8], results: &mut [u8]) -> Answer {
+    match grade_units(sheet, results) {
+        Ok(units) => (0, units, sheet.len()),
+        Err((number, offset)) => (number, 0, offset),
+    }
+}
+
+/// The grader with its table: the worst portion grade by code, zero between sheets.
+pub struct Tuned {
+    worst: Vec<u8>,
+}
+
+impl Tuned {
+    pub fn new() -> Tuned {
+        Tuned { worst: vec![0; 1 << u16::BITS] }
+    }
+
+    /// Grades a sheet into a result buffer.
+    pub fn grade(&mut self, sheet: &[u8], results: &mut [u8]) -> Answer {
+        let answer = grade_but_codes(sheet, results);
+        self.grade_codes(&mut results[..RESULT_SIZE * answer.1]);
+        answer
+    }
+
+    fn grade_codes(&mut self, records: &mut [u8]) {
+        fn code(record: &[u8]) -> usize {
+            number(record, RESULT_CODE) as usize
+        }
+        for record in records.chunks_exact(RESULT_SIZE) {
+            let worst = &mut self.worst[code(record)];
+            *worst = record[RESULT_PORTION_GRADE].max(*worst);
+        }
+        for record in records.chunks_exact_mut(RESULT_SIZE) {
+            record[RESULT_CODE_GRADE] = self.worst[code(record)];
+        }
+        for record in records.chunks_exact(RESULT_SIZE) {
+            self.worst[code(record)] = 0;
+        }
+    }
+}

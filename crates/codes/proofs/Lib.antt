@@ -1,0 +1,5 @@
+pub mod Coding
+mod CodeGrades
+mod Next
+mod OneCode
+mod GradingPass

@@ -1,0 +1,7 @@
+-- What it takes to compute with the definitions of this crate: `unfolding computing` opens them all.
+use Prim.Native.Nat.{ℕ}
+use Rattle.cusum.specs.Step.{rawValue, aboveLimit, cusumOf, fails, newCusum}
+
+unfoldable pub computing : ℕ
+unfolding rawValue aboveLimit cusumOf fails newCusum
+computing = 0

@@ -1,0 +1,27 @@
+-- The demands, each from its own file; the promise is the theorem of `tally::grade`.
+use Rattle.tally.proofs.grade.Met.{met}
+use Rattle.demands.specs.Demands.{Demands}
+use Rattle.demands.proofs.Listed.{demand1}
+use Rattle.demands.proofs.Grounds.{demand2-grounds}
+use Rattle.demands.proofs.NeverOverfull.{never-overfull}
+use Rattle.demands.proofs.Graded.{demand2-records}
+use Rattle.demands.proofs.LargestOf.{demand3-largest-form}
+use Rattle.demands.proofs.NeverWorse.{demand3-fewer-defects}
+use Rattle.demands.proofs.Peach.{small-sheets}
+use Rattle.demands.proofs.FurtherSheets.{further-sheets}
+use Rattle.demands.proofs.Instances.{instances}
+
+pub demands : Demands
+demands =
+    record {
+      promise-of-grade = met;
+      demand1 = demand1;
+      demand2-grounds = demand2-grounds;
+      never-overfull = never-overfull;
+      demand2-records = demand2-records;
+      demand3-largest-form = demand3-largest-form;
+      demand3-fewer-defects = demand3-fewer-defects;
+      small-sheets = small-sheets;
+      further-sheets = further-sheets;
+      instances = instances;
+    }

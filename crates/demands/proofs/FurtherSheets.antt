@@ -1,0 +1,117 @@
+-- The further sheets, each by computation in a buffer of which only the length is known. The two numbers are the sheet's records and
+-- units. Each record doubles the cost of the offsets, which are found from the plan on: eight records take a fraction of a second,
+-- twenty more steps than a declaration may. The full sheets are cases of a law.
+use mathlib.Core.Path.{refl}
+use lib.Dec.{lit<}
+use Rattle.tally.proofs.Computing.{computing}
+use Rattle.demands.specs.WorkedCases.{peachPlan}
+use Rattle.demands.specs.FurtherSheets.{BreakSheets, RedesignationSheets, UnitSheets, StepThreeSheets, RefusedSheets, FullSheets, FurtherSheets, ground12, grounds12And8, grounds7And12, breakBetweenUnits, breakBetweenUnitsResults, breakBetweenFailures, breakBetweenFailuresResults, breakInStepThree, breakInStepThreeResults, breakInRun, breakInRunResults, noUnit, noUnitResults, noUnitButRecords, noUnitButRecordsResults, redesignationOutsideStepThree, redesignationOutsideStepThreeResults, redesignationInStepThree, redesignationInStepThreeResults, redesignationInRun, redesignationInRunResults, redesignationToLowerGrade, redesignationToLowerGradeResults, redesignationBelowLowerGrade, redesignationBelowLowerGradeResults, redesignationWithoutPlan, redesignationWithoutPlanResults, bestLowerGrade, bestLowerGradeResults, designatedCFailedTwice, designatedCFailedTwiceResults, prerequisiteSubstandard, prerequisiteSubstandardResults, prerequisitesOfTwoFailures, prerequisitesOfTwoFailuresResults, totalAloneFails, totalAloneFailsResults, twoClassesFailInTurn, twoClassesFailInTurnResults, unitThatMeetsBetweenFailures, unitThatMeetsBetweenFailuresResults, codeMetAgain, codeMetAgainResults, startEqualToLimit, startEqualToLimitResults, failureInStepThree, failureInStepThreeResults, twoFailuresInStepThree, twoFailuresInStepThreeResults, aboveTolerance, aboveToleranceResults, cusumAboveZero, cusumAboveZeroResults, recovery, recoveryResults, recoveryWithoutPlan, recoveryWithoutPlanResults, afterStepThree, afterStepThreeResults, planCutShort, grounds1And2, grounds2And3, grounds3And4, grounds4And5, ground5BySum, ground5ByTolerance, oneByteLeft, secondPlan, markAlone, grounds7And8, grounds8And9, ground9Before8, recoverableAbove1, newGradeAboveC, ground11Before10, ground11ByLastRedesignation, ground11InStepThree, bufferWithoutRoom}
+use Rattle.demands.proofs.Computed.{accepts, without-room}
+use Rattle.demands.proofs.FullSheet.{cut-short, one-too-many}
+
+break-sheets : BreakSheets
+unfolding computing peachPlan breakBetweenUnits breakBetweenUnitsResults breakBetweenFailures breakBetweenFailuresResults breakInStepThree
+    breakInStepThreeResults breakInRun breakInRunResults noUnit noUnitResults noUnitButRecords noUnitButRecordsResults
+break-sheets =
+    record {
+      break-between-units = λ buffer holds. accepts breakBetweenUnits buffer 4 3 refl holds refl;
+      break-between-failures = λ buffer holds. accepts breakBetweenFailures buffer 4 3 refl holds refl;
+      break-in-step-three = λ buffer holds. accepts breakInStepThree buffer 5 4 refl holds refl;
+      break-in-run = λ buffer holds. accepts breakInRun buffer 7 6 refl holds refl;
+      no-unit = λ buffer holds. accepts noUnit buffer 0 0 refl holds refl;
+      no-unit-but-records = λ buffer holds. accepts noUnitButRecords buffer 4 0 refl holds refl;
+    }
+
+redesignation-sheets : RedesignationSheets
+unfolding computing peachPlan redesignationOutsideStepThree redesignationOutsideStepThreeResults redesignationInStepThree
+    redesignationInStepThreeResults redesignationInRun redesignationInRunResults redesignationToLowerGrade redesignationToLowerGradeResults
+    redesignationBelowLowerGrade redesignationBelowLowerGradeResults redesignationWithoutPlan redesignationWithoutPlanResults
+redesignation-sheets =
+    record {
+      redesignation-outside-step-three = λ buffer holds. accepts redesignationOutsideStepThree buffer 4 3 refl holds refl;
+      redesignation-in-step-three = λ buffer holds. accepts redesignationInStepThree buffer 5 4 refl holds refl;
+      redesignation-in-run = λ buffer holds. accepts redesignationInRun buffer 8 7 refl holds refl;
+      redesignation-to-lower-grade = λ buffer holds. accepts redesignationToLowerGrade buffer 5 4 refl holds refl;
+      redesignation-below-lower-grade = λ buffer holds. accepts redesignationBelowLowerGrade buffer 5 4 refl holds refl;
+      redesignation-without-plan = λ buffer holds. accepts redesignationWithoutPlan buffer 7 6 refl holds refl;
+    }
+
+unit-sheets : UnitSheets
+unfolding computing peachPlan bestLowerGrade bestLowerGradeResults designatedCFailedTwice designatedCFailedTwiceResults prerequisiteSubstandard
+    prerequisiteSubstandardResults prerequisitesOfTwoFailures prerequisitesOfTwoFailuresResults totalAloneFails totalAloneFailsResults
+    twoClassesFailInTurn twoClassesFailInTurnResults unitThatMeetsBetweenFailures unitThatMeetsBetweenFailuresResults codeMetAgain codeMetAgainResults
+    startEqualToLimit startEqualToLimitResults
+unit-sheets =
+    record {
+      best-lower-grade = λ buffer holds. accepts bestLowerGrade buffer 7 4 refl holds refl;
+      designated-c-failed-twice = λ buffer holds. accepts designatedCFailedTwice buffer 3 3 refl holds refl;
+      prerequisite-substandard = λ buffer holds. accepts prerequisiteSubstandard buffer 3 3 refl holds refl;
+      prerequisites-of-two-failures = λ buffer holds. accepts prerequisitesOfTwoFailures buffer 3 3 refl holds refl;
+      total-alone-fails = λ buffer holds. accepts totalAloneFails buffer 5 3 refl holds refl;
+      two-classes-fail-in-turn = λ buffer holds. accepts twoClassesFailInTurn buffer 3 3 refl holds refl;
+      unit-that-meets-between-failures = λ buffer holds. accepts unitThatMeetsBetweenFailures buffer 4 4 refl holds refl;
+      code-met-again = λ buffer holds. accepts codeMetAgain buffer 4 4 refl holds refl;
+      start-equal-to-limit = λ buffer holds. accepts startEqualToLimit buffer 2 2 refl holds refl;
+    }
+
+step-three-sheets : StepThreeSheets
+unfolding computing peachPlan failureInStepThree failureInStepThreeResults twoFailuresInStepThree twoFailuresInStepThreeResults aboveTolerance
+    aboveToleranceResults cusumAboveZero cusumAboveZeroResults recovery recoveryResults recoveryWithoutPlan recoveryWithoutPlanResults afterStepThree
+    afterStepThreeResults
+step-three-sheets =
+    record {
+      failure-in-step-three = λ buffer holds. accepts failureInStepThree buffer 4 4 refl holds refl;
+      two-failures-in-step-three = λ buffer holds. accepts twoFailuresInStepThree buffer 5 5 refl holds refl;
+      above-tolerance = λ buffer holds. accepts aboveTolerance buffer 6 6 refl holds refl;
+      cusum-above-zero = λ buffer holds. accepts cusumAboveZero buffer 6 6 refl holds refl;
+      recovery = λ buffer holds. accepts recovery buffer 6 6 refl holds refl;
+      recovery-without-plan = λ buffer holds. accepts recoveryWithoutPlan buffer 7 7 refl holds refl;
+      after-step-three = λ buffer holds. accepts afterStepThree buffer 7 7 refl holds refl;
+    }
+
+refused-sheets : RefusedSheets
+unfolding computing peachPlan planCutShort grounds1And2 grounds2And3 grounds3And4 grounds4And5 ground5BySum ground5ByTolerance oneByteLeft secondPlan
+    markAlone grounds7And8 grounds8And9 ground9Before8 recoverableAbove1 newGradeAboveC ground11Before10 ground11ByLastRedesignation
+    ground11InStepThree bufferWithoutRoom
+refused-sheets =
+    record {
+      plan-cut-short = λ buffer. refl;
+      grounds-1-and-2 = λ buffer. refl;
+      grounds-2-and-3 = λ buffer. refl;
+      grounds-3-and-4 = λ buffer. refl;
+      grounds-4-and-5 = λ buffer. refl;
+      ground-5-by-sum = λ buffer. refl;
+      ground-5-by-tolerance = λ buffer. refl;
+      one-byte-left = λ buffer. refl;
+      second-plan = λ buffer. refl;
+      mark-alone = λ buffer. refl;
+      grounds-7-and-8 = λ buffer. refl;
+      grounds-8-and-9 = λ buffer. refl;
+      ground-9-before-8 = λ buffer. refl;
+      recoverable-above-1 = λ buffer. refl;
+      new-grade-above-c = λ buffer. refl;
+      ground-11-before-10 = λ buffer. refl;
+      ground-11-by-last-redesignation = λ buffer. refl;
+      ground-11-in-step-three = λ buffer. refl;
+      buffer-without-room = λ buffer short. without-room bufferWithoutRoom buffer 3 2 refl short;
+    }
+
+full-sheets : FullSheets
+unfolding ground12 grounds12And8 grounds7And12
+full-sheets =
+    record {
+      ground-12 = one-too-many _ refl (lit< tt);
+      grounds-12-and-8 = one-too-many _ refl (lit< tt);
+      grounds-7-and-12 = cut-short _ refl (lit< tt) (lit< tt);
+    }
+
+pub further-sheets : FurtherSheets
+further-sheets =
+    record {
+      breaks = break-sheets;
+      redesignations = redesignation-sheets;
+      units = unit-sheets;
+      step-three = step-three-sheets;
+      refusals = refused-sheets;
+      full = full-sheets;
+    }

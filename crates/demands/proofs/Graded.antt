@@ -1,0 +1,431 @@
+-- Demand 2 for accepted sheets: the course of the definitions follows the rules by place, and the result records hold what it says.
+-- Each rule is a law of the definitions, read through what their tests tell; the code grade is by induction on the records.
+use Prim.Native.Nat.{ℕ, zero, suc, _+_, _-_, _<_, _≤_, min}
+use mathlib.Core.Path.{_≡_, refl, sym, _∙_, ap, subst, subst⁻¹}
+use mathlib.Core.Bool.{Bool, true, false, cond, not, _&&_, true≢false, false≢true}
+use mathlib.Core.List.{List}
+use native.Mathlib.Omega.{arith}
+use lib.Dec.{eqb, ltb}
+use lib.ListN.{length}
+use borrow.Author.Tests.{lt-ltb, le-ltb, eqb-true, eqb-false, eq-eqb}
+use Rattle.cusum.specs.Step.{tenthsOf, newCusum}
+use Rattle.cusum.proofs.Laws.{new-cusum-is}
+use Rattle.encoding.specs.Bytes.{byte}
+use Rattle.units.specs.Words.{substandard, hasPlan, classes, worse, rowOf, inClass, numbersOf, countsOf, countIn, tenthsIn}
+use Rattle.units.specs.Unit.{starting, classCusum, unitFails, bestLower, defectGrade, portionGradeOf}
+use Rattle.units.specs.BestLower.{BestLower}
+use Rattle.units.specs.Records.{worstBefore}
+use Rattle.units.specs.declared.SampleUnit.{SampleUnit}
+use Rattle.units.specs.declared.Entry.the-variants.{UnitRecord, Redesignation, Break}
+use Rattle.units.proofs.BestLower.{best-lower-is}
+use Rattle.units.proofs.Classes.{at-class}
+use Rattle.units.proofs.CodeGrade.{UnitWith, none-worse, Attained, attained}
+use Rattle.units.proofs.Tests.{and-both}
+use Rattle.rules.specs.StepThree.{inStepThree, inForceIn, restarted, graded}
+use Rattle.rules.specs.Sheet.{Sheet, before, designatedAt, inForceAt, gradedAt, inFinishedRun, recovered, portionGrade, standingOf, standing, codeGrade}
+use Rattle.rules.specs.TwoInARow.{unitFailsAt, unitFailsBefore, secondInARow}
+use Rattle.rules.specs.ThreeInARow.{unitQualifiesAt}
+use Rattle.rules.specs.declared.Phase.{Phase}
+use Rattle.rules.specs.declared.Phase.the-variants.{Designated, StepThree}
+use Rattle.rules.proofs.Grades.{in-force-at-most}
+use Rattle.rules.proofs.FinishedRun.{finished-run, in-run, run-in}
+use Rattle.rules.proofs.TwoFailures.{begins-at-second, lower-is-worse}
+use Rattle.rules.proofs.ThreeQualify.{qualifies-at, third-ends}
+use Rattle.rules.proofs.Restarts.{cusumsBehind, restart-starts, no-restart-keeps}
+use Rattle.rules.proofs.StepThreeStands as stands
+use Rattle.layout.specs.Layout.{recoverableOffset, sampleUnitAt, offset}
+use Rattle.layout.proofs.Units.{unit-mark}
+use Rattle.sheet.specs.Refusals.{designatedBefore}
+use Rattle.sheet.proofs.Accepted.{Facts}
+use Rattle.sheet.proofs.Ranges.{designated-le}
+use Rattle.writing.specs.Sheet.{sheetOf}
+use Rattle.tally.specs.declared.Answer.{Answer}
+use Rattle.tally.specs.Outcome.{recordsIn}
+use Rattle.tally.specs.Accepted.{AcceptedAs, sheetIn, UnitAt, recordedPortionGrade, recordedCodeGrade}
+use Rattle.tally.proofs.AcceptedSheet.{accepted-sheet}
+use Rattle.tally.proofs.Entries.{unit-is, new-grades}
+use Rattle.tally.proofs.Overfull.{cusum-graded}
+use Rattle.demands.specs.Grounds.{startIn, toleranceIn, limitIn, newGrade, IsBreak, IsRedesignation}
+use Rattle.demands.specs.Course.{Course, tenTimes, prerequisite, ClassFails, UnitFails, FailsDesignated, SecondFails, Qualifies, ThreeQualify, ThirdQualifies, AmongThree, Recovered, KeepsStepThree, Restart, RuleTwo, BestLowerGrade, RuleThree, Rules, SameAt}
+use Rattle.demands.specs.Demand2.{recordedStanding, UnitRecorded, HasCodeGrade, WorstOfCode, SameWords, GradedByRules, Demand2Records}
+use Rattle.demands.proofs.Tells.{told, not-told}
+use Rattle.demands.proofs.Rows.{designated-just-before}
+use Rattle.demands.proofs.CourseWords as words
+use Rattle.demands.proofs.CourseWords.{unitIn, courseOf, break-mark, break-entry, redesignation-mark, redesignation-entry}
+use Rattle.demands.proofs.OneCourse.{settled, one-course}
+use Rattle.demands.proofs.Recorded.{recorded-portion, recorded-code-grade, recorded-plan, recorded-standing, recorded-code, recorded-cusum, recorded-mark}
+
+-- ---- of a phase
+
+standing-outside : (phase : Phase) (fails : Bool) → inStepThree phase ≡ false → standingOf phase fails false ≡ cond fails 1 0
+unfolding inStepThree standingOf
+standing-outside Designated fails out = refl
+standing-outside (StepThree lower run) fails out = absurd (true≢false out)
+
+standing-inside : (phase : Phase) (fails : Bool) → inStepThree phase ≡ true → standingOf phase fails false ≡ 2
+unfolding inStepThree standingOf
+standing-inside Designated fails inside = absurd (false≢true inside)
+standing-inside (StepThree lower run) fails inside = refl
+
+in-force-outside : (designated : ℕ) (phase : Phase) → inStepThree phase ≡ false → inForceIn designated phase ≡ designated
+unfolding inStepThree inForceIn
+in-force-outside designated Designated out = refl
+in-force-outside designated (StepThree lower run) out = absurd (true≢false out)
+
+-- ---- the rules
+
+module _ (bytes : List ℕ) (facts : Facts bytes (recordsIn bytes)) where
+  abbrev sheet : Sheet
+  sheet = sheetIn bytes
+
+  abbrev course : Course
+  course = courseOf bytes
+
+  -- S of every class of a plan
+  start-is : (grade class : ℕ) → grade < substandard → class < length classes → tenthsIn (starting (rowOf (sheet .table) grade)) class ≡ startIn bytes grade class
+  unfolding starting
+  start-is grade class planned known =
+      at-class (λ k. inClass (rowOf (sheet .table) grade) k .start) class known ∙ words.numbers-in bytes facts grade class planned known .0
+
+  opening-cusums : (class : ℕ) → class < length classes → course .cusum 0 class ≡ startIn bytes (course .designated 0) class
+  unfolding before restarted inForceIn
+  opening-cusums class known =
+      start-is (designatedAt sheet 0) class (words.designated-lt bytes facts 0) known
+      ∙ ap (λ (grade : ℕ). startIn bytes grade class) (words.designated-is bytes facts 0)
+
+  -- rule 2 under a plan
+  planned-cusum : (i class : ℕ) → class < length classes → inForceAt sheet i < substandard
+      → course .newCusum i class ≡ min (limitIn bytes (inForceAt sheet i) class)
+      (course .cusum i class + tenTimes bytes i class - toleranceIn bytes (inForceAt sheet i) class)
+  unfolding classCusum hasPlan sampleUnitAt
+  planned-cusum i class known planned =
+      let (start, tolerance, limit) = words.numbers-in bytes facts (inForceAt sheet i) class planned known in
+      rw (lt-ltb (inForceAt sheet i) substandard planned, ← tolerance, ← limit)
+      (new-cusum-is (numbersOf (sheet .table) (inForceAt sheet i) class) (course .cusum i class) (countIn (countsOf (unitIn bytes i)) class))
+
+  no-plan-cusum : (i class : ℕ) → inForceAt sheet i ≡ substandard → course .newCusum i class ≡ 0
+  unfolding classCusum hasPlan
+  no-plan-cusum i class none = rw (le-ltb (inForceAt sheet i) substandard (omega arith))
+
+  rule-two : (i class : ℕ) → UnitAt bytes i → class < length classes → RuleTwo bytes course i class
+  rule-two i class at known =
+      record {
+        fails = λ here. omega (arith, planned-cusum i class known (here .planned), here .above);
+        below = λ planned small. omega (arith, planned-cusum i class known planned, small);
+        between = λ planned from to. omega (arith, planned-cusum i class known planned, from, to);
+        no-plan = no-plan-cusum i class;
+      }
+
+  -- ---- rule 3
+
+  abbrev pub failing : ℕ → Bool
+  failing i = unitFails (sheet .table) (inForceAt sheet i) (before sheet i .cusums) (countsOf (unitIn bytes i))
+
+  defect-meets : (i : ℕ) → failing i ≡ false → course .defectGrade i ≡ inForceAt sheet i
+  unfolding graded defectGrade
+  defect-meets i e = rw e
+
+  defect-fails : (i : ℕ) → failing i ≡ true → inForceAt sheet i < substandard
+      → BestLower (sheet .table) (inForceAt sheet i) (countsOf (unitIn bytes i)) (course .defectGrade i)
+  unfolding graded defectGrade
+  defect-fails i e planned = rw e (best-lower-is (sheet .table) (countsOf (unitIn bytes i)) (inForceAt sheet i) planned)
+
+  -- the bound of a grade that has a plan
+  bound-is : (grade class : ℕ) → grade < substandard → class < length classes
+      → numbersOf (sheet .table) grade class .tolerance + numbersOf (sheet .table) grade class .limit
+      ≡ toleranceIn bytes grade class + limitIn bytes grade class
+  bound-is grade class planned known =
+      let (start, tolerance, limit) = words.numbers-in bytes facts grade class planned known in
+      omega (arith, tolerance, limit)
+
+  best-lower : (i grade : ℕ) → BestLower (sheet .table) (inForceAt sheet i) (countsOf (unitIn bytes i)) grade → BestLowerGrade bytes course i grade
+  unfolding sampleUnitAt
+  best-lower i grade best =
+      record {
+        lower = best .lower;
+        a-grade = best .grade-or-none;
+        admits = λ planned class known. omega (arith, best .admits planned class known, bound-is grade class planned known);
+        none-better = λ better above below every.
+            best .none-better better above below
+            (λ class known. omega (arith, every class known, bound-is better class (omega (arith, best .grade-or-none)) known));
+      }
+
+  rule-three : (i : ℕ) → UnitAt bytes i → RuleThree bytes course i
+  rule-three i at =
+      record {
+        meets = λ none. defect-meets i (not-told (words.tells-unit bytes facts i) none);
+        fails = λ here. best-lower i (course .defectGrade i) (defect-fails i (told (words.tells-unit bytes facts i) here) (here .fails .planned));
+      }
+
+  -- ---- step 3
+
+  lower-plan : (i : ℕ) → SecondFails bytes course (suc i) → course .planGrade (suc (suc i)) ≡ worse (course .defectGrade i) (course .defectGrade (suc i))
+  unfolding secondInARow unitFailsBefore
+  lower-plan i second =
+      let in-a-row = told (words.tells-second bytes facts (suc i)) second in
+      let (one, two) = and-both (unitFailsAt sheet i) (unitFailsAt sheet (suc i)) in-a-row in
+      let first = words.tells-designated bytes facts i .so one .unit in
+      in-force-lower (lower-is-worse sheet i (unitIn bytes i) (unitIn bytes (suc i)) (words.unit-here bytes facts i first)
+      (words.unit-here bytes facts (suc i) (second .second-fails .unit)) in-a-row)
+    where
+      in-force-lower : {lower : ℕ} → before sheet (suc (suc i)) .phase ≡ StepThree lower 0 → inForceAt sheet (suc (suc i)) ≡ lower
+      in-force-lower {lower} same = unfold inForceIn in ap (inForceIn (before sheet (suc (suc i)) .designated)) same
+
+  break-here : (i : ℕ) → IsBreak bytes i → sheet .entry i ≡ Break
+  break-here i is-break = words.entry-is bytes facts i ∙ break-entry bytes i (break-mark bytes i is-break)
+
+  redesignation-here : (i : ℕ) → IsRedesignation bytes i → sheet .entry i ≡ Redesignation (newGrade bytes i)
+  redesignation-here i is-redesignation = words.entry-is bytes facts i ∙ redesignation-entry bytes i (redesignation-mark bytes i is-redesignation)
+
+  after-redesignation : (i : ℕ) → IsRedesignation bytes i
+      → course .inStepThree (suc i) ≡ (course .inStepThree i && ltb (newGrade bytes i) (inForceAt sheet i))
+  after-redesignation i is-redesignation = stands.at-redesignation sheet i (newGrade bytes i) (redesignation-here i is-redesignation)
+
+  -- ---- the CuSums before the next record
+
+  at-start : (i class : ℕ) → Restart bytes course i → inForceAt sheet (suc i) < substandard → class < length classes
+      → course .cusum (suc i) class ≡ startIn bytes (inForceAt sheet (suc i)) class
+  at-start i class restart planned known =
+      ap (λ cusums. tenthsIn cusums class) (restart-starts sheet i (words.restart-told bytes facts i restart)) ∙ start-is (inForceAt sheet (suc i)) class planned known
+
+  unit-goes-on : (i class : ℕ) → UnitAt bytes i → (Restart bytes course i → ⊥) → class < length classes → course .cusum (suc i) class ≡ course .newCusum i class
+  unfolding cusumsBehind
+  unit-goes-on i class at none known =
+      let kept = no-restart-keeps sheet i (not-told (words.tells-restart-unit bytes facts i at) none) .1 in
+      ap (λ cusums. tenthsIn cusums class) (kept ∙ ap (cusumsBehind (sheet .table) (before sheet i)) (words.unit-here bytes facts i at))
+      ∙ cusum-graded sheet i (unitIn bytes i) class known
+
+  redesignation-goes-on : (i class : ℕ) → IsRedesignation bytes i → (Restart bytes course i → ⊥) → class < length classes
+      → course .cusum (suc i) class ≡ course .cusum i class
+  unfolding cusumsBehind
+  redesignation-goes-on i class is-redesignation none known =
+      let kept = no-restart-keeps sheet i (not-told (words.tells-restart-redesignation bytes facts i is-redesignation) none) .1 in
+      ap (λ cusums. tenthsIn cusums class) (kept ∙ ap (cusumsBehind (sheet .table) (before sheet i)) (redesignation-here i is-redesignation))
+
+  pub rules : Rules bytes course
+  rules =
+      record {
+        designated = designated-just-before bytes;
+        opening = unfold before restarted inStepThree in refl;
+        opening-cusums = opening-cusums;
+        rule-two = rule-two;
+        rule-three = rule-three;
+        designated-plan = λ i out. in-force-outside (designatedAt sheet i) (before sheet i .phase) out ∙ words.designated-is bytes facts i;
+        lower-plan = lower-plan;
+        lower-stays = stands.lower-stays sheet;
+        begins = λ i second. begins-at-second sheet i (second .second-fails .outside-step-three) ∙ told (words.tells-second bytes facts i) second;
+        not-begun = λ i out none. begins-at-second sheet i out ∙ not-told (words.tells-second bytes facts i) none;
+        ends = λ i third.
+            let at = words.unit-third bytes facts i third in
+            stands.at-unit sheet i (unitIn bytes i) (words.unit-here bytes facts i at) (words.inside-third bytes facts i third)
+            ∙ ap not (told (words.tells-third bytes facts i) third);
+        unit-stays = λ i at inside none.
+            stands.at-unit sheet i (unitIn bytes i) (words.unit-here bytes facts i at) inside ∙ ap not (not-told (words.tells-third bytes facts i) none);
+        break-stays = λ i is-break inside. stands.at-break sheet i (break-here i is-break) ∙ inside;
+        redesignation-stays = λ i is-redesignation keeps. after-redesignation i is-redesignation ∙ told (words.tells-keeps bytes facts i) keeps;
+        redesignation-ends = λ i is-redesignation none. after-redesignation i is-redesignation ∙ not-told (words.tells-keeps bytes facts i) none;
+        restarts = at-start;
+        unit-goes-on = unit-goes-on;
+        redesignation-goes-on = redesignation-goes-on;
+      }
+
+  pub same-words : SameWords bytes course
+  same-words =
+      record {
+        class-fails = words.tells-class-at bytes facts;
+        second-fails = words.tells-second bytes facts;
+        restart = words.tells-restart bytes facts;
+        plan-grade = λ i. refl;
+        numbers = λ i class planned known. words.numbers-in bytes facts (inForceAt sheet i) class planned known;
+      }
+
+  -- ---- no other course
+
+  bounded : (i : ℕ) → course .planGrade i ≤ substandard
+  unfolding sheetIn sheetOf
+  bounded = in-force-at-most sheet (designated-le bytes (recordsIn bytes) facts) (new-grades bytes (recordsIn bytes) facts)
+
+  pub only-course : (other : Course) → Rules bytes other → (i : ℕ) → UnitAt bytes i → SameAt course other i
+  only-course other others i at =
+      one-course bytes (recordsIn bytes) course other rules others bounded
+      (λ j. settled (words.tells-unit bytes facts j)) (λ j. settled (words.tells-second bytes facts j)) (λ j. settled (words.tells-third bytes facts j))
+      (λ j. settled (words.tells-keeps bytes facts j)) (λ j inside. settled (words.tells-restart bytes facts j inside)) (words.kind bytes facts) i (at .inside) at
+
+  -- ---- recovery
+
+  in-three : (i : ℕ) → AmongThree bytes course i → inFinishedRun sheet i ≡ true
+  in-three i among =
+      let last = suc (suc (among .first)) in
+      let row = among .in-a-row in
+      let ends = third-ends sheet (among .first) (told (words.tells-qualifies bytes facts _) (row .one)) (told (words.tells-qualifies bytes facts _) (row .two))
+      (told (words.tells-qualifies bytes facts _) (row .three)) in
+      let run = finished-run sheet last ends in
+      run-in sheet i (record { last = last; run = run; ends = ends; from = omega (arith, run .ends-here, among .from); to = omega (arith, among .to) })
+
+  three-of-run : (i : ℕ) → inFinishedRun sheet i ≡ true → AmongThree bytes course i
+  three-of-run i e =
+      let found = in-run sheet i e in
+      let run = found .run in
+      record {
+        first = run .start;
+        from = found .from;
+        to = omega (arith, found .to, run .ends-here);
+        in-a-row =
+            record {
+              one = words.tells-qualifies bytes facts _ .so (qualifies-at sheet (run .first));
+              two = words.tells-qualifies bytes facts _ .so (qualifies-at sheet (run .second));
+              three = words.tells-qualifies bytes facts _ .so (qualifies-at sheet (run .third));
+            };
+      }
+
+  pub recovered-is : (i : ℕ) → Recovered bytes course i → recovered sheet i (unitIn bytes i) ≡ true
+  unfolding recovered sampleUnitAt
+  recovered-is i is-recovered =
+      rw (eq-eqb (byte bytes (offset bytes i + recoverableOffset)) 1 (is-recovered .marked)) (in-three i (is-recovered .among-three))
+
+  is-recovered : (i : ℕ) → recovered sheet i (unitIn bytes i) ≡ true → Recovered bytes course i
+  unfolding recovered sampleUnitAt
+  is-recovered i e =
+      let (marked, inside) = and-both (eqb (byte bytes (offset bytes i + recoverableOffset)) 1) (inFinishedRun sheet i) e in
+      record { marked = eqb-true (byte bytes (offset bytes i + recoverableOffset)) 1 marked; among-three = three-of-run i inside }
+
+  pub not-recovered : (i : ℕ) → (Recovered bytes course i → ⊥) → recovered sheet i (unitIn bytes i) ≡ false
+  not-recovered i none = go (recovered sheet i (unitIn bytes i)) refl
+    where
+      go : (flag : Bool) → recovered sheet i (unitIn bytes i) ≡ flag → flag ≡ false
+      go true e = absurd (none (is-recovered i e))
+      go false e = refl
+
+  -- a unit among the three is in step 3
+  three-inside : (i : ℕ) → AmongThree bytes course i → course .inStepThree i ≡ true
+  three-inside i among = go (eqb i (among .first)) refl (eqb i (suc (among .first))) refl
+    where
+      at : (j : ℕ) → i ≡ j → Qualifies bytes course j → course .inStepThree i ≡ true
+      at j same here = ap (λ (k : ℕ). course .inStepThree k) same ∙ here .in-step-three
+
+      go : (one : Bool) → eqb i (among .first) ≡ one → (two : Bool) → eqb i (suc (among .first)) ≡ two → course .inStepThree i ≡ true
+      go true e two f = at (among .first) (eqb-true i (among .first) e) (among .in-a-row .one)
+      go false e true f = at (suc (among .first)) (eqb-true i (suc (among .first)) f) (among .in-a-row .two)
+      go false e false f =
+          at (suc (suc (among .first)))
+          (omega (arith, eqb-false i (among .first) e, eqb-false i (suc (among .first)) f, among .from, among .to)) (among .in-a-row .three)
+
+  pub outside-not-recovered : (i : ℕ) → course .inStepThree i ≡ false → recovered sheet i (unitIn bytes i) ≡ false
+  outside-not-recovered i out = not-recovered i (λ here. true≢false (sym (three-inside i (here .among-three)) ∙ out))
+
+-- ---- what is recorded
+
+module _ (bytes buffer : List ℕ) (answer : Answer) (results : List ℕ) (accepted : AcceptedAs bytes buffer answer results) where
+  passed : Facts bytes (recordsIn bytes)
+  passed = accepted-sheet bytes buffer answer results accepted .facts
+
+  abbrev graded-sheet : Sheet
+  graded-sheet = sheetIn bytes
+
+  abbrev its-course : Course
+  its-course = courseOf bytes
+
+  module _ (i : ℕ) (at : UnitAt bytes i) where
+    abbrev unit : SampleUnit
+    unit = unitIn bytes i
+
+    portion-is : (flag : Bool) → recovered graded-sheet i unit ≡ flag
+        → recordedPortionGrade bytes results i ≡ worse (cond flag (designatedAt graded-sheet i) (its-course .defectGrade i)) (prerequisite bytes i)
+    unfolding portionGrade portionGradeOf sampleUnitAt
+    portion-is flag e =
+        recorded-portion bytes buffer answer results accepted i at
+        ∙ ap (λ (b : Bool). worse (cond b (designatedAt graded-sheet i) (its-course .defectGrade i)) (prerequisite bytes i)) e
+
+    standing-is : (flag : Bool) → recovered graded-sheet i unit ≡ flag
+        → recordedStanding bytes results i ≡ standingOf (before graded-sheet i .phase) (failing bytes passed i) flag
+    unfolding standing graded
+    standing-is flag e =
+        recorded-standing bytes buffer answer results accepted i at ∙ ap (standingOf (before graded-sheet i .phase) (failing bytes passed i)) e
+
+    standing-out : its-course .inStepThree i ≡ false → (fails : Bool) → failing bytes passed i ≡ fails → recordedStanding bytes results i ≡ cond fails 1 0
+    standing-out out fails e =
+        standing-is false (outside-not-recovered bytes passed i out)
+        ∙ standing-outside (before graded-sheet i .phase) (failing bytes passed i) out
+        ∙ ap (λ (b : Bool). cond b 1 0) e
+
+    pub unit-recorded : UnitRecorded bytes results its-course i
+    unfolding sampleUnitAt
+    unit-recorded =
+        record {
+          mark = recorded-mark bytes buffer answer results accepted i at;
+          code = recorded-code bytes buffer answer results accepted i at;
+          plan-grade = recorded-plan bytes buffer answer results accepted i at;
+          cusums = recorded-cusum bytes buffer answer results accepted i at;
+          portion = λ none. portion-is false (not-recovered bytes passed i none);
+          recovered-portion = λ here.
+              portion-is true (recovered-is bytes passed i here)
+              ∙ ap (λ (grade : ℕ). worse grade (prerequisite bytes i)) (words.designated-is bytes passed i);
+          standing-met = λ out none. standing-out out false (not-told (words.tells-unit bytes passed i) none);
+          standing-failed = λ out fails. standing-out out true (told (words.tells-unit bytes passed i) fails);
+          standing-not-recovered = λ inside none.
+              standing-is false (not-recovered bytes passed i none) ∙ standing-inside (before graded-sheet i .phase) (failing bytes passed i) inside;
+          standing-recovered = λ here. standing-is true (recovered-is bytes passed i here) ∙ unfold standingOf in refl;
+        }
+
+  -- ---- the code grade
+
+  inside-here : (j : ℕ) → UnitAt bytes j → j < graded-sheet .size
+  unfolding sheetIn sheetOf
+  inside-here j at = at .inside
+
+  -- a unit of the sheet with this code
+  abbrev with-code : (j : ℕ) → UnitAt bytes j → (code : ℕ) → unitIn bytes j .code ≡ code → UnitWith (graded-sheet .entry) code (graded-sheet .size)
+  with-code j at code same =
+      record { index = j; inside = inside-here j at; unit = unitIn bytes j; is-unit = words.unit-here bytes passed j at; has-code = same }
+
+  -- and as the statement has it
+  unit-of : {code : ℕ} (found : UnitWith (graded-sheet .entry) code (graded-sheet .size)) → UnitAt bytes (found .index)
+  unit-of found = words.unit-there bytes passed (found .index) (found .unit) (found .is-unit)
+
+  same-unit : {code : ℕ} (found : UnitWith (graded-sheet .entry) code (graded-sheet .size)) → found .unit ≡ unitIn bytes (found .index)
+  same-unit found = unit-is bytes (found .index) (found .unit) (sym (words.entry-is bytes passed (found .index)) ∙ found .is-unit)
+
+  code-grade-is : (i : ℕ) → UnitAt bytes i
+      → recordedCodeGrade bytes results i ≡ worstBefore (portionGrade graded-sheet) (graded-sheet .entry) (unitIn bytes i .code) (graded-sheet .size)
+  unfolding codeGrade
+  code-grade-is i at = recorded-code-grade bytes buffer answer results accepted i at
+
+  pub worst-of-code : (i : ℕ) → UnitAt bytes i → WorstOfCode bytes results i
+  unfolding sampleUnitAt
+  worst-of-code i at =
+      let code = unitIn bytes i .code in
+      let found = attained (portionGrade graded-sheet) (graded-sheet .entry) code (graded-sheet .size) (with-code i at code refl) in
+      let j = found .unit-with .index in
+      let there = unit-of (found .unit-with) in
+      record {
+        none-worse = λ j there same.
+            omega (
+              arith,
+              none-worse (portionGrade graded-sheet) (graded-sheet .entry) code (graded-sheet .size) (with-code j there code same),
+              recorded-portion bytes buffer answer results accepted j there,
+              code-grade-is i at,
+            );
+        one-has-it =
+            record {
+              index = j;
+              unit = there;
+              same-code = sym (ap (λ (u : SampleUnit). u .code) (same-unit (found .unit-with))) ∙ found .unit-with .has-code;
+              same-grade =
+                  recorded-portion bytes buffer answer results accepted j there
+                  ∙ ap (portionGrade graded-sheet j) (sym (same-unit (found .unit-with)))
+                  ∙ found .same-grade
+                  ∙ sym (code-grade-is i at);
+            };
+      }
+
+pub demand2-records : Demand2Records
+demand2-records bytes buffer answer results accepted =
+    let facts = accepted-sheet bytes buffer answer results accepted .facts in
+    record {
+      course = courseOf bytes;
+      rules = rules bytes facts;
+      only-course = only-course bytes facts;
+      recorded = unit-recorded bytes buffer answer results accepted;
+      code-grades = worst-of-code bytes buffer answer results accepted;
+      same-words = same-words bytes facts;
+    }

@@ -1,0 +1,148 @@
+-- Demand 3's second half, as recorded: no higher CuSum and no new failure up to two failures in a row; without these no lower grade.
+-- From the same laws over records: the second sheet is told with the plan and the number of records of the first.
+use Prim.Native.Nat.{ℕ, _≤_, _<_}
+use mathlib.Core.Path.{_≡_, refl, sym, _∙_, subst⁻¹}
+use mathlib.Core.Bool.{Bool, true, false}
+use mathlib.Core.List.{List}
+use native.Mathlib.Omega.{arith}
+use lib.Dec.{leb}
+use borrow.Author.Tests.{leb-true, leb-false}
+use Rattle.units.specs.Words.{tableOf, countsOf}
+use Rattle.units.specs.Unit.{classCusum}
+use Rattle.rules.specs.Sheet.{Sheet, before, inForceAt, portionGrade, codeGrade}
+use Rattle.rules.specs.Anchor.{classFailsAt}
+use Rattle.rules.specs.TwoInARow.{secondInARow}
+use Rattle.units.specs.declared.SampleUnit.{SampleUnit}
+use Rattle.rules.proofs.SideBySide.{Below, NoRedesignation, not-second, second, fewer-cusums, fewer-grades}
+use Rattle.layout.specs.Layout.{planOf, sampleUnitAt, offset, mark, entryAt}
+use Rattle.writing.specs.Sheet.{sheetOf}
+use Rattle.layout.specs.declared.Mark.the-variants.{UnitMark}
+use Rattle.sheet.proofs.Accepted.{Facts}
+use Rattle.layout.proofs.Offsets.{past-entry, inside-unit}
+use Rattle.layout.proofs.Units.{entry-unit}
+use Rattle.sheet.proofs.Ranges.{designated-le}
+use Rattle.tally.specs.declared.Answer.{Answer}
+use Rattle.tally.specs.Outcome.{recordsIn}
+use Rattle.tally.specs.Accepted.{sheetIn, UnitAt}
+use Rattle.demands.specs.Demand3.{FewerDefects, NoHigherAt, NoLowerAt, Demand3FewerDefects}
+use Rattle.tally.proofs.AcceptedSheet.{accepted-sheet}
+use Rattle.demands.proofs.Recorded.{recorded-cusum, recorded-portion, recorded-code-grade}
+use Rattle.demands.proofs.AlikeSheets.{same-plans, same-marks, same-records, fellows-below, no-redesignations}
+
+-- behind the last record no unit fails
+never-behind : (bytes : List ℕ) (n : ℕ) → Facts bytes n → ((j : ℕ) → j < n → secondInARow (sheetOf bytes n) j ≡ false)
+    → (j : ℕ) → secondInARow (sheetOf bytes n) j ≡ false
+unfolding sheetOf
+never-behind bytes n facts never j = go (leb n j) refl
+  where
+    go : (test : Bool) → leb n j ≡ test → secondInARow (sheetOf bytes n) j ≡ false
+    go true e = not-second (sheetOf bytes n) j (past-entry bytes n (facts .end) j (leb-true n j e))
+    go false e = never j (leb-false n j e)
+
+module _ (bytes bytes' buffer buffer' : List ℕ) (answer answer' : Answer) (results results' : List ℕ)
+    (pair : FewerDefects bytes bytes' buffer buffer' answer answer' results results') where
+  facts : Facts bytes (recordsIn bytes)
+  facts = accepted-sheet bytes buffer answer results (pair .first) .facts
+
+  facts' : Facts bytes' (recordsIn bytes')
+  facts' = accepted-sheet bytes' buffer' answer' results' (pair .second) .facts
+
+  fellows : (i : ℕ) → Below (entryAt bytes i) (entryAt bytes' i)
+  fellows = fellows-below bytes bytes' (pair .alike) facts (pair .no-more)
+
+  none : (i : ℕ) → NoRedesignation (entryAt bytes i)
+  none = no-redesignations bytes facts (pair .no-redesignation)
+
+  -- the second sheet, told with the plan and the number of records of the first
+  abbrev fellow : Sheet
+  fellow = second (tableOf (planOf bytes)) (planOf bytes .designated) (entryAt bytes) (entryAt bytes') (recordsIn bytes) fellows none
+
+  is-fellow : sheetIn bytes' ≡ fellow
+  unfolding sheetIn sheetOf
+  is-fellow = λ k. record {
+    table = tableOf (sym (same-plans bytes bytes' (pair .alike)) k);
+    designated = sym (same-plans bytes bytes' (pair .alike)) k .designated;
+    entry = entryAt bytes';
+    size = sym (same-records bytes bytes' (pair .alike) (recordsIn bytes) (recordsIn bytes') facts facts') k;
+  }
+
+  -- the fellow of a unit is a unit
+  unit-fellow : (i : ℕ) → UnitAt bytes i → UnitAt bytes' i
+  unit-fellow i at =
+      let is-unit : mark bytes' i ≡ UnitMark = sym (same-marks bytes bytes' (pair .alike) i) ∙ at .is-unit in
+      record { inside = inside-unit bytes' (recordsIn bytes') (facts' .end) i is-unit; is-unit = is-unit }
+
+  module _ (i : ℕ) (at : UnitAt bytes i) where
+    abbrev unit : SampleUnit
+    unit = sampleUnitAt bytes (offset bytes i)
+
+    abbrev unit' : SampleUnit
+    unit' = sampleUnitAt bytes' (offset bytes' i)
+
+    -- CuSums and failures, over records
+    compared : ((j : ℕ) → j < i → secondInARow (sheetIn bytes') j ≡ false) → (class : ℕ)
+        → (classCusum (sheetIn bytes .table) (inForceAt (sheetIn bytes) i) (before (sheetIn bytes) i .cusums) (countsOf unit) class
+        ≤ classCusum (sheetIn bytes' .table) (inForceAt (sheetIn bytes') i) (before (sheetIn bytes') i .cusums) (countsOf unit') class)
+        × (classFailsAt (sheetIn bytes) class i ≡ true → classFailsAt (sheetIn bytes') class i ≡ true)
+    unfolding sheetIn sheetOf
+    compared =
+        subst⁻¹ (λ (s : Sheet). ((j : ℕ) → j < i → secondInARow s j ≡ false) → (class : ℕ)
+        → (classCusum (sheetIn bytes .table) (inForceAt (sheetIn bytes) i) (before (sheetIn bytes) i .cusums) (countsOf unit) class
+        ≤ classCusum (s .table) (inForceAt s i) (before s i .cusums) (countsOf unit') class)
+        × (classFailsAt (sheetIn bytes) class i ≡ true → classFailsAt s class i ≡ true)) is-fellow
+        (fewer-cusums (tableOf (planOf bytes)) (planOf bytes .designated) (entryAt bytes) (entryAt bytes') (recordsIn bytes) fellows none i unit unit'
+        (entry-unit bytes i (at .is-unit)) (entry-unit bytes' i (unit-fellow i at .is-unit)))
+
+    no-higher : ((j : ℕ) → j < i → secondInARow (sheetIn bytes') j ≡ false) → NoHigherAt bytes bytes' results results' i
+    no-higher never =
+        record {
+          cusums = λ class in-range.
+              omega (
+                arith,
+                compared never class .0,
+                recorded-cusum bytes buffer answer results (pair .first) i at class in-range,
+                recorded-cusum bytes' buffer' answer' results' (pair .second) i (unit-fellow i at) class in-range,
+              );
+          failures = λ class in-range. compared never class .1;
+        }
+
+    -- grades, over records
+    compared-grades : ((j : ℕ) → secondInARow (sheetIn bytes') j ≡ false)
+        → (portionGrade (sheetIn bytes) i unit ≤ portionGrade (sheetIn bytes') i unit')
+        × (codeGrade (sheetIn bytes) (unit .code) ≤ codeGrade (sheetIn bytes') (unit' .code))
+    unfolding sheetIn sheetOf
+    compared-grades =
+        let grade = designated-le bytes (recordsIn bytes) facts in
+        subst⁻¹ (λ (s : Sheet). ((j : ℕ) → secondInARow s j ≡ false)
+        → (portionGrade (sheetIn bytes) i unit ≤ portionGrade s i unit') × (codeGrade (sheetIn bytes) (unit .code) ≤ codeGrade s (unit' .code))) is-fellow
+        (λ never. fewer-grades (tableOf (planOf bytes)) (planOf bytes .designated) (entryAt bytes) (entryAt bytes') (recordsIn bytes) fellows none
+        (omega arith) never i unit unit' (entry-unit bytes i (at .is-unit)) (entry-unit bytes' i (unit-fellow i at .is-unit)))
+
+    no-lower : ((j : ℕ) → j < recordsIn bytes' → secondInARow (sheetIn bytes') j ≡ false) → NoLowerAt bytes bytes' results results' i
+    unfolding sheetIn
+    no-lower never =
+        let grades = compared-grades (never-behind bytes' (recordsIn bytes') facts' never) in
+        record {
+          portions =
+              omega (
+                arith,
+                grades .0,
+                recorded-portion bytes buffer answer results (pair .first) i at,
+                recorded-portion bytes' buffer' answer' results' (pair .second) i (unit-fellow i at),
+              );
+          codes =
+              omega (
+                arith,
+                grades .1,
+                recorded-code-grade bytes buffer answer results (pair .first) i at,
+                recorded-code-grade bytes' buffer' answer' results' (pair .second) i (unit-fellow i at),
+              );
+        }
+
+-- THE SECOND HALF OF DEMAND 3
+pub demand3-fewer-defects : Demand3FewerDefects
+demand3-fewer-defects bytes bytes' buffer buffer' answer answer' results results' pair =
+    record {
+      up-to-two-in-a-row = λ i at. no-higher bytes bytes' buffer buffer' answer answer' results results' pair i at;
+      never-two-in-a-row = λ never i at. no-lower bytes bytes' buffer buffer' answer answer' results results' pair i at never;
+    }

@@ -1,0 +1,337 @@
+-- Only one course follows the rules: two that do agree before each record of the sheet and at each unit. By induction on the records: a
+-- course that agrees up to a record has the same failures, qualifying units and restarts there, and so agrees behind it.
+use Prim.Native.Nat.{ℕ, zero, suc, _+_, _<_, _≤_}
+use mathlib.Core.Path.{_≡_, refl, sym, _∙_, ap, ap₂, subst, subst⁻¹}
+use mathlib.Core.Bool.{Bool, true, false, true≢false, false≢true}
+use mathlib.Core.List.{List}
+use mathlib.Core.Logic.{_⊎_, inl, inr, ⊎-elim}
+use native.Mathlib.Nat.{eq-or-lt-of-le}
+use native.Mathlib.Omega.{arith}
+use lib.Dec.{ltb}
+use lib.ListN.{length}
+use borrow.Author.Tests.{ltb-true, ltb-false}
+use Rattle.units.specs.Words.{substandard, classes, worse}
+use Rattle.tally.specs.Accepted.{UnitAt}
+use Rattle.demands.specs.Tells.{Tells}
+use Rattle.demands.specs.Grounds.{startIn, toleranceIn, limitIn, IsBreak, IsRedesignation}
+use Rattle.demands.specs.Course.{Course, tenTimes, ClassFails, UnitFails, FailsDesignated, SecondFails, Qualifies, ThreeQualify, ThirdQualifies, KeepsStepThree, Restart, at-break, step-three-begins, step-three-ends, at-redesignation, BestLowerGrade, Rules, SameAt}
+use Rattle.demands.proofs.Rows.{one-designated}
+
+-- a test settles what it tells
+pub settled : {test : Bool} {P : Type 0} → Tells test P → P ⊎ (P → ⊥)
+settled {test} {P} = go test
+  where
+    go : (test : Bool) → Tells test P → P ⊎ (P → ⊥)
+    go true tells = inl (tells .so refl)
+    go false tells = inr (tells .not-so refl)
+
+-- before a record
+record Same (bytes : List ℕ) (course other : Course) (i : ℕ) : Type 0 where
+  step : course .inStepThree i ≡ other .inStepThree i
+  grade : course .designated i ≡ other .designated i
+  plan : course .planGrade i ≡ other .planGrade i
+  cusum : course .planGrade i < substandard → (class : ℕ) → class < length classes → course .cusum i class ≡ other .cusum i class
+
+turned : {bytes : List ℕ} {course other : Course} {i : ℕ} → Same bytes course other i → Same bytes other course i
+turned same =
+    record {
+      step = sym (same .step);
+      grade = sym (same .grade);
+      plan = sym (same .plan);
+      cusum = λ planned class known. sym (same .cusum (omega (arith, same .plan, planned)) class known);
+    }
+
+-- before each record up to this one
+abbrev Upto : List ℕ → Course → Course → ℕ → Type 0
+Upto bytes course other i = (j : ℕ) → j ≤ i → Same bytes course other j × (course .planGrade j ≤ substandard)
+
+upto-turned : {bytes : List ℕ} {course other : Course} {i : ℕ} → Upto bytes course other i → Upto bytes other course i
+upto-turned upto j inside = let (same, bound) = upto j inside in (turned same, omega (arith, same .plan, bound))
+
+-- ---- at a record, from one course to the other
+
+module _ (bytes : List ℕ) (course other : Course) (rules : Rules bytes course) (others : Rules bytes other) where
+  module _ (i : ℕ) (same : Same bytes course other i) (bounded : course .planGrade i ≤ substandard) where
+    tolerance-same : (class : ℕ) → toleranceIn bytes (course .planGrade i) class ≡ toleranceIn bytes (other .planGrade i) class
+    tolerance-same class = ap (λ (grade : ℕ). toleranceIn bytes grade class) (same .plan)
+
+    limit-same : (class : ℕ) → limitIn bytes (course .planGrade i) class ≡ limitIn bytes (other .planGrade i) class
+    limit-same class = ap (λ (grade : ℕ). limitIn bytes grade class) (same .plan)
+
+    class-to : (class : ℕ) → class < length classes → ClassFails bytes course i class → ClassFails bytes other i class
+    class-to class known here =
+        record {
+          planned = omega (arith, same .plan, here .planned);
+          above = omega (arith, tolerance-same class, limit-same class, same .cusum (here .planned) class known, here .above);
+        }
+
+    unit-to : UnitFails bytes course i → UnitFails bytes other i
+    unit-to here = record { class = here .class; a-class = here .a-class; fails = class-to (here .class) (here .a-class) (here .fails) }
+
+    designated-to : FailsDesignated bytes course i → FailsDesignated bytes other i
+    designated-to here = record { unit = here .unit; outside-step-three = sym (same .step) ∙ here .outside-step-three; fails = unit-to (here .fails) }
+
+    new-same : (class : ℕ) → UnitAt bytes i → class < length classes → course .newCusum i class ≡ other .newCusum i class
+    new-same class at known = go (ltb (course .planGrade i) substandard) refl
+      where
+        under : course .planGrade i < substandard
+            → (low : Bool) → ltb (course .cusum i class + tenTimes bytes i class) (toleranceIn bytes (course .planGrade i) class) ≡ low
+            → (high : Bool)
+            → ltb (toleranceIn bytes (course .planGrade i) class + limitIn bytes (course .planGrade i) class) (course .cusum i class + tenTimes bytes i class) ≡ high
+            → course .newCusum i class ≡ other .newCusum i class
+        under planned true e high f =
+            let small = ltb-true (course .cusum i class + tenTimes bytes i class) (toleranceIn bytes (course .planGrade i) class) e in
+            rules .rule-two i class at known .below planned small
+            ∙ sym (others .rule-two i class at known .below (omega (arith, same .plan, planned))
+            (omega (arith, small, tolerance-same class, same .cusum planned class known)))
+        under planned false e true f =
+            let large = ltb-true (toleranceIn bytes (course .planGrade i) class + limitIn bytes (course .planGrade i) class)
+            (course .cusum i class + tenTimes bytes i class) f in
+            let failed : ClassFails bytes course i class = record { planned = planned; above = large } in
+            rules .rule-two i class at known .fails failed ∙ limit-same class ∙ sym (others .rule-two i class at known .fails (class-to class known failed))
+        under planned false e false f =
+            let from = ltb-false (course .cusum i class + tenTimes bytes i class) (toleranceIn bytes (course .planGrade i) class) e in
+            let to = ltb-false (toleranceIn bytes (course .planGrade i) class + limitIn bytes (course .planGrade i) class)
+            (course .cusum i class + tenTimes bytes i class) f in
+            let old = same .cusum planned class known in
+            let one = rules .rule-two i class at known .between planned from to in
+            let two = others .rule-two i class at known .between (omega (arith, same .plan, planned))
+            (omega (arith, from, tolerance-same class, old)) (omega (arith, to, tolerance-same class, limit-same class, old)) in
+            omega (arith, one, two, tolerance-same class, old)
+
+        go : (planned : Bool) → ltb (course .planGrade i) substandard ≡ planned → course .newCusum i class ≡ other .newCusum i class
+        go true e = under (ltb-true (course .planGrade i) substandard e) _ refl _ refl
+        go false e =
+            let none : course .planGrade i ≡ substandard = omega (arith, ltb-false (course .planGrade i) substandard e, bounded) in
+            rules .rule-two i class at known .no-plan none ∙ sym (others .rule-two i class at known .no-plan (sym (same .plan) ∙ none))
+
+    qualifies-to : Qualifies bytes course i → Qualifies bytes other i
+    qualifies-to here =
+        record {
+          unit = here .unit;
+          in-step-three = sym (same .step) ∙ here .in-step-three;
+          zero = λ class known. sym (new-same class (here .unit) known) ∙ here .zero class known;
+          within = λ class known. subst (λ (grade : ℕ). tenTimes bytes i class ≤ toleranceIn bytes grade class) (same .grade) (here .within class known);
+        }
+
+    keeps-to : KeepsStepThree bytes course i → KeepsStepThree bytes other i
+    keeps-to (inside, better) = (sym (same .step) ∙ inside, omega (arith, better, same .plan))
+
+    best-same : (one two : ℕ) → BestLowerGrade bytes course i one → BestLowerGrade bytes other i two → one ≡ two
+    best-same one two best best' = go (ltb one two) refl (ltb two one) refl
+      where
+        go : (less : Bool) → ltb one two ≡ less → (more : Bool) → ltb two one ≡ more → one ≡ two
+        go true e more f =
+            let less = ltb-true one two e in
+            absurd (best' .none-better one (omega (arith, best .lower, same .plan)) less (best .admits (omega (arith, less, best' .a-grade))))
+        go false e true f =
+            let more = ltb-true two one f in
+            absurd (best .none-better two (omega (arith, best' .lower, same .plan)) more (best' .admits (omega (arith, more, best .a-grade))))
+        go false e false f = omega (arith, ltb-false one two e, ltb-false two one f)
+
+  second-to : (i : ℕ) → Upto bytes course other i → SecondFails bytes course i → SecondFails bytes other i
+  second-to i upto here =
+      let (before, bound) = upto (here .first) (omega (arith, here .next)) in
+      let (now, bound-now) = upto i (omega arith) in
+      record {
+        first = here .first;
+        next = here .next;
+        first-fails = designated-to (here .first) before bound (here .first-fails);
+        second-fails = designated-to i now bound-now (here .second-fails);
+      }
+
+  third-to : (i : ℕ) → Upto bytes course other i → ThirdQualifies bytes course i → ThirdQualifies bytes other i
+  third-to i upto here =
+      let (one, bound-one) = upto (here .first) (omega (arith, here .last)) in
+      let (two, bound-two) = upto (suc (here .first)) (omega (arith, here .last)) in
+      let (three, bound-three) = upto (suc (suc (here .first))) (omega (arith, here .last)) in
+      let row = here .in-a-row in
+      record {
+        first = here .first;
+        last = here .last;
+        in-a-row =
+            record {
+              one = qualifies-to (here .first) one bound-one (row .one);
+              two = qualifies-to (suc (here .first)) two bound-two (row .two);
+              three = qualifies-to (suc (suc (here .first))) three bound-three (row .three);
+            };
+      }
+
+-- ---- the course that a sheet takes, and another
+
+module _ (bytes : List ℕ) (size : ℕ) (course other : Course) (rules : Rules bytes course) (others : Rules bytes other)
+    (bounded : (i : ℕ) → course .planGrade i ≤ substandard)
+    (unit-settled : (i : ℕ) → UnitFails bytes course i ⊎ (UnitFails bytes course i → ⊥))
+    (second-settled : (i : ℕ) → SecondFails bytes course i ⊎ (SecondFails bytes course i → ⊥))
+    (third-settled : (i : ℕ) → ThirdQualifies bytes course i ⊎ (ThirdQualifies bytes course i → ⊥))
+    (keeps-settled : (i : ℕ) → KeepsStepThree bytes course i ⊎ (KeepsStepThree bytes course i → ⊥))
+    (restart-settled : (i : ℕ) → i < size → Restart bytes course i ⊎ (Restart bytes course i → ⊥))
+    (kind : (i : ℕ) → i < size → UnitAt bytes i ⊎ (IsRedesignation bytes i ⊎ IsBreak bytes i)) where
+  defect-same : (i : ℕ) → Same bytes course other i → UnitAt bytes i → course .defectGrade i ≡ other .defectGrade i
+  defect-same i same at = go (unit-settled i)
+    where
+      bound : other .planGrade i ≤ substandard
+      bound = omega (arith, same .plan, bounded i)
+
+      go : UnitFails bytes course i ⊎ (UnitFails bytes course i → ⊥) → course .defectGrade i ≡ other .defectGrade i
+      go (inl fails) =
+          best-same bytes course other rules others i same (bounded i) (course .defectGrade i) (other .defectGrade i)
+          (rules .rule-three i at .fails fails)
+          (others .rule-three i at .fails (unit-to bytes course other rules others i same (bounded i) fails))
+      go (inr meets) =
+          rules .rule-three i at .meets meets
+          ∙ same .plan
+          ∙ sym (others .rule-three i at .meets (λ fails. meets (unit-to bytes other course others rules i (turned same) bound fails)))
+
+  module _ (i : ℕ) (inside : i < size) (upto : Upto bytes course other i) where
+    here : Same bytes course other i
+    here = upto i (omega arith) .0
+
+    back : Upto bytes other course i
+    back = upto-turned upto
+
+    step-next : course .inStepThree (suc i) ≡ other .inStepThree (suc i)
+    step-next = go (course .inStepThree i) refl
+      where
+        out : course .inStepThree i ≡ false → SecondFails bytes course i ⊎ (SecondFails bytes course i → ⊥)
+            → course .inStepThree (suc i) ≡ other .inStepThree (suc i)
+        out e (inl second) = rules .begins i second ∙ sym (others .begins i (second-to bytes course other rules others i upto second))
+        out e (inr none) =
+            rules .not-begun i e none
+            ∙ sym (others .not-begun i (sym (here .step) ∙ e) (λ second. none (second-to bytes other course others rules i back second)))
+
+        at-unit : course .inStepThree i ≡ true → UnitAt bytes i → ThirdQualifies bytes course i ⊎ (ThirdQualifies bytes course i → ⊥)
+            → course .inStepThree (suc i) ≡ other .inStepThree (suc i)
+        at-unit e at (inl third) = rules .ends i third ∙ sym (others .ends i (third-to bytes course other rules others i upto third))
+        at-unit e at (inr none) =
+            rules .unit-stays i at e none
+            ∙ sym (others .unit-stays i at (sym (here .step) ∙ e) (λ third. none (third-to bytes other course others rules i back third)))
+
+        at-new : course .inStepThree i ≡ true → IsRedesignation bytes i → KeepsStepThree bytes course i ⊎ (KeepsStepThree bytes course i → ⊥)
+            → course .inStepThree (suc i) ≡ other .inStepThree (suc i)
+        at-new e new (inl keeps) =
+            rules .redesignation-stays i new keeps
+            ∙ sym (others .redesignation-stays i new (keeps-to bytes course other rules others i here (bounded i) keeps))
+        at-new e new (inr none) =
+            rules .redesignation-ends i new none
+            ∙ sym (others .redesignation-ends i new
+            (λ keeps. none (keeps-to bytes other course others rules i (turned here) (back i (omega arith) .1) keeps)))
+
+        go : (stands : Bool) → course .inStepThree i ≡ stands → course .inStepThree (suc i) ≡ other .inStepThree (suc i)
+        go false e = out e (second-settled i)
+        go true e =
+            ⊎-elim (λ at. at-unit e at (third-settled i))
+            (⊎-elim (λ new. at-new e new (keeps-settled i))
+            (λ is-break. rules .break-stays i is-break e ∙ sym (others .break-stays i is-break (sym (here .step) ∙ e))))
+            (kind i inside)
+
+    grade-next : course .designated (suc i) ≡ other .designated (suc i)
+    grade-next = one-designated bytes (rules .designated (suc i)) (others .designated (suc i))
+
+    -- where step 3 stands behind a record that it did not stand before, the plan is that of the worse of two defect grades
+    lower-next : (k : ℕ) → i ≡ k → SecondFails bytes course k → course .planGrade (suc k) ≡ other .planGrade (suc k)
+    lower-next zero e second = omega (arith, second .next)
+    lower-next (suc k) e second =
+        let first-same = upto k (omega (arith, e)) .0 in
+        let second-same = upto (suc k) (omega (arith, e)) .0 in
+        let row : Upto bytes course other (suc k) = λ j inside-row. upto j (omega (arith, e, inside-row)) in
+        let first-is : second .first ≡ k = omega (arith, second .next) in
+        rules .lower-plan k second
+        ∙ ap₂ worse
+        (defect-same k first-same (subst (UnitAt bytes) first-is (second .first-fails .unit)))
+        (defect-same (suc k) second-same (second .second-fails .unit))
+        ∙ sym (others .lower-plan k (second-to bytes course other rules others (suc k) row second))
+
+    plan-next : course .planGrade (suc i) ≡ other .planGrade (suc i)
+    plan-next = go (course .inStepThree (suc i)) refl (course .inStepThree i) refl (second-settled i)
+      where
+        go : (stands : Bool) → course .inStepThree (suc i) ≡ stands → (stood : Bool) → course .inStepThree i ≡ stood
+            → SecondFails bytes course i ⊎ (SecondFails bytes course i → ⊥) → course .planGrade (suc i) ≡ other .planGrade (suc i)
+        go false e stood f second =
+            rules .designated-plan (suc i) e ∙ grade-next ∙ sym (others .designated-plan (suc i) (sym step-next ∙ e))
+        go true e true f second =
+            rules .lower-stays i f e ∙ here .plan ∙ sym (others .lower-stays i (sym (here .step) ∙ f) (sym step-next ∙ e))
+        go true e false f (inl second) = lower-next i refl second
+        go true e false f (inr none) = absurd (true≢false (sym e ∙ rules .not-begun i f none))
+
+    -- the restarts are the same
+    restart-to : Restart bytes course i → Restart bytes other i
+    restart-to (at-break is-break) = at-break is-break
+    restart-to (step-three-begins second) = step-three-begins (second-to bytes course other rules others i upto second)
+    restart-to (step-three-ends third) = step-three-ends (third-to bytes course other rules others i upto third)
+    restart-to (at-redesignation new none) =
+        at-redesignation new (λ keeps. none (keeps-to bytes other course others rules i (turned here) (back i (omega arith) .1) keeps))
+
+    restart-from : Restart bytes other i → Restart bytes course i
+    restart-from (at-break is-break) = at-break is-break
+    restart-from (step-three-begins second) = step-three-begins (second-to bytes other course others rules i back second)
+    restart-from (step-three-ends third) = step-three-ends (third-to bytes other course others rules i back third)
+    restart-from (at-redesignation new none) =
+        at-redesignation new (λ keeps. none (keeps-to bytes course other rules others i here (bounded i) keeps))
+
+    cusum-next : course .planGrade (suc i) < substandard → (class : ℕ) → class < length classes
+        → course .cusum (suc i) class ≡ other .cusum (suc i) class
+    cusum-next planned class known = go (restart-settled i inside)
+      where
+        goes-on : (Restart bytes course i → ⊥) → UnitAt bytes i ⊎ (IsRedesignation bytes i ⊎ IsBreak bytes i)
+            → course .cusum (suc i) class ≡ other .cusum (suc i) class
+        goes-on none (inl at) =
+            rules .unit-goes-on i class at none known
+            ∙ new-same bytes course other rules others i here (bounded i) class at known
+            ∙ sym (others .unit-goes-on i class at (λ restart. none (restart-from restart)) known)
+        goes-on none (inr (inl new)) = kept (keeps-settled i)
+          where
+            kept : KeepsStepThree bytes course i ⊎ (KeepsStepThree bytes course i → ⊥) → course .cusum (suc i) class ≡ other .cusum (suc i) class
+            kept (inl keeps) =
+                let same-plan = rules .lower-stays i (keeps .0) (rules .redesignation-stays i new keeps) in
+                rules .redesignation-goes-on i class new none known
+                ∙ here .cusum (omega (arith, planned, same-plan)) class known
+                ∙ sym (others .redesignation-goes-on i class new (λ restart. none (restart-from restart)) known)
+            kept (inr ends) = absurd (none (at-redesignation new ends))
+        goes-on none (inr (inr is-break)) = absurd (none (at-break is-break))
+
+        go : Restart bytes course i ⊎ (Restart bytes course i → ⊥) → course .cusum (suc i) class ≡ other .cusum (suc i) class
+        go (inl restart) =
+            rules .restarts i class restart planned known
+            ∙ ap (λ (grade : ℕ). startIn bytes grade class) plan-next
+            ∙ sym (others .restarts i class (restart-to restart) (omega (arith, planned, plan-next)) known)
+        go (inr none) = goes-on none (kind i inside)
+
+    same-next : Same bytes course other (suc i)
+    same-next = record { step = step-next; grade = grade-next; plan = plan-next; cusum = cusum-next }
+
+  -- ---- the whole sheet
+
+  same-first : Same bytes course other 0
+  same-first =
+      let grade = one-designated bytes (rules .designated 0) (others .designated 0) in
+      record {
+        step = rules .opening ∙ sym (others .opening);
+        grade = grade;
+        plan = rules .designated-plan 0 (rules .opening) ∙ grade ∙ sym (others .designated-plan 0 (others .opening));
+        cusum = λ planned class known.
+            rules .opening-cusums class known ∙ ap (λ (designated : ℕ). startIn bytes designated class) grade ∙ sym (others .opening-cusums class known);
+      }
+
+  abbrev Agreed : ℕ → Type 0
+  Agreed j = Same bytes course other j × (course .planGrade j ≤ substandard)
+
+  all-same : (i : ℕ) → i ≤ size → Upto bytes course other i
+  all-same zero inside j below = let first : j ≡ 0 = omega arith in subst⁻¹ Agreed first (same-first, bounded 0)
+  all-same (suc i) inside j below = go (all-same i (omega arith)) (eq-or-lt-of-le below)
+    where
+      go : Upto bytes course other i → (j ≡ suc i) ⊎ (j < suc i) → Agreed j
+      go earlier (inl last) = subst⁻¹ Agreed last (same-next i (omega arith) earlier, bounded (suc i))
+      go earlier (inr less) = earlier j (omega arith)
+
+  pub one-course : (i : ℕ) → i < size → UnitAt bytes i → SameAt course other i
+  one-course i inside at =
+      let same = all-same i (omega arith) i (omega arith) .0 in
+      record {
+        step-three = same .step;
+        designated = same .grade;
+        plan-grade = same .plan;
+        old-cusums = same .cusum;
+        new-cusums = λ class known. new-same bytes course other rules others i same (bounded i) class at known;
+        defect-grade = defect-same i same at;
+      }

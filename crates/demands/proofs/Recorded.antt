@@ -1,0 +1,131 @@
+-- What the result buffer of an accepted sheet records of a unit: code, grades, standing, plan grade and CuSums of the rules; bounds.
+-- From where the result record of the unit stands in the buffer; no CuSum is too large for its two bytes, by number 14.
+use Prim.Native.Nat.{ℕ, _*_, _≤_, _<_}
+use mathlib.Core.Path.{_≡_, refl, sym, _∙_, ap, ap₂}
+use mathlib.Core.List.{List, _++_}
+use native.Mathlib.Omega.{arith}
+use lib.ListN.{length, drop}
+use Rattle.cusum.specs.Step.{largestTenths}
+use Rattle.encoding.specs.Bytes.{byte}
+use Rattle.units.specs.Words.{substandard, classes, tenthsIn, countsOf}
+use Rattle.units.specs.Unit.{classCusum}
+use Rattle.units.specs.Records.{unitsAmong}
+use Rattle.units.specs.declared.SampleUnit.{SampleUnit}
+use Rattle.units.specs.declared.Entry.{Entry}
+use Rattle.units.specs.declared.Entry.the-variants.{UnitRecord}
+use Rattle.units.proofs.Bounds.{class-cusum-le}
+use Rattle.rules.specs.Sheet.{before, inForceAt, gradedAt, portionGrade, standing, codeGrade}
+use Rattle.rules.proofs.Grades.{code-grade-at-most}
+use Rattle.layout.specs.Layout.{sampleUnitAt, offset, unitsBefore}
+use Rattle.layout.proofs.Units.{entry-unit, units-among}
+use Rattle.sheet.proofs.Ranges.{designated-le, prerequisite-le}
+use Rattle.results.specs.Record.{resultSize, markIn, codeIn, portionGradeIn, codeGradeIn, planGradeIn, standingIn, cusumIn}
+use Rattle.results.specs.declared.ResultRecord.{ResultRecord}
+use Rattle.results.proofs.Written.{mark-written, portion-written, code-grade-written, plan-written, standing-written, code-written, cusum-written}
+use Rattle.writing.specs.Sheet.{sheetOf, resultWith, resultOf}
+use Rattle.tally.specs.declared.Answer.{Answer}
+use Rattle.tally.specs.Outcome.{resultsOf, recordsIn}
+use Rattle.tally.specs.Accepted.{AcceptedAs, sheetIn, UnitAt, recordedCusum, recordedPortionGrade, recordedCodeGrade, numbersInForce}
+use Rattle.tally.proofs.AcceptedSheet.{AcceptedSheet, accepted-sheet}
+use Rattle.tally.proofs.Entries.{code-fits, new-grades, portion-le}
+use Rattle.tally.proofs.Overfull.{cusum-graded, cusum-fits}
+
+module _ (bytes buffer : List ℕ) (answer : Answer) (results : List ℕ) (accepted : AcceptedAs bytes buffer answer results) where
+  sheet-accepted : AcceptedSheet bytes buffer answer results
+  sheet-accepted = accepted-sheet bytes buffer answer results accepted
+
+  -- what stands behind the result records
+  abbrev behind : List ℕ
+  behind = drop (resultSize * unitsBefore bytes (recordsIn bytes)) buffer
+
+  abbrev recording : ℕ → SampleUnit → ResultRecord
+  recording = resultOf (sheetIn bytes)
+
+  abbrev grades : ℕ → ℕ
+  grades = codeGrade (sheetIn bytes)
+
+  abbrev entries : ℕ → Entry
+  entries = sheetIn bytes .entry
+
+  abbrev size : ℕ
+  size = sheetIn bytes .size
+
+  module _ (i : ℕ) (at : UnitAt bytes i) where
+    abbrev unit : SampleUnit
+    unit = sampleUnitAt bytes (offset bytes i)
+
+    unit-here : sheetIn bytes .entry i ≡ UnitRecord unit
+    unfolding sheetIn sheetOf
+    unit-here = entry-unit bytes i (at .is-unit)
+
+    inside-here : i < sheetIn bytes .size
+    unfolding sheetIn sheetOf
+    inside-here = at .inside
+
+    -- a field of the record, read from the buffer, is read from the records written
+    read-there : (field : List ℕ → ℕ → ℕ) → field results (unitsBefore bytes i) ≡ field (resultsOf (sheetIn bytes) ++ behind) (unitsAmong (sheetIn bytes .entry) i)
+    unfolding sheetIn sheetOf
+    read-there field = ap₂ field (sheet-accepted .filled) (units-among bytes i)
+
+    pub recorded-mark : markIn results (unitsBefore bytes i) ≡ 0x4752
+    recorded-mark = read-there markIn ∙ mark-written recording grades entries size behind i inside-here unit unit-here
+
+    pub recorded-portion : recordedPortionGrade bytes results i ≡ portionGrade (sheetIn bytes) i (sampleUnitAt bytes (offset bytes i))
+    unfolding resultOf resultWith portionGrade
+    recorded-portion = read-there portionGradeIn ∙ portion-written recording grades entries size behind i inside-here unit unit-here
+
+    pub recorded-code-grade : recordedCodeGrade bytes results i ≡ codeGrade (sheetIn bytes) (sampleUnitAt bytes (offset bytes i) .code)
+    recorded-code-grade = read-there codeGradeIn ∙ code-grade-written recording grades entries size behind i inside-here unit unit-here
+
+    -- the grade of the plan in force, 3 if none
+    pub recorded-plan : planGradeIn results (unitsBefore bytes i) ≡ inForceAt (sheetIn bytes) i
+    unfolding resultOf resultWith
+    recorded-plan = read-there planGradeIn ∙ plan-written recording grades entries size behind i inside-here unit unit-here
+
+    -- the standing, 3 exactly if the portion is recovered
+    pub recorded-standing : standingIn results (unitsBefore bytes i) ≡ standing (sheetIn bytes) i (sampleUnitAt bytes (offset bytes i))
+    unfolding resultOf resultWith standing
+    recorded-standing = read-there standingIn ∙ standing-written recording grades entries size behind i inside-here unit unit-here
+
+    -- the code, where every byte of the sheet is below 256, as in every slice
+    pub recorded-code : ((place : ℕ) → byte bytes place < 256) → codeIn results (unitsBefore bytes i) ≡ sampleUnitAt bytes (offset bytes i) .code
+    unfolding resultOf resultWith
+    recorded-code small =
+        read-there codeIn
+        ∙ code-written recording grades entries size behind i inside-here unit unit-here
+        (code-fits bytes small i unit (entry-unit bytes i (at .is-unit)))
+
+    -- every CuSum fits in its two bytes
+    pub cusum-in-two-bytes : (class : ℕ) → class < length classes → tenthsIn (gradedAt (sheetIn bytes) i (sampleUnitAt bytes (offset bytes i)) .cusums) class ≤ largestTenths
+    cusum-in-two-bytes class inside =
+        cusum-fits (sheetIn bytes) (recordsIn bytes) (sheet-accepted .none-overfull) i (at .inside) unit unit-here class inside
+
+    pub recorded-cusum : (class : ℕ) → class < length classes
+        → recordedCusum bytes results i class
+        ≡ classCusum (sheetIn bytes .table) (inForceAt (sheetIn bytes) i) (before (sheetIn bytes) i .cusums) (countsOf (sampleUnitAt bytes (offset bytes i))) class
+    unfolding resultOf resultWith
+    recorded-cusum class inside =
+        let small = cusum-in-two-bytes class inside in
+        read-there (λ (l : List ℕ) (j : ℕ). cusumIn l j class)
+        ∙ cusum-written recording grades entries size behind i inside-here unit unit-here class inside (omega arith)
+        ∙ cusum-graded (sheetIn bytes) i unit class inside
+
+    -- ---- bounds
+
+    pub recorded-cusum-le : (class : ℕ) → class < length classes → recordedCusum bytes results i class ≤ numbersInForce bytes i class .limit
+    recorded-cusum-le class inside =
+        rw (recorded-cusum class inside)
+        (class-cusum-le (sheetIn bytes .table) (inForceAt (sheetIn bytes) i) (before (sheetIn bytes) i .cusums) (countsOf unit) class)
+
+    pub recorded-portion-le : recordedPortionGrade bytes results i ≤ substandard
+    unfolding sheetIn
+    recorded-portion-le =
+        rw recorded-portion (portion-le bytes (recordsIn bytes) (sheet-accepted .facts) i unit (entry-unit bytes i (at .is-unit)))
+
+    pub recorded-code-grade-le : recordedCodeGrade bytes results i ≤ substandard
+    unfolding sheetIn sheetOf
+    recorded-code-grade-le =
+        let facts = sheet-accepted .facts in
+        rw recorded-code-grade
+        (code-grade-at-most (sheetIn bytes) (designated-le bytes (recordsIn bytes) facts) (new-grades bytes (recordsIn bytes) facts)
+        (prerequisite-le bytes (recordsIn bytes) facts) (unit .code))

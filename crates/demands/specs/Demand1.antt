@@ -1,0 +1,48 @@
+-- Demand 1: any file at all is accepted, or refused by one of the listed refusals with the place where it stopped. A refused sheet
+-- changes nothing in the result buffer, an accepted one changes only its result records. No premise is on the bytes or on the
+-- buffer: the caller has nothing to check beforehand.
+use Prim.Native.Nat.{ℕ, _*_, _<_, _≤_}
+use mathlib.Core.Path.{_≡_}
+use mathlib.Core.List.{List}
+use mathlib.Core.Logic.{_⊎_}
+use lib.ListN.{length, drop}
+use Rattle.layout.specs.Layout.{offset, unitsBefore}
+use Rattle.sheet.specs.Refusals.{planRefusal, recordRefusal}
+use Rattle.results.specs.Record.{resultSize}
+use Rattle.tally.specs.declared.Answer.{Answer}
+use Rattle.tally.specs.Outcome.{Outcome, outcome, recordsIn}
+
+-- a record is refused: by its number, at the offset of its mark, and no record before it is
+pub record StoppedAt (bytes : List ℕ) (number at : ℕ) : Type 0 where
+  pub stop : ℕ
+  pub at-mark : at ≡ offset bytes stop
+  pub inside : at < length bytes
+  pub refusal : number ≡ recordRefusal bytes stop
+  pub earlier : (j : ℕ) → j < stop → recordRefusal bytes j ≡ 0
+
+-- accepted: 0 and the sheet's length. Refused: 1 to 5 for the plan, at offset 0; 6 to 12 for a record, at its mark; 13 or 14 for the
+-- result buffer, at the sheet's length
+unfoldable pub Listed : List ℕ → Answer → Type 0
+Listed bytes answer =
+    ((answer .number ≡ 0) × (answer .offset ≡ length bytes))
+    ⊎ (((1 ≤ answer .number) × (answer .number ≤ 5) × (answer .number ≡ planRefusal bytes) × (answer .offset ≡ 0))
+    ⊎ (((6 ≤ answer .number) × (answer .number ≤ 12) × StoppedAt bytes (answer .number) (answer .offset))
+    ⊎ ((13 ≤ answer .number) × (answer .number ≤ 14) × (answer .offset ≡ length bytes))))
+
+-- of an answer and the result buffer before and after
+pub record AnswerAndBuffer (bytes buffer : List ℕ) (answer : Answer) (results : List ℕ) : Type 0 where
+  pub listed : Listed bytes answer
+  -- refused: no units, and every byte of the buffer is kept
+  pub refused-units : (answer .number ≡ 0 → ⊥) → answer .units ≡ 0
+  pub refused-buffer : (answer .number ≡ 0 → ⊥) → results ≡ buffer
+  -- accepted: the units are those of the sheet, there is room for their result records, and every byte behind them is kept
+  pub accepted-units : answer .number ≡ 0 → answer .units ≡ unitsBefore bytes (recordsIn bytes)
+  pub accepted-room : answer .number ≡ 0 → resultSize * answer .units ≤ length buffer
+  pub accepted-rest : answer .number ≡ 0 → drop (resultSize * answer .units) results ≡ drop (resultSize * answer .units) buffer
+  pub same-length : length results ≡ length buffer
+
+-- for every sheet and every buffer, as the promise of `grade` says
+abbrev pub Demand1 : Type 0
+Demand1 =
+    (bytes buffer : List ℕ) (answer : Answer) (results : List ℕ)
+    → _≡_ {A = Outcome} (record { answer = answer; buffer = results }) (outcome bytes buffer) → AnswerAndBuffer bytes buffer answer results

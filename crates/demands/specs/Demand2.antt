@@ -1,0 +1,98 @@
+-- Demand 2: an accepted sheet gets, unit by unit, exactly the CuSums, portion grades, recoveries and code grades of the rules. (No
+-- sheet is refused unless a listed ground applies: `Demand2Grounds` in `Grounds`.)
+use Prim.Native.Nat.{ℕ, suc, _+_, _<_, _≤_}
+use mathlib.Core.Path.{_≡_}
+use mathlib.Core.Bool.{Bool, true, false}
+use mathlib.Core.List.{List}
+use lib.ListN.{length}
+use Rattle.encoding.specs.Bytes.{byte, number}
+use Rattle.units.specs.Words.{substandard, classes, worse}
+use Rattle.rules.specs.Sheet.{inForceAt}
+use Rattle.rules.specs.TwoInARow.{secondInARow}
+use Rattle.rules.specs.Anchor.{classFailsAt, restartAt}
+use Rattle.layout.specs.Layout.{codeOffset, offset, unitsBefore}
+use Rattle.results.specs.Record.{markIn, codeIn, planGradeIn, standingIn}
+use Rattle.tally.specs.declared.Answer.{Answer}
+use Rattle.tally.specs.Outcome.{recordsIn}
+use Rattle.tally.specs.Accepted.{AcceptedAs, sheetIn, UnitAt, recordedCusum, recordedPortionGrade, recordedCodeGrade, numbersInForce}
+use Rattle.demands.specs.Tells.{Tells}
+use Rattle.demands.specs.Grounds.{startIn, toleranceIn, limitIn}
+use Rattle.demands.specs.Course.{Course, prerequisite, ClassFails, UnitFails, SecondFails, Recovered, Restart, Rules, SameAt}
+
+-- ---- what is recorded of a unit
+
+-- for the unit that is record i: mark and code of the result record, grade of the plan in force, standing
+abbrev pub recordedMark : List ℕ → List ℕ → ℕ → ℕ
+recordedMark bytes results i = markIn results (unitsBefore bytes i)
+
+abbrev pub recordedCode : List ℕ → List ℕ → ℕ → ℕ
+recordedCode bytes results i = codeIn results (unitsBefore bytes i)
+
+abbrev pub recordedPlanGrade : List ℕ → List ℕ → ℕ → ℕ
+recordedPlanGrade bytes results i = planGradeIn results (unitsBefore bytes i)
+
+abbrev pub recordedStanding : List ℕ → List ℕ → ℕ → ℕ
+recordedStanding bytes results i = standingIn results (unitsBefore bytes i)
+
+-- the production code of the unit that is record i
+abbrev pub codeOf : List ℕ → ℕ → ℕ
+codeOf bytes i = number bytes (offset bytes i + codeOffset)
+
+pub record UnitRecorded (bytes results : List ℕ) (course : Course) (i : ℕ) : Type 0 where
+  pub mark : recordedMark bytes results i ≡ 0x4752
+  -- (that the sheet is made of bytes, as every sheet is, the other fields need not know)
+  pub code : ((place : ℕ) → byte bytes place < 256) → recordedCode bytes results i ≡ codeOf bytes i
+  pub plan-grade : recordedPlanGrade bytes results i ≡ course .planGrade i
+  pub cusums : (class : ℕ) → class < length classes → recordedCusum bytes results i class ≡ course .newCusum i class
+  -- rule 4: the portion grade is the worse of defect grade and prerequisite grade; of a recovered portion the worse of designated grade
+  -- and prerequisite grade
+  pub portion : (Recovered bytes course i → ⊥) → recordedPortionGrade bytes results i ≡ worse (course .defectGrade i) (prerequisite bytes i)
+  pub recovered-portion : Recovered bytes course i → recordedPortionGrade bytes results i ≡ worse (course .designated i) (prerequisite bytes i)
+  -- standing: 0 met the designated plan, 1 failed it, 2 in step 3 and not recovered, 3 recovered
+  pub standing-met : course .inStepThree i ≡ false → (UnitFails bytes course i → ⊥) → recordedStanding bytes results i ≡ 0
+  pub standing-failed : course .inStepThree i ≡ false → UnitFails bytes course i → recordedStanding bytes results i ≡ 1
+  pub standing-not-recovered : course .inStepThree i ≡ true → (Recovered bytes course i → ⊥) → recordedStanding bytes results i ≡ 2
+  pub standing-recovered : Recovered bytes course i → recordedStanding bytes results i ≡ 3
+
+-- ---- the code grade
+
+-- a unit with the same code, anywhere on the sheet, whose portion grade is the code grade
+pub record HasCodeGrade (bytes results : List ℕ) (i : ℕ) : Type 0 where
+  pub index : ℕ
+  pub unit : UnitAt bytes index
+  pub same-code : codeOf bytes index ≡ codeOf bytes i
+  pub same-grade : recordedPortionGrade bytes results index ≡ recordedCodeGrade bytes results i
+
+-- the code grade is the worst portion grade among all units of the sheet with that code, adjoining or not
+pub record WorstOfCode (bytes results : List ℕ) (i : ℕ) : Type 0 where
+  pub none-worse : (j : ℕ) → UnitAt bytes j → codeOf bytes j ≡ codeOf bytes i → recordedPortionGrade bytes results j ≤ recordedCodeGrade bytes results i
+  pub one-has-it : HasCodeGrade bytes results i
+
+-- ---- the demand
+
+-- words that demand 3 takes from the definitions mean what the course says: a class fails, the second of two failures, a restart, the
+-- grade of the plan in force, its S, T and L
+pub record SameWords (bytes : List ℕ) (course : Course) : Type 0 where
+  pub class-fails : (i class : ℕ) → UnitAt bytes i → class < length classes → Tells (classFailsAt (sheetIn bytes) class i) (ClassFails bytes course i class)
+  pub second-fails : (i : ℕ) → Tells (secondInARow (sheetIn bytes) i) (SecondFails bytes course i)
+  pub restart : (i : ℕ) → i < recordsIn bytes → Tells (restartAt (sheetIn bytes) i) (Restart bytes course i)
+  pub plan-grade : (i : ℕ) → inForceAt (sheetIn bytes) i ≡ course .planGrade i
+  pub numbers : (i class : ℕ) → course .planGrade i < substandard → class < length classes →
+      let numbers = numbersInForce bytes i class in
+      let grade = course .planGrade i in
+      (numbers .start ≡ startIn bytes grade class) × (numbers .tolerance ≡ toleranceIn bytes grade class) × (numbers .limit ≡ limitIn bytes grade class)
+
+-- of an accepted sheet and the result buffer as it is left: its course follows the rules, every other that does agrees with it at every
+-- unit, and it is what is recorded
+pub record GradedByRules (bytes results : List ℕ) : Type 0 where
+  pub course : Course
+  pub rules : Rules bytes course
+  pub only-course : (other : Course) → Rules bytes other → (i : ℕ) → UnitAt bytes i → SameAt course other i
+  pub recorded : (i : ℕ) → UnitAt bytes i → UnitRecorded bytes results course i
+  pub code-grades : (i : ℕ) → UnitAt bytes i → WorstOfCode bytes results i
+  pub same-words : SameWords bytes course
+
+-- for every accepted sheet
+abbrev pub Demand2Records : Type 0
+Demand2Records =
+    (bytes buffer : List ℕ) (answer : Answer) (results : List ℕ) → AcceptedAs bytes buffer answer results → GradedByRules bytes results

@@ -1,0 +1,33 @@
+-- The demands on the grading as one theorem, `demands : Demands` in `proofs/Demands.antt`. Its first field is what the code promises: the
+-- answer and the whole result buffer are the `outcome` of the sheet and the buffer, for every input. Every other field speaks of that, but for P1 to P8, which speak of
+-- the rules alone.
+use Rattle.tally.proofs.grade.Statement as grade
+use Rattle.demands.specs.Demand1.{Demand1}
+use Rattle.demands.specs.Grounds.{Demand2Grounds, NeverOverfull}
+use Rattle.demands.specs.Demand2.{Demand2Records}
+use Rattle.demands.specs.Demand3.{Demand3LargestForm, Demand3FewerDefects}
+use Rattle.demands.specs.Peach.{SmallSheets}
+use Rattle.demands.specs.FurtherSheets.{FurtherSheets}
+use Rattle.demands.specs.Instances.{Instances}
+
+pub record Demands : Type 2 where
+  -- the contract of `tally::grade`, met by its code
+  pub promise-of-grade : {M : Type 1} → grade.statement M
+  -- any bytes at all are accepted, or refused by a listed number with the place; what happens to the result buffer
+  pub demand1 : Demand1
+  -- nothing is refused without a listed ground, and the first that applies is returned
+  pub demand2-grounds : Demand2Grounds
+  -- and 14 is never among them
+  pub never-overfull : NeverOverfull
+  -- an accepted sheet gets exactly the CuSums, grades and recoveries of the rules
+  pub demand2-records : Demand2Records
+  -- at a unit with a plan in force every recorded CuSum is the 'largest of' form from its anchor
+  pub demand3-largest-form : Demand3LargestForm
+  -- fewer defects: no higher CuSum and no new failure up to the second sheet's first two failures in a row; no lower grade if it has none
+  pub demand3-fewer-defects : Demand3FewerDefects
+  -- P1 to P10, and the lines of P10
+  pub small-sheets : SmallSheets
+  -- fifty further sheets in bytes, with the answers and result bytes of the independent grader
+  pub further-sheets : FurtherSheets
+  -- each demand on a sheet of several units in every class, as its theorem gives it
+  pub instances : Instances

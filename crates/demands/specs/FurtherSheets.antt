@@ -1,0 +1,823 @@
+-- Further sheets in bytes beside the worked cases, as one group: the record at the end. Each is held to the answer and the result bytes
+-- that the independent grader gives for it (tests/grader, written from paper 01 alone), so that a rule which is wrong on one of them
+-- alike in a definition and in the code that meets it is refused here. This file is printed by tests/cases/src/bin/computed_sheets.rs.
+use Prim.Native.Nat.{ℕ, zero, suc, _*_, _<_, _≤_}
+use mathlib.Core.Path.{_≡_}
+use mathlib.Core.List.{List, [], _∷_, _++_}
+use lib.ListN.{length, take, drop, set}
+use Rattle.results.specs.Record.{resultSize}
+use Rattle.tally.specs.Outcome.{outcome, refusal}
+use Rattle.demands.specs.WorkedCases.{peachPlan}
+
+-- a sheet is accepted with so many units, at its length, and these result records are in every buffer that has room for them; bytes
+-- behind the last one keep theirs
+abbrev pub Graded : List ℕ → ℕ → ℕ → List ℕ → Type 0
+Graded sheet units offset results =
+    (buffer : List ℕ) → resultSize * units ≤ length buffer
+    → outcome sheet buffer
+    ≡ record { answer = record { number = 0; units = units; offset = offset }; buffer = results ++ drop (resultSize * units) buffer }
+
+-- it is refused with this number and offset, whatever the buffer
+abbrev pub RefusedWith : ℕ → List ℕ → ℕ → Type 0
+RefusedWith number sheet offset = (buffer : List ℕ) → outcome sheet buffer ≡ refusal number offset buffer
+
+-- and with this one in every buffer without room for so many units
+abbrev pub WithoutRoom : ℕ → List ℕ → ℕ → ℕ → Type 0
+WithoutRoom number sheet units offset =
+    (buffer : List ℕ) → length buffer < resultSize * units → outcome sheet buffer ≡ refusal number offset buffer
+
+-- a record so many times, and what stands behind them
+unfoldable pub repeated : ℕ → List ℕ → List ℕ → List ℕ
+repeated zero bytes behind = behind
+repeated (suc times) bytes behind = bytes ++ repeated times bytes behind
+
+-- In a sheet behind each record its content: of a unit code, counts of critical, severe, major, minor, prerequisite, recoverable. In
+-- results behind each record the line that is printed for it.
+
+-- ---- breaks
+
+-- A break sets the CuSums to S: with those of unit 1 the second would fail, from zero they
+-- would be lower. Unit 3 goes on from unit 2.
+unfoldable pub breakBetweenUnits : List ℕ
+breakBetweenUnits =
+    peachPlan
+    ++ (0x53 ∷ 0x55 ∷ 0 ∷ 1 ∷ 0 ∷ 0 ∷ 0 ∷ 1 ∷ 0 ∷ 4 ∷ 0 ∷ 4 ∷ 0 ∷ 1  -- 1: 0,1,4,4;A;1
+    ∷ 0x42 ∷ 0x4B  -- break
+    ∷ 0x53 ∷ 0x55 ∷ 0 ∷ 2 ∷ 0 ∷ 0 ∷ 0 ∷ 1 ∷ 0 ∷ 4 ∷ 0 ∷ 4 ∷ 0 ∷ 1  -- 2: 0,1,4,4;A;1
+    ∷ 0x53 ∷ 0x55 ∷ 0 ∷ 3 ∷ 0 ∷ 0 ∷ 0 ∷ 0 ∷ 0 ∷ 3 ∷ 0 ∷ 3 ∷ 0 ∷ 1  -- 3: 0,0,3,3;A;1
+    ∷ [])
+
+unfoldable pub breakBetweenUnitsResults : List ℕ
+breakBetweenUnitsResults =
+    0x47 ∷ 0x52 ∷ 0 ∷ 1 ∷ 0 ∷ 0 ∷ 0 ∷ 0 ∷ 0 ∷ 0 ∷ 0 ∷ 0 ∷ 0 ∷ 20 ∷ 0 ∷ 40  -- 1 1 A A m A 0.0 0.0 2.0 4.0
+    ∷ 0x47 ∷ 0x52 ∷ 0 ∷ 2 ∷ 0 ∷ 0 ∷ 0 ∷ 0 ∷ 0 ∷ 0 ∷ 0 ∷ 0 ∷ 0 ∷ 20 ∷ 0 ∷ 40  -- 2 2 A A m A 0.0 0.0 2.0 4.0
+    ∷ 0x47 ∷ 0x52 ∷ 0 ∷ 3 ∷ 0 ∷ 0 ∷ 0 ∷ 0 ∷ 0 ∷ 0 ∷ 0 ∷ 0 ∷ 0 ∷ 20 ∷ 0 ∷ 40  -- 3 3 A A m A 0.0 0.0 2.0 4.0
+    ∷ []
+
+-- A break forgets the failure just before: no step 3, else unit 3 would be under B.
+unfoldable pub breakBetweenFailures : List ℕ
+breakBetweenFailures =
+    peachPlan
+    ++ (0x53 ∷ 0x55 ∷ 0 ∷ 1 ∷ 0 ∷ 0 ∷ 0 ∷ 0 ∷ 0 ∷ 0 ∷ 0 ∷ 12 ∷ 0 ∷ 1  -- 1: 0,0,0,12;A;1
+    ∷ 0x42 ∷ 0x4B  -- break
+    ∷ 0x53 ∷ 0x55 ∷ 0 ∷ 2 ∷ 0 ∷ 0 ∷ 0 ∷ 0 ∷ 0 ∷ 0 ∷ 0 ∷ 12 ∷ 0 ∷ 1  -- 2: 0,0,0,12;A;1
+    ∷ 0x53 ∷ 0x55 ∷ 0 ∷ 3 ∷ 0 ∷ 0 ∷ 0 ∷ 0 ∷ 0 ∷ 3 ∷ 0 ∷ 3 ∷ 0 ∷ 1  -- 3: 0,0,3,3;A;1
+    ∷ [])
+
+unfoldable pub breakBetweenFailuresResults : List ℕ
+breakBetweenFailuresResults =
+    0x47 ∷ 0x52 ∷ 0 ∷ 1 ∷ 1 ∷ 1 ∷ 0 ∷ 1 ∷ 0 ∷ 0 ∷ 0 ∷ 0 ∷ 0 ∷ 0 ∷ 0 ∷ 40  -- 1 1 B B f A 0.0 0.0 0.0 4.0
+    ∷ 0x47 ∷ 0x52 ∷ 0 ∷ 2 ∷ 1 ∷ 1 ∷ 0 ∷ 1 ∷ 0 ∷ 0 ∷ 0 ∷ 0 ∷ 0 ∷ 0 ∷ 0 ∷ 40  -- 2 2 B B f A 0.0 0.0 0.0 4.0
+    ∷ 0x47 ∷ 0x52 ∷ 0 ∷ 3 ∷ 0 ∷ 0 ∷ 0 ∷ 0 ∷ 0 ∷ 0 ∷ 0 ∷ 0 ∷ 0 ∷ 0 ∷ 0 ∷ 40  -- 3 3 A A m A 0.0 0.0 0.0 4.0
+    ∷ []
+
+-- A break in step 3 sets the CuSums to the S of the lower plan, not to that of the designated
+-- one, and does not end step 3. With CuSums kept, unit 4 would fail.
+unfoldable pub breakInStepThree : List ℕ
+breakInStepThree =
+    peachPlan
+    ++ (0x53 ∷ 0x55 ∷ 0 ∷ 1 ∷ 0 ∷ 0 ∷ 0 ∷ 0 ∷ 0 ∷ 0 ∷ 0 ∷ 12 ∷ 0 ∷ 1  -- 1: 0,0,0,12;A;1
+    ∷ 0x53 ∷ 0x55 ∷ 0 ∷ 2 ∷ 0 ∷ 0 ∷ 0 ∷ 0 ∷ 0 ∷ 0 ∷ 0 ∷ 12 ∷ 0 ∷ 1  -- 2: 0,0,0,12;A;1
+    ∷ 0x53 ∷ 0x55 ∷ 0 ∷ 3 ∷ 0 ∷ 0 ∷ 0 ∷ 4 ∷ 0 ∷ 6 ∷ 0 ∷ 4 ∷ 0 ∷ 1  -- 3: 0,4,6,4;A;1
+    ∷ 0x42 ∷ 0x4B  -- break
+    ∷ 0x53 ∷ 0x55 ∷ 0 ∷ 4 ∷ 0 ∷ 0 ∷ 0 ∷ 4 ∷ 0 ∷ 6 ∷ 0 ∷ 4 ∷ 0 ∷ 1  -- 4: 0,4,6,4;A;1
+    ∷ [])
+
+unfoldable pub breakInStepThreeResults : List ℕ
+breakInStepThreeResults =
+    0x47 ∷ 0x52 ∷ 0 ∷ 1 ∷ 1 ∷ 1 ∷ 0 ∷ 1 ∷ 0 ∷ 0 ∷ 0 ∷ 0 ∷ 0 ∷ 0 ∷ 0 ∷ 40  -- 1 1 B B f A 0.0 0.0 0.0 4.0
+    ∷ 0x47 ∷ 0x52 ∷ 0 ∷ 2 ∷ 1 ∷ 1 ∷ 0 ∷ 1 ∷ 0 ∷ 0 ∷ 0 ∷ 0 ∷ 0 ∷ 0 ∷ 0 ∷ 40  -- 2 2 B B f A 0.0 0.0 0.0 4.0
+    ∷ 0x47 ∷ 0x52 ∷ 0 ∷ 3 ∷ 1 ∷ 1 ∷ 1 ∷ 2 ∷ 0 ∷ 0 ∷ 0 ∷ 20 ∷ 0 ∷ 20 ∷ 0 ∷ 40  -- 3 3 B B u B 0.0 2.0 2.0 4.0
+    ∷ 0x47 ∷ 0x52 ∷ 0 ∷ 4 ∷ 1 ∷ 1 ∷ 1 ∷ 2 ∷ 0 ∷ 0 ∷ 0 ∷ 20 ∷ 0 ∷ 20 ∷ 0 ∷ 40  -- 4 4 B B u B 0.0 2.0 2.0 4.0
+    ∷ []
+
+-- A break sets the run of qualifying units to none: else units 3 to 5 would be recovered and unit
+-- 6 be under A.
+unfoldable pub breakInRun : List ℕ
+breakInRun =
+    peachPlan
+    ++ (0x53 ∷ 0x55 ∷ 0 ∷ 1 ∷ 0 ∷ 0 ∷ 0 ∷ 0 ∷ 0 ∷ 0 ∷ 0 ∷ 12 ∷ 0 ∷ 1  -- 1: 0,0,0,12;A;1
+    ∷ 0x53 ∷ 0x55 ∷ 0 ∷ 2 ∷ 0 ∷ 0 ∷ 0 ∷ 0 ∷ 0 ∷ 0 ∷ 0 ∷ 12 ∷ 0 ∷ 1  -- 2: 0,0,0,12;A;1
+    ∷ 0x53 ∷ 0x55 ∷ 0 ∷ 3 ∷ 0 ∷ 0 ∷ 0 ∷ 0 ∷ 0 ∷ 1 ∷ 0 ∷ 2 ∷ 0 ∷ 1  -- 3: 0,0,1,2;A;1
+    ∷ 0x53 ∷ 0x55 ∷ 0 ∷ 4 ∷ 0 ∷ 0 ∷ 0 ∷ 0 ∷ 0 ∷ 1 ∷ 0 ∷ 2 ∷ 0 ∷ 1  -- 4: 0,0,1,2;A;1
+    ∷ 0x42 ∷ 0x4B  -- break
+    ∷ 0x53 ∷ 0x55 ∷ 0 ∷ 5 ∷ 0 ∷ 0 ∷ 0 ∷ 0 ∷ 0 ∷ 1 ∷ 0 ∷ 2 ∷ 0 ∷ 1  -- 5: 0,0,1,2;A;1
+    ∷ 0x53 ∷ 0x55 ∷ 0 ∷ 6 ∷ 0 ∷ 0 ∷ 0 ∷ 0 ∷ 0 ∷ 1 ∷ 0 ∷ 2 ∷ 0 ∷ 1  -- 6: 0,0,1,2;A;1
+    ∷ [])
+
+unfoldable pub breakInRunResults : List ℕ
+breakInRunResults =
+    0x47 ∷ 0x52 ∷ 0 ∷ 1 ∷ 1 ∷ 1 ∷ 0 ∷ 1 ∷ 0 ∷ 0 ∷ 0 ∷ 0 ∷ 0 ∷ 0 ∷ 0 ∷ 40  -- 1 1 B B f A 0.0 0.0 0.0 4.0
+    ∷ 0x47 ∷ 0x52 ∷ 0 ∷ 2 ∷ 1 ∷ 1 ∷ 0 ∷ 1 ∷ 0 ∷ 0 ∷ 0 ∷ 0 ∷ 0 ∷ 0 ∷ 0 ∷ 40  -- 2 2 B B f A 0.0 0.0 0.0 4.0
+    ∷ 0x47 ∷ 0x52 ∷ 0 ∷ 3 ∷ 1 ∷ 1 ∷ 1 ∷ 2 ∷ 0 ∷ 0 ∷ 0 ∷ 0 ∷ 0 ∷ 0 ∷ 0 ∷ 0  -- 3 3 B B u B 0.0 0.0 0.0 0.0
+    ∷ 0x47 ∷ 0x52 ∷ 0 ∷ 4 ∷ 1 ∷ 1 ∷ 1 ∷ 2 ∷ 0 ∷ 0 ∷ 0 ∷ 0 ∷ 0 ∷ 0 ∷ 0 ∷ 0  -- 4 4 B B u B 0.0 0.0 0.0 0.0
+    ∷ 0x47 ∷ 0x52 ∷ 0 ∷ 5 ∷ 1 ∷ 1 ∷ 1 ∷ 2 ∷ 0 ∷ 0 ∷ 0 ∷ 0 ∷ 0 ∷ 0 ∷ 0 ∷ 0  -- 5 5 B B u B 0.0 0.0 0.0 0.0
+    ∷ 0x47 ∷ 0x52 ∷ 0 ∷ 6 ∷ 1 ∷ 1 ∷ 1 ∷ 2 ∷ 0 ∷ 0 ∷ 0 ∷ 0 ∷ 0 ∷ 0 ∷ 0 ∷ 0  -- 6 6 B B u B 0.0 0.0 0.0 0.0
+    ∷ []
+
+-- The plan alone: accepted, and every buffer is kept as it is.
+unfoldable pub noUnit : List ℕ
+noUnit = peachPlan
+
+unfoldable pub noUnitResults : List ℕ
+noUnitResults = []
+
+-- Breaks and redesignations are no units and have no result records.
+unfoldable pub noUnitButRecords : List ℕ
+noUnitButRecords =
+    peachPlan
+    ++ (0x42 ∷ 0x4B  -- break
+    ∷ 0x52 ∷ 0x44 ∷ 1  -- redesignation to B
+    ∷ 0x42 ∷ 0x4B  -- break
+    ∷ 0x52 ∷ 0x44 ∷ 0  -- redesignation to A
+    ∷ [])
+
+unfoldable pub noUnitButRecordsResults : List ℕ
+noUnitButRecordsResults = []
+
+pub record BreakSheets : Type 0 where
+  pub break-between-units : Graded breakBetweenUnits 3 119 breakBetweenUnitsResults
+  pub break-between-failures : Graded breakBetweenFailures 3 119 breakBetweenFailuresResults
+  pub break-in-step-three : Graded breakInStepThree 4 133 breakInStepThreeResults
+  pub break-in-run : Graded breakInRun 6 161 breakInRunResults
+  pub no-unit : Graded noUnit 0 75 noUnitResults
+  pub no-unit-but-records : Graded noUnitButRecords 0 85 noUnitButRecordsResults
+
+-- ---- redesignations
+
+-- It starts the new plan at S, not at the CuSums of A, and forgets the failure just before: no
+-- step 3, else unit 3 would be under C.
+unfoldable pub redesignationOutsideStepThree : List ℕ
+redesignationOutsideStepThree =
+    peachPlan
+    ++ (0x53 ∷ 0x55 ∷ 0 ∷ 1 ∷ 0 ∷ 0 ∷ 0 ∷ 1 ∷ 0 ∷ 4 ∷ 0 ∷ 9 ∷ 0 ∷ 1  -- 1: 0,1,4,9;A;1
+    ∷ 0x52 ∷ 0x44 ∷ 1  -- redesignation to B
+    ∷ 0x53 ∷ 0x55 ∷ 0 ∷ 2 ∷ 0 ∷ 0 ∷ 0 ∷ 3 ∷ 0 ∷ 6 ∷ 0 ∷ 9 ∷ 0 ∷ 1  -- 2: 0,3,6,9;A;1
+    ∷ 0x53 ∷ 0x55 ∷ 0 ∷ 3 ∷ 0 ∷ 0 ∷ 0 ∷ 3 ∷ 0 ∷ 5 ∷ 0 ∷ 3 ∷ 0 ∷ 1  -- 3: 0,3,5,3;A;1
+    ∷ [])
+
+unfoldable pub redesignationOutsideStepThreeResults : List ℕ
+redesignationOutsideStepThreeResults =
+    0x47 ∷ 0x52 ∷ 0 ∷ 1 ∷ 1 ∷ 1 ∷ 0 ∷ 1 ∷ 0 ∷ 0 ∷ 0 ∷ 0 ∷ 0 ∷ 20 ∷ 0 ∷ 40  -- 1 1 B B f A 0.0 0.0 2.0 4.0
+    ∷ 0x47 ∷ 0x52 ∷ 0 ∷ 2 ∷ 2 ∷ 2 ∷ 1 ∷ 1 ∷ 0 ∷ 0 ∷ 0 ∷ 10 ∷ 0 ∷ 20 ∷ 0 ∷ 50  -- 2 2 C C f B 0.0 1.0 2.0 5.0
+    ∷ 0x47 ∷ 0x52 ∷ 0 ∷ 3 ∷ 1 ∷ 1 ∷ 1 ∷ 0 ∷ 0 ∷ 0 ∷ 0 ∷ 10 ∷ 0 ∷ 20 ∷ 0 ∷ 40  -- 3 3 B B m B 0.0 1.0 2.0 4.0
+    ∷ []
+
+-- Step 3 is at C, the worse of the two defect grades, not the second's. B is better than C, so
+-- step 3 goes on at C with its CuSums: a restart would give unit 4 lower ones.
+unfoldable pub redesignationInStepThree : List ℕ
+redesignationInStepThree =
+    peachPlan
+    ++ (0x53 ∷ 0x55 ∷ 0 ∷ 1 ∷ 0 ∷ 0 ∷ 0 ∷ 0 ∷ 0 ∷ 0 ∷ 0 ∷ 18 ∷ 0 ∷ 1  -- 1: 0,0,0,18;A;1
+    ∷ 0x53 ∷ 0x55 ∷ 0 ∷ 2 ∷ 0 ∷ 0 ∷ 0 ∷ 0 ∷ 0 ∷ 0 ∷ 0 ∷ 12 ∷ 0 ∷ 1  -- 2: 0,0,0,12;A;1
+    ∷ 0x53 ∷ 0x55 ∷ 0 ∷ 3 ∷ 0 ∷ 0 ∷ 0 ∷ 6 ∷ 0 ∷ 7 ∷ 0 ∷ 5 ∷ 0 ∷ 1  -- 3: 0,6,7,5;A;1
+    ∷ 0x52 ∷ 0x44 ∷ 1  -- redesignation to B
+    ∷ 0x53 ∷ 0x55 ∷ 0 ∷ 4 ∷ 0 ∷ 0 ∷ 0 ∷ 5 ∷ 0 ∷ 6 ∷ 0 ∷ 6 ∷ 0 ∷ 1  -- 4: 0,5,6,6;A;1
+    ∷ [])
+
+unfoldable pub redesignationInStepThreeResults : List ℕ
+redesignationInStepThreeResults =
+    0x47 ∷ 0x52 ∷ 0 ∷ 1 ∷ 2 ∷ 2 ∷ 0 ∷ 1 ∷ 0 ∷ 0 ∷ 0 ∷ 0 ∷ 0 ∷ 0 ∷ 0 ∷ 40  -- 1 1 C C f A 0.0 0.0 0.0 4.0
+    ∷ 0x47 ∷ 0x52 ∷ 0 ∷ 2 ∷ 1 ∷ 1 ∷ 0 ∷ 1 ∷ 0 ∷ 0 ∷ 0 ∷ 0 ∷ 0 ∷ 0 ∷ 0 ∷ 40  -- 2 2 B B f A 0.0 0.0 0.0 4.0
+    ∷ 0x47 ∷ 0x52 ∷ 0 ∷ 3 ∷ 2 ∷ 2 ∷ 2 ∷ 2 ∷ 0 ∷ 0 ∷ 0 ∷ 20 ∷ 0 ∷ 20 ∷ 0 ∷ 30  -- 3 3 C C u C 0.0 2.0 2.0 3.0
+    ∷ 0x47 ∷ 0x52 ∷ 0 ∷ 4 ∷ 2 ∷ 2 ∷ 2 ∷ 2 ∷ 0 ∷ 0 ∷ 0 ∷ 20 ∷ 0 ∷ 20 ∷ 0 ∷ 30  -- 4 4 C C u C 0.0 2.0 2.0 3.0
+    ∷ []
+
+-- It sets the run to none: else units 3 to 5 would be recovered. Units 5 to 7 are above the T of
+-- A and within that of B, the grade now designated, which they get.
+unfoldable pub redesignationInRun : List ℕ
+redesignationInRun =
+    peachPlan
+    ++ (0x53 ∷ 0x55 ∷ 0 ∷ 1 ∷ 0 ∷ 0 ∷ 0 ∷ 0 ∷ 0 ∷ 0 ∷ 0 ∷ 12 ∷ 0 ∷ 1  -- 1: 0,0,0,12;A;1
+    ∷ 0x53 ∷ 0x55 ∷ 0 ∷ 2 ∷ 0 ∷ 0 ∷ 0 ∷ 0 ∷ 0 ∷ 0 ∷ 0 ∷ 18 ∷ 0 ∷ 1  -- 2: 0,0,0,18;A;1
+    ∷ 0x53 ∷ 0x55 ∷ 0 ∷ 3 ∷ 0 ∷ 0 ∷ 0 ∷ 0 ∷ 0 ∷ 1 ∷ 0 ∷ 2 ∷ 0 ∷ 1  -- 3: 0,0,1,2;A;1
+    ∷ 0x53 ∷ 0x55 ∷ 0 ∷ 4 ∷ 0 ∷ 0 ∷ 0 ∷ 0 ∷ 0 ∷ 1 ∷ 0 ∷ 2 ∷ 0 ∷ 1  -- 4: 0,0,1,2;A;1
+    ∷ 0x52 ∷ 0x44 ∷ 1  -- redesignation to B
+    ∷ 0x53 ∷ 0x55 ∷ 0 ∷ 5 ∷ 0 ∷ 0 ∷ 0 ∷ 2 ∷ 0 ∷ 4 ∷ 0 ∷ 2 ∷ 0 ∷ 1  -- 5: 0,2,4,2;A;1
+    ∷ 0x53 ∷ 0x55 ∷ 0 ∷ 6 ∷ 0 ∷ 0 ∷ 0 ∷ 2 ∷ 0 ∷ 4 ∷ 0 ∷ 2 ∷ 0 ∷ 1  -- 6: 0,2,4,2;A;1
+    ∷ 0x53 ∷ 0x55 ∷ 0 ∷ 7 ∷ 0 ∷ 0 ∷ 0 ∷ 2 ∷ 0 ∷ 4 ∷ 0 ∷ 2 ∷ 0 ∷ 1  -- 7: 0,2,4,2;A;1
+    ∷ [])
+
+unfoldable pub redesignationInRunResults : List ℕ
+redesignationInRunResults =
+    0x47 ∷ 0x52 ∷ 0 ∷ 1 ∷ 1 ∷ 1 ∷ 0 ∷ 1 ∷ 0 ∷ 0 ∷ 0 ∷ 0 ∷ 0 ∷ 0 ∷ 0 ∷ 40  -- 1 1 B B f A 0.0 0.0 0.0 4.0
+    ∷ 0x47 ∷ 0x52 ∷ 0 ∷ 2 ∷ 2 ∷ 2 ∷ 0 ∷ 1 ∷ 0 ∷ 0 ∷ 0 ∷ 0 ∷ 0 ∷ 0 ∷ 0 ∷ 40  -- 2 2 C C f A 0.0 0.0 0.0 4.0
+    ∷ 0x47 ∷ 0x52 ∷ 0 ∷ 3 ∷ 2 ∷ 2 ∷ 2 ∷ 2 ∷ 0 ∷ 0 ∷ 0 ∷ 0 ∷ 0 ∷ 0 ∷ 0 ∷ 0  -- 3 3 C C u C 0.0 0.0 0.0 0.0
+    ∷ 0x47 ∷ 0x52 ∷ 0 ∷ 4 ∷ 2 ∷ 2 ∷ 2 ∷ 2 ∷ 0 ∷ 0 ∷ 0 ∷ 0 ∷ 0 ∷ 0 ∷ 0 ∷ 0  -- 4 4 C C u C 0.0 0.0 0.0 0.0
+    ∷ 0x47 ∷ 0x52 ∷ 0 ∷ 5 ∷ 1 ∷ 1 ∷ 2 ∷ 3 ∷ 0 ∷ 0 ∷ 0 ∷ 0 ∷ 0 ∷ 0 ∷ 0 ∷ 0  -- 5 5 B B r C 0.0 0.0 0.0 0.0
+    ∷ 0x47 ∷ 0x52 ∷ 0 ∷ 6 ∷ 1 ∷ 1 ∷ 2 ∷ 3 ∷ 0 ∷ 0 ∷ 0 ∷ 0 ∷ 0 ∷ 0 ∷ 0 ∷ 0  -- 6 6 B B r C 0.0 0.0 0.0 0.0
+    ∷ 0x47 ∷ 0x52 ∷ 0 ∷ 7 ∷ 1 ∷ 1 ∷ 2 ∷ 3 ∷ 0 ∷ 0 ∷ 0 ∷ 0 ∷ 0 ∷ 0 ∷ 0 ∷ 0  -- 7 7 B B r C 0.0 0.0 0.0 0.0
+    ∷ []
+
+-- A new grade equal to the lower one ends step 3 and starts at S: unit 4 meets the designated
+-- plan; with CuSums kept it would fail.
+unfoldable pub redesignationToLowerGrade : List ℕ
+redesignationToLowerGrade =
+    peachPlan
+    ++ (0x53 ∷ 0x55 ∷ 0 ∷ 1 ∷ 0 ∷ 0 ∷ 0 ∷ 0 ∷ 0 ∷ 0 ∷ 0 ∷ 12 ∷ 0 ∷ 1  -- 1: 0,0,0,12;A;1
+    ∷ 0x53 ∷ 0x55 ∷ 0 ∷ 2 ∷ 0 ∷ 0 ∷ 0 ∷ 0 ∷ 0 ∷ 0 ∷ 0 ∷ 12 ∷ 0 ∷ 1  -- 2: 0,0,0,12;A;1
+    ∷ 0x53 ∷ 0x55 ∷ 0 ∷ 3 ∷ 0 ∷ 0 ∷ 0 ∷ 4 ∷ 0 ∷ 6 ∷ 0 ∷ 4 ∷ 0 ∷ 1  -- 3: 0,4,6,4;A;1
+    ∷ 0x52 ∷ 0x44 ∷ 1  -- redesignation to B
+    ∷ 0x53 ∷ 0x55 ∷ 0 ∷ 4 ∷ 0 ∷ 0 ∷ 0 ∷ 4 ∷ 0 ∷ 6 ∷ 0 ∷ 4 ∷ 0 ∷ 1  -- 4: 0,4,6,4;A;1
+    ∷ [])
+
+unfoldable pub redesignationToLowerGradeResults : List ℕ
+redesignationToLowerGradeResults =
+    0x47 ∷ 0x52 ∷ 0 ∷ 1 ∷ 1 ∷ 1 ∷ 0 ∷ 1 ∷ 0 ∷ 0 ∷ 0 ∷ 0 ∷ 0 ∷ 0 ∷ 0 ∷ 40  -- 1 1 B B f A 0.0 0.0 0.0 4.0
+    ∷ 0x47 ∷ 0x52 ∷ 0 ∷ 2 ∷ 1 ∷ 1 ∷ 0 ∷ 1 ∷ 0 ∷ 0 ∷ 0 ∷ 0 ∷ 0 ∷ 0 ∷ 0 ∷ 40  -- 2 2 B B f A 0.0 0.0 0.0 4.0
+    ∷ 0x47 ∷ 0x52 ∷ 0 ∷ 3 ∷ 1 ∷ 1 ∷ 1 ∷ 2 ∷ 0 ∷ 0 ∷ 0 ∷ 20 ∷ 0 ∷ 20 ∷ 0 ∷ 40  -- 3 3 B B u B 0.0 2.0 2.0 4.0
+    ∷ 0x47 ∷ 0x52 ∷ 0 ∷ 4 ∷ 1 ∷ 1 ∷ 1 ∷ 0 ∷ 0 ∷ 0 ∷ 0 ∷ 20 ∷ 0 ∷ 20 ∷ 0 ∷ 40  -- 4 4 B B m B 0.0 2.0 2.0 4.0
+    ∷ []
+
+-- A new grade worse than the lower one ends step 3: unit 4 is under C.
+unfoldable pub redesignationBelowLowerGrade : List ℕ
+redesignationBelowLowerGrade =
+    peachPlan
+    ++ (0x53 ∷ 0x55 ∷ 0 ∷ 1 ∷ 0 ∷ 0 ∷ 0 ∷ 0 ∷ 0 ∷ 0 ∷ 0 ∷ 12 ∷ 0 ∷ 1  -- 1: 0,0,0,12;A;1
+    ∷ 0x53 ∷ 0x55 ∷ 0 ∷ 2 ∷ 0 ∷ 0 ∷ 0 ∷ 0 ∷ 0 ∷ 0 ∷ 0 ∷ 12 ∷ 0 ∷ 1  -- 2: 0,0,0,12;A;1
+    ∷ 0x53 ∷ 0x55 ∷ 0 ∷ 3 ∷ 0 ∷ 0 ∷ 0 ∷ 4 ∷ 0 ∷ 6 ∷ 0 ∷ 4 ∷ 0 ∷ 1  -- 3: 0,4,6,4;A;1
+    ∷ 0x52 ∷ 0x44 ∷ 2  -- redesignation to C
+    ∷ 0x53 ∷ 0x55 ∷ 0 ∷ 4 ∷ 0 ∷ 0 ∷ 0 ∷ 6 ∷ 0 ∷ 7 ∷ 0 ∷ 5 ∷ 0 ∷ 1  -- 4: 0,6,7,5;A;1
+    ∷ [])
+
+unfoldable pub redesignationBelowLowerGradeResults : List ℕ
+redesignationBelowLowerGradeResults =
+    0x47 ∷ 0x52 ∷ 0 ∷ 1 ∷ 1 ∷ 1 ∷ 0 ∷ 1 ∷ 0 ∷ 0 ∷ 0 ∷ 0 ∷ 0 ∷ 0 ∷ 0 ∷ 40  -- 1 1 B B f A 0.0 0.0 0.0 4.0
+    ∷ 0x47 ∷ 0x52 ∷ 0 ∷ 2 ∷ 1 ∷ 1 ∷ 0 ∷ 1 ∷ 0 ∷ 0 ∷ 0 ∷ 0 ∷ 0 ∷ 0 ∷ 0 ∷ 40  -- 2 2 B B f A 0.0 0.0 0.0 4.0
+    ∷ 0x47 ∷ 0x52 ∷ 0 ∷ 3 ∷ 1 ∷ 1 ∷ 1 ∷ 2 ∷ 0 ∷ 0 ∷ 0 ∷ 20 ∷ 0 ∷ 20 ∷ 0 ∷ 40  -- 3 3 B B u B 0.0 2.0 2.0 4.0
+    ∷ 0x47 ∷ 0x52 ∷ 0 ∷ 4 ∷ 2 ∷ 2 ∷ 2 ∷ 0 ∷ 0 ∷ 0 ∷ 0 ∷ 20 ∷ 0 ∷ 20 ∷ 0 ∷ 30  -- 4 4 C C m C 0.0 2.0 2.0 3.0
+    ∷ []
+
+-- C is better than Substandard, so step 3 goes on without a plan, and the run is none: else unit
+-- 5 would end step 3. Units 4 to 6 are at the T of C in every class, which none exceeds.
+unfoldable pub redesignationWithoutPlan : List ℕ
+redesignationWithoutPlan =
+    peachPlan
+    ++ (0x53 ∷ 0x55 ∷ 0 ∷ 1 ∷ 0 ∷ 5 ∷ 0 ∷ 0 ∷ 0 ∷ 0 ∷ 0 ∷ 0 ∷ 0 ∷ 1  -- 1: 5,0,0,0;A;1
+    ∷ 0x53 ∷ 0x55 ∷ 0 ∷ 2 ∷ 0 ∷ 0 ∷ 0 ∷ 0 ∷ 0 ∷ 0 ∷ 0 ∷ 12 ∷ 0 ∷ 1  -- 2: 0,0,0,12;A;1
+    ∷ 0x53 ∷ 0x55 ∷ 0 ∷ 3 ∷ 0 ∷ 0 ∷ 0 ∷ 0 ∷ 0 ∷ 1 ∷ 0 ∷ 2 ∷ 0 ∷ 1  -- 3: 0,0,1,2;A;1
+    ∷ 0x52 ∷ 0x44 ∷ 2  -- redesignation to C
+    ∷ 0x53 ∷ 0x55 ∷ 0 ∷ 4 ∷ 0 ∷ 2 ∷ 0 ∷ 5 ∷ 0 ∷ 6 ∷ 0 ∷ 4 ∷ 0 ∷ 1  -- 4: 2,5,6,4;A;1
+    ∷ 0x53 ∷ 0x55 ∷ 0 ∷ 5 ∷ 0 ∷ 2 ∷ 0 ∷ 5 ∷ 0 ∷ 6 ∷ 0 ∷ 4 ∷ 0 ∷ 1  -- 5: 2,5,6,4;A;1
+    ∷ 0x53 ∷ 0x55 ∷ 0 ∷ 6 ∷ 0 ∷ 2 ∷ 0 ∷ 5 ∷ 0 ∷ 6 ∷ 0 ∷ 4 ∷ 0 ∷ 1  -- 6: 2,5,6,4;A;1
+    ∷ [])
+
+unfoldable pub redesignationWithoutPlanResults : List ℕ
+redesignationWithoutPlanResults =
+    0x47 ∷ 0x52 ∷ 0 ∷ 1 ∷ 3 ∷ 3 ∷ 0 ∷ 1 ∷ 0 ∷ 5 ∷ 0 ∷ 0 ∷ 0 ∷ 0 ∷ 0 ∷ 0  -- 1 1 S S f A 0.5 0.0 0.0 0.0
+    ∷ 0x47 ∷ 0x52 ∷ 0 ∷ 2 ∷ 1 ∷ 1 ∷ 0 ∷ 1 ∷ 0 ∷ 0 ∷ 0 ∷ 0 ∷ 0 ∷ 0 ∷ 0 ∷ 40  -- 2 2 B B f A 0.0 0.0 0.0 4.0
+    ∷ 0x47 ∷ 0x52 ∷ 0 ∷ 3 ∷ 3 ∷ 3 ∷ 3 ∷ 2 ∷ 0 ∷ 0 ∷ 0 ∷ 0 ∷ 0 ∷ 0 ∷ 0 ∷ 0  -- 3 3 S S u S 0.0 0.0 0.0 0.0
+    ∷ 0x47 ∷ 0x52 ∷ 0 ∷ 4 ∷ 2 ∷ 2 ∷ 3 ∷ 3 ∷ 0 ∷ 0 ∷ 0 ∷ 0 ∷ 0 ∷ 0 ∷ 0 ∷ 0  -- 4 4 C C r S 0.0 0.0 0.0 0.0
+    ∷ 0x47 ∷ 0x52 ∷ 0 ∷ 5 ∷ 2 ∷ 2 ∷ 3 ∷ 3 ∷ 0 ∷ 0 ∷ 0 ∷ 0 ∷ 0 ∷ 0 ∷ 0 ∷ 0  -- 5 5 C C r S 0.0 0.0 0.0 0.0
+    ∷ 0x47 ∷ 0x52 ∷ 0 ∷ 6 ∷ 2 ∷ 2 ∷ 3 ∷ 3 ∷ 0 ∷ 0 ∷ 0 ∷ 0 ∷ 0 ∷ 0 ∷ 0 ∷ 0  -- 6 6 C C r S 0.0 0.0 0.0 0.0
+    ∷ []
+
+pub record RedesignationSheets : Type 0 where
+  pub redesignation-outside-step-three : Graded redesignationOutsideStepThree 3 120 redesignationOutsideStepThreeResults
+  pub redesignation-in-step-three : Graded redesignationInStepThree 4 134 redesignationInStepThreeResults
+  pub redesignation-in-run : Graded redesignationInRun 7 176 redesignationInRunResults
+  pub redesignation-to-lower-grade : Graded redesignationToLowerGrade 4 134 redesignationToLowerGradeResults
+  pub redesignation-below-lower-grade : Graded redesignationBelowLowerGrade 4 134 redesignationBelowLowerGradeResults
+  pub redesignation-without-plan : Graded redesignationWithoutPlan 6 162 redesignationWithoutPlanResults
+
+-- ---- defect grades, portion grades, code grades; what begins step 3
+
+-- Unit 1 exceeds T+L of B in severe and grades C, not the next lower grade. Unit 2 is at T+L of B
+-- in every class, unit 3 at that of C, which admit them; unit 4 exceeds that of C in total alone.
+unfoldable pub bestLowerGrade : List ℕ
+bestLowerGrade =
+    peachPlan
+    ++ (0x53 ∷ 0x55 ∷ 0 ∷ 1 ∷ 0 ∷ 0 ∷ 0 ∷ 7 ∷ 0 ∷ 0 ∷ 0 ∷ 0 ∷ 0 ∷ 1  -- 1: 0,7,0,0;A;1
+    ∷ 0x42 ∷ 0x4B  -- break
+    ∷ 0x53 ∷ 0x55 ∷ 0 ∷ 2 ∷ 0 ∷ 2 ∷ 0 ∷ 6 ∷ 0 ∷ 8 ∷ 0 ∷ 1 ∷ 0 ∷ 1  -- 2: 2,6,8,1;A;1
+    ∷ 0x42 ∷ 0x4B  -- break
+    ∷ 0x53 ∷ 0x55 ∷ 0 ∷ 3 ∷ 0 ∷ 4 ∷ 0 ∷ 8 ∷ 0 ∷ 10 ∷ 0 ∷ 2 ∷ 0 ∷ 1  -- 3: 4,8,10,2;A;1
+    ∷ 0x42 ∷ 0x4B  -- break
+    ∷ 0x53 ∷ 0x55 ∷ 0 ∷ 4 ∷ 0 ∷ 0 ∷ 0 ∷ 0 ∷ 0 ∷ 0 ∷ 0 ∷ 25 ∷ 0 ∷ 1  -- 4: 0,0,0,25;A;1
+    ∷ [])
+
+unfoldable pub bestLowerGradeResults : List ℕ
+bestLowerGradeResults =
+    0x47 ∷ 0x52 ∷ 0 ∷ 1 ∷ 2 ∷ 2 ∷ 0 ∷ 1 ∷ 0 ∷ 0 ∷ 0 ∷ 20 ∷ 0 ∷ 0 ∷ 0 ∷ 20  -- 1 1 C C f A 0.0 2.0 0.0 2.0
+    ∷ 0x47 ∷ 0x52 ∷ 0 ∷ 2 ∷ 1 ∷ 1 ∷ 0 ∷ 1 ∷ 0 ∷ 5 ∷ 0 ∷ 20 ∷ 0 ∷ 30 ∷ 0 ∷ 40  -- 2 2 B B f A 0.5 2.0 3.0 4.0
+    ∷ 0x47 ∷ 0x52 ∷ 0 ∷ 3 ∷ 2 ∷ 2 ∷ 0 ∷ 1 ∷ 0 ∷ 5 ∷ 0 ∷ 20 ∷ 0 ∷ 30 ∷ 0 ∷ 40  -- 3 3 C C f A 0.5 2.0 3.0 4.0
+    ∷ 0x47 ∷ 0x52 ∷ 0 ∷ 4 ∷ 3 ∷ 3 ∷ 0 ∷ 1 ∷ 0 ∷ 0 ∷ 0 ∷ 0 ∷ 0 ∷ 0 ∷ 0 ∷ 40  -- 4 4 S S f A 0.0 0.0 0.0 4.0
+    ∷ []
+
+-- No grade is lower than C, so that both are Substandard, though within T+L of C. There is no
+-- plan then: CuSums are zero and plan grade 3.
+-- The peach plan, but designated C.
+unfoldable pub designatedCFailedTwice : List ℕ
+designatedCFailedTwice =
+    set peachPlan 2 2
+    ++ (0x53 ∷ 0x55 ∷ 0 ∷ 1 ∷ 0 ∷ 0 ∷ 0 ∷ 8 ∷ 0 ∷ 0 ∷ 0 ∷ 0 ∷ 0 ∷ 1  -- 1: 0,8,0,0;A;1
+    ∷ 0x53 ∷ 0x55 ∷ 0 ∷ 2 ∷ 0 ∷ 0 ∷ 0 ∷ 8 ∷ 0 ∷ 0 ∷ 0 ∷ 0 ∷ 0 ∷ 1  -- 2: 0,8,0,0;A;1
+    ∷ 0x53 ∷ 0x55 ∷ 0 ∷ 3 ∷ 0 ∷ 0 ∷ 0 ∷ 0 ∷ 0 ∷ 1 ∷ 0 ∷ 2 ∷ 0 ∷ 1  -- 3: 0,0,1,2;A;1
+    ∷ [])
+
+unfoldable pub designatedCFailedTwiceResults : List ℕ
+designatedCFailedTwiceResults =
+    0x47 ∷ 0x52 ∷ 0 ∷ 1 ∷ 3 ∷ 3 ∷ 2 ∷ 1 ∷ 0 ∷ 0 ∷ 0 ∷ 30 ∷ 0 ∷ 0 ∷ 0 ∷ 0  -- 1 1 S S f C 0.0 3.0 0.0 0.0
+    ∷ 0x47 ∷ 0x52 ∷ 0 ∷ 2 ∷ 3 ∷ 3 ∷ 2 ∷ 1 ∷ 0 ∷ 0 ∷ 0 ∷ 30 ∷ 0 ∷ 0 ∷ 0 ∷ 0  -- 2 2 S S f C 0.0 3.0 0.0 0.0
+    ∷ 0x47 ∷ 0x52 ∷ 0 ∷ 3 ∷ 3 ∷ 3 ∷ 3 ∷ 2 ∷ 0 ∷ 0 ∷ 0 ∷ 0 ∷ 0 ∷ 0 ∷ 0 ∷ 0  -- 3 3 S S u S 0.0 0.0 0.0 0.0
+    ∷ []
+
+-- A prerequisite never makes a unit fail: no step 3 behind two of them. Unit 3 meets A and grades
+-- C by its prerequisite.
+unfoldable pub prerequisiteSubstandard : List ℕ
+prerequisiteSubstandard =
+    peachPlan
+    ++ (0x53 ∷ 0x55 ∷ 0 ∷ 1 ∷ 0 ∷ 0 ∷ 0 ∷ 0 ∷ 0 ∷ 1 ∷ 0 ∷ 2 ∷ 3 ∷ 1  -- 1: 0,0,1,2;S;1
+    ∷ 0x53 ∷ 0x55 ∷ 0 ∷ 2 ∷ 0 ∷ 0 ∷ 0 ∷ 0 ∷ 0 ∷ 1 ∷ 0 ∷ 2 ∷ 3 ∷ 1  -- 2: 0,0,1,2;S;1
+    ∷ 0x53 ∷ 0x55 ∷ 0 ∷ 3 ∷ 0 ∷ 0 ∷ 0 ∷ 1 ∷ 0 ∷ 4 ∷ 0 ∷ 5 ∷ 2 ∷ 1  -- 3: 0,1,4,5;C;1
+    ∷ [])
+
+unfoldable pub prerequisiteSubstandardResults : List ℕ
+prerequisiteSubstandardResults =
+    0x47 ∷ 0x52 ∷ 0 ∷ 1 ∷ 3 ∷ 3 ∷ 0 ∷ 0 ∷ 0 ∷ 0 ∷ 0 ∷ 0 ∷ 0 ∷ 0 ∷ 0 ∷ 0  -- 1 1 S S m A 0.0 0.0 0.0 0.0
+    ∷ 0x47 ∷ 0x52 ∷ 0 ∷ 2 ∷ 3 ∷ 3 ∷ 0 ∷ 0 ∷ 0 ∷ 0 ∷ 0 ∷ 0 ∷ 0 ∷ 0 ∷ 0 ∷ 0  -- 2 2 S S m A 0.0 0.0 0.0 0.0
+    ∷ 0x47 ∷ 0x52 ∷ 0 ∷ 3 ∷ 2 ∷ 2 ∷ 0 ∷ 0 ∷ 0 ∷ 0 ∷ 0 ∷ 0 ∷ 0 ∷ 10 ∷ 0 ∷ 40  -- 3 3 C C m A 0.0 0.0 1.0 4.0
+    ∷ []
+
+-- Step 3 is at the worse of the two defect grades, B, and not of the portion grades.
+unfoldable pub prerequisitesOfTwoFailures : List ℕ
+prerequisitesOfTwoFailures =
+    peachPlan
+    ++ (0x53 ∷ 0x55 ∷ 0 ∷ 1 ∷ 0 ∷ 0 ∷ 0 ∷ 0 ∷ 0 ∷ 0 ∷ 0 ∷ 12 ∷ 2 ∷ 1  -- 1: 0,0,0,12;C;1
+    ∷ 0x53 ∷ 0x55 ∷ 0 ∷ 2 ∷ 0 ∷ 0 ∷ 0 ∷ 0 ∷ 0 ∷ 0 ∷ 0 ∷ 12 ∷ 3 ∷ 1  -- 2: 0,0,0,12;S;1
+    ∷ 0x53 ∷ 0x55 ∷ 0 ∷ 3 ∷ 0 ∷ 0 ∷ 0 ∷ 3 ∷ 0 ∷ 5 ∷ 0 ∷ 5 ∷ 0 ∷ 1  -- 3: 0,3,5,5;A;1
+    ∷ [])
+
+unfoldable pub prerequisitesOfTwoFailuresResults : List ℕ
+prerequisitesOfTwoFailuresResults =
+    0x47 ∷ 0x52 ∷ 0 ∷ 1 ∷ 2 ∷ 2 ∷ 0 ∷ 1 ∷ 0 ∷ 0 ∷ 0 ∷ 0 ∷ 0 ∷ 0 ∷ 0 ∷ 40  -- 1 1 C C f A 0.0 0.0 0.0 4.0
+    ∷ 0x47 ∷ 0x52 ∷ 0 ∷ 2 ∷ 3 ∷ 3 ∷ 0 ∷ 1 ∷ 0 ∷ 0 ∷ 0 ∷ 0 ∷ 0 ∷ 0 ∷ 0 ∷ 40  -- 2 2 S S f A 0.0 0.0 0.0 4.0
+    ∷ 0x47 ∷ 0x52 ∷ 0 ∷ 3 ∷ 1 ∷ 1 ∷ 1 ∷ 2 ∷ 0 ∷ 0 ∷ 0 ∷ 10 ∷ 0 ∷ 10 ∷ 0 ∷ 30  -- 3 3 B B u B 0.0 1.0 1.0 3.0
+    ∷ []
+
+-- Minor defects count in total, and so do all others. Unit 1 comes to L and meets; unit 2 has one
+-- minor defect more; unit 3 as many in three kinds, and meets in each of these classes.
+unfoldable pub totalAloneFails : List ℕ
+totalAloneFails =
+    peachPlan
+    ++ (0x53 ∷ 0x55 ∷ 0 ∷ 1 ∷ 0 ∷ 0 ∷ 0 ∷ 0 ∷ 0 ∷ 0 ∷ 0 ∷ 9 ∷ 0 ∷ 1  -- 1: 0,0,0,9;A;1
+    ∷ 0x42 ∷ 0x4B  -- break
+    ∷ 0x53 ∷ 0x55 ∷ 0 ∷ 2 ∷ 0 ∷ 0 ∷ 0 ∷ 0 ∷ 0 ∷ 0 ∷ 0 ∷ 10 ∷ 0 ∷ 1  -- 2: 0,0,0,10;A;1
+    ∷ 0x42 ∷ 0x4B  -- break
+    ∷ 0x53 ∷ 0x55 ∷ 0 ∷ 3 ∷ 0 ∷ 0 ∷ 0 ∷ 2 ∷ 0 ∷ 3 ∷ 0 ∷ 5 ∷ 0 ∷ 1  -- 3: 0,2,3,5;A;1
+    ∷ [])
+
+unfoldable pub totalAloneFailsResults : List ℕ
+totalAloneFailsResults =
+    0x47 ∷ 0x52 ∷ 0 ∷ 1 ∷ 0 ∷ 0 ∷ 0 ∷ 0 ∷ 0 ∷ 0 ∷ 0 ∷ 0 ∷ 0 ∷ 0 ∷ 0 ∷ 40  -- 1 1 A A m A 0.0 0.0 0.0 4.0
+    ∷ 0x47 ∷ 0x52 ∷ 0 ∷ 2 ∷ 1 ∷ 1 ∷ 0 ∷ 1 ∷ 0 ∷ 0 ∷ 0 ∷ 0 ∷ 0 ∷ 0 ∷ 0 ∷ 40  -- 2 2 B B f A 0.0 0.0 0.0 4.0
+    ∷ 0x47 ∷ 0x52 ∷ 0 ∷ 3 ∷ 1 ∷ 1 ∷ 0 ∷ 1 ∷ 0 ∷ 0 ∷ 0 ∷ 10 ∷ 0 ∷ 10 ∷ 0 ∷ 40  -- 3 3 B B f A 0.0 1.0 1.0 4.0
+    ∷ []
+
+-- Unit 1 fails in severe alone, unit 2 in major alone: step 3 begins all the same, at the S of B.
+unfoldable pub twoClassesFailInTurn : List ℕ
+twoClassesFailInTurn =
+    peachPlan
+    ++ (0x53 ∷ 0x55 ∷ 0 ∷ 1 ∷ 0 ∷ 0 ∷ 0 ∷ 4 ∷ 0 ∷ 0 ∷ 0 ∷ 0 ∷ 0 ∷ 1  -- 1: 0,4,0,0;A;1
+    ∷ 0x53 ∷ 0x55 ∷ 0 ∷ 2 ∷ 0 ∷ 0 ∷ 0 ∷ 0 ∷ 0 ∷ 7 ∷ 0 ∷ 0 ∷ 0 ∷ 1  -- 2: 0,0,7,0;A;1
+    ∷ 0x53 ∷ 0x55 ∷ 0 ∷ 3 ∷ 0 ∷ 0 ∷ 0 ∷ 3 ∷ 0 ∷ 5 ∷ 0 ∷ 5 ∷ 0 ∷ 1  -- 3: 0,3,5,5;A;1
+    ∷ [])
+
+unfoldable pub twoClassesFailInTurnResults : List ℕ
+twoClassesFailInTurnResults =
+    0x47 ∷ 0x52 ∷ 0 ∷ 1 ∷ 1 ∷ 1 ∷ 0 ∷ 1 ∷ 0 ∷ 0 ∷ 0 ∷ 20 ∷ 0 ∷ 0 ∷ 0 ∷ 0  -- 1 1 B B f A 0.0 2.0 0.0 0.0
+    ∷ 0x47 ∷ 0x52 ∷ 0 ∷ 2 ∷ 1 ∷ 1 ∷ 0 ∷ 1 ∷ 0 ∷ 0 ∷ 0 ∷ 5 ∷ 0 ∷ 30 ∷ 0 ∷ 10  -- 2 2 B B f A 0.0 0.5 3.0 1.0
+    ∷ 0x47 ∷ 0x52 ∷ 0 ∷ 3 ∷ 1 ∷ 1 ∷ 1 ∷ 2 ∷ 0 ∷ 0 ∷ 0 ∷ 10 ∷ 0 ∷ 10 ∷ 0 ∷ 30  -- 3 3 B B u B 0.0 1.0 1.0 3.0
+    ∷ []
+
+-- Failures with a unit between them are not in a row: unit 4 is under A.
+unfoldable pub unitThatMeetsBetweenFailures : List ℕ
+unitThatMeetsBetweenFailures =
+    peachPlan
+    ++ (0x53 ∷ 0x55 ∷ 0 ∷ 1 ∷ 0 ∷ 0 ∷ 0 ∷ 0 ∷ 0 ∷ 0 ∷ 0 ∷ 12 ∷ 0 ∷ 1  -- 1: 0,0,0,12;A;1
+    ∷ 0x53 ∷ 0x55 ∷ 0 ∷ 2 ∷ 0 ∷ 0 ∷ 0 ∷ 0 ∷ 0 ∷ 0 ∷ 0 ∷ 0 ∷ 0 ∷ 1  -- 2: 0,0,0,0;A;1
+    ∷ 0x53 ∷ 0x55 ∷ 0 ∷ 3 ∷ 0 ∷ 0 ∷ 0 ∷ 0 ∷ 0 ∷ 0 ∷ 0 ∷ 12 ∷ 0 ∷ 1  -- 3: 0,0,0,12;A;1
+    ∷ 0x53 ∷ 0x55 ∷ 0 ∷ 4 ∷ 0 ∷ 0 ∷ 0 ∷ 0 ∷ 0 ∷ 3 ∷ 0 ∷ 3 ∷ 0 ∷ 1  -- 4: 0,0,3,3;A;1
+    ∷ [])
+
+unfoldable pub unitThatMeetsBetweenFailuresResults : List ℕ
+unitThatMeetsBetweenFailuresResults =
+    0x47 ∷ 0x52 ∷ 0 ∷ 1 ∷ 1 ∷ 1 ∷ 0 ∷ 1 ∷ 0 ∷ 0 ∷ 0 ∷ 0 ∷ 0 ∷ 0 ∷ 0 ∷ 40  -- 1 1 B B f A 0.0 0.0 0.0 4.0
+    ∷ 0x47 ∷ 0x52 ∷ 0 ∷ 2 ∷ 0 ∷ 0 ∷ 0 ∷ 0 ∷ 0 ∷ 0 ∷ 0 ∷ 0 ∷ 0 ∷ 0 ∷ 0 ∷ 0  -- 2 2 A A m A 0.0 0.0 0.0 0.0
+    ∷ 0x47 ∷ 0x52 ∷ 0 ∷ 3 ∷ 1 ∷ 1 ∷ 0 ∷ 1 ∷ 0 ∷ 0 ∷ 0 ∷ 0 ∷ 0 ∷ 0 ∷ 0 ∷ 40  -- 3 3 B B f A 0.0 0.0 0.0 4.0
+    ∷ 0x47 ∷ 0x52 ∷ 0 ∷ 4 ∷ 0 ∷ 0 ∷ 0 ∷ 0 ∷ 0 ∷ 0 ∷ 0 ∷ 0 ∷ 0 ∷ 0 ∷ 0 ∷ 40  -- 4 4 A A m A 0.0 0.0 0.0 4.0
+    ∷ []
+
+-- Codes are 01 2C, 00 2C, 01 2D, 01 2C: the first and the last are one code, not adjoining, and
+-- have the worse portion grade. One byte of a code alone does not tell it.
+unfoldable pub codeMetAgain : List ℕ
+codeMetAgain =
+    peachPlan
+    ++ (0x53 ∷ 0x55 ∷ 1 ∷ 44 ∷ 0 ∷ 0 ∷ 0 ∷ 0 ∷ 0 ∷ 1 ∷ 0 ∷ 2 ∷ 0 ∷ 1  -- 300: 0,0,1,2;A;1
+    ∷ 0x53 ∷ 0x55 ∷ 0 ∷ 44 ∷ 0 ∷ 0 ∷ 0 ∷ 0 ∷ 0 ∷ 1 ∷ 0 ∷ 2 ∷ 1 ∷ 1  -- 44: 0,0,1,2;B;1
+    ∷ 0x53 ∷ 0x55 ∷ 1 ∷ 45 ∷ 0 ∷ 0 ∷ 0 ∷ 0 ∷ 0 ∷ 1 ∷ 0 ∷ 2 ∷ 3 ∷ 1  -- 301: 0,0,1,2;S;1
+    ∷ 0x53 ∷ 0x55 ∷ 1 ∷ 44 ∷ 0 ∷ 0 ∷ 0 ∷ 0 ∷ 0 ∷ 1 ∷ 0 ∷ 2 ∷ 2 ∷ 1  -- 300: 0,0,1,2;C;1
+    ∷ [])
+
+unfoldable pub codeMetAgainResults : List ℕ
+codeMetAgainResults =
+    0x47 ∷ 0x52 ∷ 1 ∷ 44 ∷ 0 ∷ 2 ∷ 0 ∷ 0 ∷ 0 ∷ 0 ∷ 0 ∷ 0 ∷ 0 ∷ 0 ∷ 0 ∷ 0  -- 1 300 A C m A 0.0 0.0 0.0 0.0
+    ∷ 0x47 ∷ 0x52 ∷ 0 ∷ 44 ∷ 1 ∷ 1 ∷ 0 ∷ 0 ∷ 0 ∷ 0 ∷ 0 ∷ 0 ∷ 0 ∷ 0 ∷ 0 ∷ 0  -- 2 44 B B m A 0.0 0.0 0.0 0.0
+    ∷ 0x47 ∷ 0x52 ∷ 1 ∷ 45 ∷ 3 ∷ 3 ∷ 0 ∷ 0 ∷ 0 ∷ 0 ∷ 0 ∷ 0 ∷ 0 ∷ 0 ∷ 0 ∷ 0  -- 3 301 S S m A 0.0 0.0 0.0 0.0
+    ∷ 0x47 ∷ 0x52 ∷ 1 ∷ 44 ∷ 2 ∷ 2 ∷ 0 ∷ 0 ∷ 0 ∷ 0 ∷ 0 ∷ 0 ∷ 0 ∷ 0 ∷ 0 ∷ 0  -- 4 300 C C m A 0.0 0.0 0.0 0.0
+    ∷ []
+
+-- S equal to L is accepted, here in every class of A. Counts at T keep major and total at L and
+-- meet; one major defect more fails.
+-- The peach plan, but critical at A 0.5/0.5/0.5, severe at A 2/1.5/2, major at A 3/3/3, total at A 4/6/4.
+unfoldable pub startEqualToLimit : List ℕ
+startEqualToLimit =
+    set (set (set (set peachPlan 4 5) 10 20) 16 30) 22 40
+    ++ (0x53 ∷ 0x55 ∷ 0 ∷ 1 ∷ 0 ∷ 0 ∷ 0 ∷ 1 ∷ 0 ∷ 3 ∷ 0 ∷ 2 ∷ 0 ∷ 1  -- 1: 0,1,3,2;A;1
+    ∷ 0x53 ∷ 0x55 ∷ 0 ∷ 2 ∷ 0 ∷ 0 ∷ 0 ∷ 1 ∷ 0 ∷ 4 ∷ 0 ∷ 1 ∷ 0 ∷ 1  -- 2: 0,1,4,1;A;1
+    ∷ [])
+
+unfoldable pub startEqualToLimitResults : List ℕ
+startEqualToLimitResults =
+    0x47 ∷ 0x52 ∷ 0 ∷ 1 ∷ 0 ∷ 0 ∷ 0 ∷ 0 ∷ 0 ∷ 0 ∷ 0 ∷ 15 ∷ 0 ∷ 30 ∷ 0 ∷ 40  -- 1 1 A A m A 0.0 1.5 3.0 4.0
+    ∷ 0x47 ∷ 0x52 ∷ 0 ∷ 2 ∷ 1 ∷ 1 ∷ 0 ∷ 1 ∷ 0 ∷ 0 ∷ 0 ∷ 10 ∷ 0 ∷ 30 ∷ 0 ∷ 40  -- 2 2 B B f A 0.0 1.0 3.0 4.0
+    ∷ []
+
+pub record UnitSheets : Type 0 where
+  pub best-lower-grade : Graded bestLowerGrade 4 137 bestLowerGradeResults
+  pub designated-c-failed-twice : Graded designatedCFailedTwice 3 117 designatedCFailedTwiceResults
+  pub prerequisite-substandard : Graded prerequisiteSubstandard 3 117 prerequisiteSubstandardResults
+  pub prerequisites-of-two-failures : Graded prerequisitesOfTwoFailures 3 117 prerequisitesOfTwoFailuresResults
+  pub total-alone-fails : Graded totalAloneFails 3 121 totalAloneFailsResults
+  pub two-classes-fail-in-turn : Graded twoClassesFailInTurn 3 117 twoClassesFailInTurnResults
+  pub unit-that-meets-between-failures : Graded unitThatMeetsBetweenFailures 4 131 unitThatMeetsBetweenFailuresResults
+  pub code-met-again : Graded codeMetAgain 4 131 codeMetAgainResults
+  pub start-equal-to-limit : Graded startEqualToLimit 2 103 startEqualToLimitResults
+
+-- ---- units in step 3, its end and recovery
+
+-- Unit 3 fails B and grades lower, here Substandard; its standing is 2, the plan in force stays B
+-- and the CuSum is L of B. Unit 4 goes on from there.
+unfoldable pub failureInStepThree : List ℕ
+failureInStepThree =
+    peachPlan
+    ++ (0x53 ∷ 0x55 ∷ 0 ∷ 1 ∷ 0 ∷ 0 ∷ 0 ∷ 0 ∷ 0 ∷ 0 ∷ 0 ∷ 12 ∷ 0 ∷ 1  -- 1: 0,0,0,12;A;1
+    ∷ 0x53 ∷ 0x55 ∷ 0 ∷ 2 ∷ 0 ∷ 0 ∷ 0 ∷ 0 ∷ 0 ∷ 0 ∷ 0 ∷ 12 ∷ 0 ∷ 1  -- 2: 0,0,0,12;A;1
+    ∷ 0x53 ∷ 0x55 ∷ 0 ∷ 3 ∷ 0 ∷ 0 ∷ 0 ∷ 9 ∷ 0 ∷ 0 ∷ 0 ∷ 0 ∷ 0 ∷ 1  -- 3: 0,9,0,0;A;1
+    ∷ 0x53 ∷ 0x55 ∷ 0 ∷ 4 ∷ 0 ∷ 0 ∷ 0 ∷ 3 ∷ 0 ∷ 0 ∷ 0 ∷ 0 ∷ 0 ∷ 1  -- 4: 0,3,0,0;A;1
+    ∷ [])
+
+unfoldable pub failureInStepThreeResults : List ℕ
+failureInStepThreeResults =
+    0x47 ∷ 0x52 ∷ 0 ∷ 1 ∷ 1 ∷ 1 ∷ 0 ∷ 1 ∷ 0 ∷ 0 ∷ 0 ∷ 0 ∷ 0 ∷ 0 ∷ 0 ∷ 40  -- 1 1 B B f A 0.0 0.0 0.0 4.0
+    ∷ 0x47 ∷ 0x52 ∷ 0 ∷ 2 ∷ 1 ∷ 1 ∷ 0 ∷ 1 ∷ 0 ∷ 0 ∷ 0 ∷ 0 ∷ 0 ∷ 0 ∷ 0 ∷ 40  -- 2 2 B B f A 0.0 0.0 0.0 4.0
+    ∷ 0x47 ∷ 0x52 ∷ 0 ∷ 3 ∷ 3 ∷ 3 ∷ 1 ∷ 2 ∷ 0 ∷ 0 ∷ 0 ∷ 30 ∷ 0 ∷ 0 ∷ 0 ∷ 0  -- 3 3 S S u B 0.0 3.0 0.0 0.0
+    ∷ 0x47 ∷ 0x52 ∷ 0 ∷ 4 ∷ 1 ∷ 1 ∷ 1 ∷ 2 ∷ 0 ∷ 0 ∷ 0 ∷ 30 ∷ 0 ∷ 0 ∷ 0 ∷ 0  -- 4 4 B B u B 0.0 3.0 0.0 0.0
+    ∷ []
+
+-- Two failures at the lower plan start nothing further: unit 5 is under B, from its CuSums.
+unfoldable pub twoFailuresInStepThree : List ℕ
+twoFailuresInStepThree =
+    peachPlan
+    ++ (0x53 ∷ 0x55 ∷ 0 ∷ 1 ∷ 0 ∷ 0 ∷ 0 ∷ 0 ∷ 0 ∷ 0 ∷ 0 ∷ 12 ∷ 0 ∷ 1  -- 1: 0,0,0,12;A;1
+    ∷ 0x53 ∷ 0x55 ∷ 0 ∷ 2 ∷ 0 ∷ 0 ∷ 0 ∷ 0 ∷ 0 ∷ 0 ∷ 0 ∷ 12 ∷ 0 ∷ 1  -- 2: 0,0,0,12;A;1
+    ∷ 0x53 ∷ 0x55 ∷ 0 ∷ 3 ∷ 0 ∷ 0 ∷ 0 ∷ 7 ∷ 0 ∷ 0 ∷ 0 ∷ 0 ∷ 0 ∷ 1  -- 3: 0,7,0,0;A;1
+    ∷ 0x53 ∷ 0x55 ∷ 0 ∷ 4 ∷ 0 ∷ 0 ∷ 0 ∷ 7 ∷ 0 ∷ 0 ∷ 0 ∷ 0 ∷ 0 ∷ 1  -- 4: 0,7,0,0;A;1
+    ∷ 0x53 ∷ 0x55 ∷ 0 ∷ 5 ∷ 0 ∷ 0 ∷ 0 ∷ 3 ∷ 0 ∷ 0 ∷ 0 ∷ 0 ∷ 0 ∷ 1  -- 5: 0,3,0,0;A;1
+    ∷ [])
+
+unfoldable pub twoFailuresInStepThreeResults : List ℕ
+twoFailuresInStepThreeResults =
+    0x47 ∷ 0x52 ∷ 0 ∷ 1 ∷ 1 ∷ 1 ∷ 0 ∷ 1 ∷ 0 ∷ 0 ∷ 0 ∷ 0 ∷ 0 ∷ 0 ∷ 0 ∷ 40  -- 1 1 B B f A 0.0 0.0 0.0 4.0
+    ∷ 0x47 ∷ 0x52 ∷ 0 ∷ 2 ∷ 1 ∷ 1 ∷ 0 ∷ 1 ∷ 0 ∷ 0 ∷ 0 ∷ 0 ∷ 0 ∷ 0 ∷ 0 ∷ 40  -- 2 2 B B f A 0.0 0.0 0.0 4.0
+    ∷ 0x47 ∷ 0x52 ∷ 0 ∷ 3 ∷ 2 ∷ 2 ∷ 1 ∷ 2 ∷ 0 ∷ 0 ∷ 0 ∷ 30 ∷ 0 ∷ 0 ∷ 0 ∷ 0  -- 3 3 C C u B 0.0 3.0 0.0 0.0
+    ∷ 0x47 ∷ 0x52 ∷ 0 ∷ 4 ∷ 2 ∷ 2 ∷ 1 ∷ 2 ∷ 0 ∷ 0 ∷ 0 ∷ 30 ∷ 0 ∷ 0 ∷ 0 ∷ 0  -- 4 4 C C u B 0.0 3.0 0.0 0.0
+    ∷ 0x47 ∷ 0x52 ∷ 0 ∷ 5 ∷ 1 ∷ 1 ∷ 1 ∷ 2 ∷ 0 ∷ 0 ∷ 0 ∷ 30 ∷ 0 ∷ 0 ∷ 0 ∷ 0  -- 5 5 B B u B 0.0 3.0 0.0 0.0
+    ∷ []
+
+-- Unit 4 has two severe defects, within the T of B and above that of A: it does not qualify, else
+-- units 3 to 5 would be recovered and unit 6 be under A.
+unfoldable pub aboveTolerance : List ℕ
+aboveTolerance =
+    peachPlan
+    ++ (0x53 ∷ 0x55 ∷ 0 ∷ 1 ∷ 0 ∷ 0 ∷ 0 ∷ 0 ∷ 0 ∷ 0 ∷ 0 ∷ 12 ∷ 0 ∷ 1  -- 1: 0,0,0,12;A;1
+    ∷ 0x53 ∷ 0x55 ∷ 0 ∷ 2 ∷ 0 ∷ 0 ∷ 0 ∷ 0 ∷ 0 ∷ 0 ∷ 0 ∷ 12 ∷ 0 ∷ 1  -- 2: 0,0,0,12;A;1
+    ∷ 0x53 ∷ 0x55 ∷ 0 ∷ 3 ∷ 0 ∷ 0 ∷ 0 ∷ 0 ∷ 0 ∷ 1 ∷ 0 ∷ 2 ∷ 0 ∷ 1  -- 3: 0,0,1,2;A;1
+    ∷ 0x53 ∷ 0x55 ∷ 0 ∷ 4 ∷ 0 ∷ 0 ∷ 0 ∷ 2 ∷ 0 ∷ 0 ∷ 0 ∷ 0 ∷ 0 ∷ 1  -- 4: 0,2,0,0;A;1
+    ∷ 0x53 ∷ 0x55 ∷ 0 ∷ 5 ∷ 0 ∷ 0 ∷ 0 ∷ 0 ∷ 0 ∷ 1 ∷ 0 ∷ 2 ∷ 0 ∷ 1  -- 5: 0,0,1,2;A;1
+    ∷ 0x53 ∷ 0x55 ∷ 0 ∷ 6 ∷ 0 ∷ 0 ∷ 0 ∷ 0 ∷ 0 ∷ 1 ∷ 0 ∷ 2 ∷ 0 ∷ 1  -- 6: 0,0,1,2;A;1
+    ∷ [])
+
+unfoldable pub aboveToleranceResults : List ℕ
+aboveToleranceResults =
+    0x47 ∷ 0x52 ∷ 0 ∷ 1 ∷ 1 ∷ 1 ∷ 0 ∷ 1 ∷ 0 ∷ 0 ∷ 0 ∷ 0 ∷ 0 ∷ 0 ∷ 0 ∷ 40  -- 1 1 B B f A 0.0 0.0 0.0 4.0
+    ∷ 0x47 ∷ 0x52 ∷ 0 ∷ 2 ∷ 1 ∷ 1 ∷ 0 ∷ 1 ∷ 0 ∷ 0 ∷ 0 ∷ 0 ∷ 0 ∷ 0 ∷ 0 ∷ 40  -- 2 2 B B f A 0.0 0.0 0.0 4.0
+    ∷ 0x47 ∷ 0x52 ∷ 0 ∷ 3 ∷ 1 ∷ 1 ∷ 1 ∷ 2 ∷ 0 ∷ 0 ∷ 0 ∷ 0 ∷ 0 ∷ 0 ∷ 0 ∷ 0  -- 3 3 B B u B 0.0 0.0 0.0 0.0
+    ∷ 0x47 ∷ 0x52 ∷ 0 ∷ 4 ∷ 1 ∷ 1 ∷ 1 ∷ 2 ∷ 0 ∷ 0 ∷ 0 ∷ 0 ∷ 0 ∷ 0 ∷ 0 ∷ 0  -- 4 4 B B u B 0.0 0.0 0.0 0.0
+    ∷ 0x47 ∷ 0x52 ∷ 0 ∷ 5 ∷ 1 ∷ 1 ∷ 1 ∷ 2 ∷ 0 ∷ 0 ∷ 0 ∷ 0 ∷ 0 ∷ 0 ∷ 0 ∷ 0  -- 5 5 B B u B 0.0 0.0 0.0 0.0
+    ∷ 0x47 ∷ 0x52 ∷ 0 ∷ 6 ∷ 1 ∷ 1 ∷ 1 ∷ 2 ∷ 0 ∷ 0 ∷ 0 ∷ 0 ∷ 0 ∷ 0 ∷ 0 ∷ 0  -- 6 6 B B u B 0.0 0.0 0.0 0.0
+    ∷ []
+
+-- Unit 4 is within the T of A, but its CuSum in severe is 1.0: it does not qualify, else units 4
+-- to 6 would be recovered.
+unfoldable pub cusumAboveZero : List ℕ
+cusumAboveZero =
+    peachPlan
+    ++ (0x53 ∷ 0x55 ∷ 0 ∷ 1 ∷ 0 ∷ 0 ∷ 0 ∷ 0 ∷ 0 ∷ 0 ∷ 0 ∷ 12 ∷ 0 ∷ 1  -- 1: 0,0,0,12;A;1
+    ∷ 0x53 ∷ 0x55 ∷ 0 ∷ 2 ∷ 0 ∷ 0 ∷ 0 ∷ 0 ∷ 0 ∷ 0 ∷ 0 ∷ 12 ∷ 0 ∷ 1  -- 2: 0,0,0,12;A;1
+    ∷ 0x53 ∷ 0x55 ∷ 0 ∷ 3 ∷ 0 ∷ 0 ∷ 0 ∷ 7 ∷ 0 ∷ 0 ∷ 0 ∷ 0 ∷ 0 ∷ 1  -- 3: 0,7,0,0;A;1
+    ∷ 0x53 ∷ 0x55 ∷ 0 ∷ 4 ∷ 0 ∷ 0 ∷ 0 ∷ 1 ∷ 0 ∷ 0 ∷ 0 ∷ 0 ∷ 0 ∷ 1  -- 4: 0,1,0,0;A;1
+    ∷ 0x53 ∷ 0x55 ∷ 0 ∷ 5 ∷ 0 ∷ 0 ∷ 0 ∷ 0 ∷ 0 ∷ 1 ∷ 0 ∷ 2 ∷ 0 ∷ 1  -- 5: 0,0,1,2;A;1
+    ∷ 0x53 ∷ 0x55 ∷ 0 ∷ 6 ∷ 0 ∷ 0 ∷ 0 ∷ 0 ∷ 0 ∷ 1 ∷ 0 ∷ 2 ∷ 0 ∷ 1  -- 6: 0,0,1,2;A;1
+    ∷ [])
+
+unfoldable pub cusumAboveZeroResults : List ℕ
+cusumAboveZeroResults =
+    0x47 ∷ 0x52 ∷ 0 ∷ 1 ∷ 1 ∷ 1 ∷ 0 ∷ 1 ∷ 0 ∷ 0 ∷ 0 ∷ 0 ∷ 0 ∷ 0 ∷ 0 ∷ 40  -- 1 1 B B f A 0.0 0.0 0.0 4.0
+    ∷ 0x47 ∷ 0x52 ∷ 0 ∷ 2 ∷ 1 ∷ 1 ∷ 0 ∷ 1 ∷ 0 ∷ 0 ∷ 0 ∷ 0 ∷ 0 ∷ 0 ∷ 0 ∷ 40  -- 2 2 B B f A 0.0 0.0 0.0 4.0
+    ∷ 0x47 ∷ 0x52 ∷ 0 ∷ 3 ∷ 2 ∷ 2 ∷ 1 ∷ 2 ∷ 0 ∷ 0 ∷ 0 ∷ 30 ∷ 0 ∷ 0 ∷ 0 ∷ 0  -- 3 3 C C u B 0.0 3.0 0.0 0.0
+    ∷ 0x47 ∷ 0x52 ∷ 0 ∷ 4 ∷ 1 ∷ 1 ∷ 1 ∷ 2 ∷ 0 ∷ 0 ∷ 0 ∷ 10 ∷ 0 ∷ 0 ∷ 0 ∷ 0  -- 4 4 B B u B 0.0 1.0 0.0 0.0
+    ∷ 0x47 ∷ 0x52 ∷ 0 ∷ 5 ∷ 1 ∷ 1 ∷ 1 ∷ 2 ∷ 0 ∷ 0 ∷ 0 ∷ 0 ∷ 0 ∷ 0 ∷ 0 ∷ 0  -- 5 5 B B u B 0.0 0.0 0.0 0.0
+    ∷ 0x47 ∷ 0x52 ∷ 0 ∷ 6 ∷ 1 ∷ 1 ∷ 1 ∷ 2 ∷ 0 ∷ 0 ∷ 0 ∷ 0 ∷ 0 ∷ 0 ∷ 0 ∷ 0  -- 6 6 B B u B 0.0 0.0 0.0 0.0
+    ∷ []
+
+-- Unit 3 gets its prerequisite B, which is worse than A; unit 4, out of reach, keeps C and
+-- standing 2; unit 5 gets A. Codes are graded after that: code 3 grades B, code 4 C.
+unfoldable pub recovery : List ℕ
+recovery =
+    peachPlan
+    ++ (0x53 ∷ 0x55 ∷ 0 ∷ 1 ∷ 0 ∷ 0 ∷ 0 ∷ 0 ∷ 0 ∷ 0 ∷ 0 ∷ 12 ∷ 0 ∷ 1  -- 1: 0,0,0,12;A;1
+    ∷ 0x53 ∷ 0x55 ∷ 0 ∷ 2 ∷ 0 ∷ 0 ∷ 0 ∷ 0 ∷ 0 ∷ 0 ∷ 0 ∷ 18 ∷ 0 ∷ 1  -- 2: 0,0,0,18;A;1
+    ∷ 0x53 ∷ 0x55 ∷ 0 ∷ 3 ∷ 0 ∷ 0 ∷ 0 ∷ 0 ∷ 0 ∷ 1 ∷ 0 ∷ 2 ∷ 1 ∷ 1  -- 3: 0,0,1,2;B;1
+    ∷ 0x53 ∷ 0x55 ∷ 0 ∷ 4 ∷ 0 ∷ 0 ∷ 0 ∷ 0 ∷ 0 ∷ 1 ∷ 0 ∷ 2 ∷ 0 ∷ 0  -- 4: 0,0,1,2;A;0
+    ∷ 0x53 ∷ 0x55 ∷ 0 ∷ 4 ∷ 0 ∷ 0 ∷ 0 ∷ 0 ∷ 0 ∷ 1 ∷ 0 ∷ 2 ∷ 0 ∷ 1  -- 4: 0,0,1,2;A;1
+    ∷ 0x53 ∷ 0x55 ∷ 0 ∷ 3 ∷ 0 ∷ 0 ∷ 0 ∷ 0 ∷ 0 ∷ 1 ∷ 0 ∷ 2 ∷ 0 ∷ 1  -- 3: 0,0,1,2;A;1
+    ∷ [])
+
+unfoldable pub recoveryResults : List ℕ
+recoveryResults =
+    0x47 ∷ 0x52 ∷ 0 ∷ 1 ∷ 1 ∷ 1 ∷ 0 ∷ 1 ∷ 0 ∷ 0 ∷ 0 ∷ 0 ∷ 0 ∷ 0 ∷ 0 ∷ 40  -- 1 1 B B f A 0.0 0.0 0.0 4.0
+    ∷ 0x47 ∷ 0x52 ∷ 0 ∷ 2 ∷ 2 ∷ 2 ∷ 0 ∷ 1 ∷ 0 ∷ 0 ∷ 0 ∷ 0 ∷ 0 ∷ 0 ∷ 0 ∷ 40  -- 2 2 C C f A 0.0 0.0 0.0 4.0
+    ∷ 0x47 ∷ 0x52 ∷ 0 ∷ 3 ∷ 1 ∷ 1 ∷ 2 ∷ 3 ∷ 0 ∷ 0 ∷ 0 ∷ 0 ∷ 0 ∷ 0 ∷ 0 ∷ 0  -- 3 3 B B r C 0.0 0.0 0.0 0.0
+    ∷ 0x47 ∷ 0x52 ∷ 0 ∷ 4 ∷ 2 ∷ 2 ∷ 2 ∷ 2 ∷ 0 ∷ 0 ∷ 0 ∷ 0 ∷ 0 ∷ 0 ∷ 0 ∷ 0  -- 4 4 C C u C 0.0 0.0 0.0 0.0
+    ∷ 0x47 ∷ 0x52 ∷ 0 ∷ 4 ∷ 0 ∷ 2 ∷ 2 ∷ 3 ∷ 0 ∷ 0 ∷ 0 ∷ 0 ∷ 0 ∷ 0 ∷ 0 ∷ 0  -- 5 4 A C r C 0.0 0.0 0.0 0.0
+    ∷ 0x47 ∷ 0x52 ∷ 0 ∷ 3 ∷ 0 ∷ 1 ∷ 0 ∷ 0 ∷ 0 ∷ 0 ∷ 0 ∷ 0 ∷ 0 ∷ 0 ∷ 0 ∷ 0  -- 6 3 A B m A 0.0 0.0 0.0 0.0
+    ∷ []
+
+-- Without a plan CuSums are taken as zero. Unit 3 is above the T of A in severe and does not
+-- qualify; units 4 and 5 are at it in major and total. Unit 7 starts A at S.
+unfoldable pub recoveryWithoutPlan : List ℕ
+recoveryWithoutPlan =
+    peachPlan
+    ++ (0x53 ∷ 0x55 ∷ 0 ∷ 1 ∷ 0 ∷ 5 ∷ 0 ∷ 0 ∷ 0 ∷ 0 ∷ 0 ∷ 0 ∷ 0 ∷ 1  -- 1: 5,0,0,0;A;1
+    ∷ 0x53 ∷ 0x55 ∷ 0 ∷ 2 ∷ 0 ∷ 5 ∷ 0 ∷ 0 ∷ 0 ∷ 0 ∷ 0 ∷ 0 ∷ 0 ∷ 1  -- 2: 5,0,0,0;A;1
+    ∷ 0x53 ∷ 0x55 ∷ 0 ∷ 3 ∷ 0 ∷ 0 ∷ 0 ∷ 2 ∷ 0 ∷ 0 ∷ 0 ∷ 0 ∷ 0 ∷ 1  -- 3: 0,2,0,0;A;1
+    ∷ 0x53 ∷ 0x55 ∷ 0 ∷ 4 ∷ 0 ∷ 0 ∷ 0 ∷ 1 ∷ 0 ∷ 3 ∷ 0 ∷ 2 ∷ 0 ∷ 1  -- 4: 0,1,3,2;A;1
+    ∷ 0x53 ∷ 0x55 ∷ 0 ∷ 5 ∷ 0 ∷ 0 ∷ 0 ∷ 1 ∷ 0 ∷ 3 ∷ 0 ∷ 2 ∷ 0 ∷ 1  -- 5: 0,1,3,2;A;1
+    ∷ 0x53 ∷ 0x55 ∷ 0 ∷ 6 ∷ 0 ∷ 0 ∷ 0 ∷ 0 ∷ 0 ∷ 1 ∷ 0 ∷ 2 ∷ 0 ∷ 1  -- 6: 0,0,1,2;A;1
+    ∷ 0x53 ∷ 0x55 ∷ 0 ∷ 7 ∷ 0 ∷ 0 ∷ 0 ∷ 1 ∷ 0 ∷ 3 ∷ 0 ∷ 3 ∷ 0 ∷ 1  -- 7: 0,1,3,3;A;1
+    ∷ [])
+
+unfoldable pub recoveryWithoutPlanResults : List ℕ
+recoveryWithoutPlanResults =
+    0x47 ∷ 0x52 ∷ 0 ∷ 1 ∷ 3 ∷ 3 ∷ 0 ∷ 1 ∷ 0 ∷ 5 ∷ 0 ∷ 0 ∷ 0 ∷ 0 ∷ 0 ∷ 0  -- 1 1 S S f A 0.5 0.0 0.0 0.0
+    ∷ 0x47 ∷ 0x52 ∷ 0 ∷ 2 ∷ 3 ∷ 3 ∷ 0 ∷ 1 ∷ 0 ∷ 5 ∷ 0 ∷ 0 ∷ 0 ∷ 0 ∷ 0 ∷ 0  -- 2 2 S S f A 0.5 0.0 0.0 0.0
+    ∷ 0x47 ∷ 0x52 ∷ 0 ∷ 3 ∷ 3 ∷ 3 ∷ 3 ∷ 2 ∷ 0 ∷ 0 ∷ 0 ∷ 0 ∷ 0 ∷ 0 ∷ 0 ∷ 0  -- 3 3 S S u S 0.0 0.0 0.0 0.0
+    ∷ 0x47 ∷ 0x52 ∷ 0 ∷ 4 ∷ 0 ∷ 0 ∷ 3 ∷ 3 ∷ 0 ∷ 0 ∷ 0 ∷ 0 ∷ 0 ∷ 0 ∷ 0 ∷ 0  -- 4 4 A A r S 0.0 0.0 0.0 0.0
+    ∷ 0x47 ∷ 0x52 ∷ 0 ∷ 5 ∷ 0 ∷ 0 ∷ 3 ∷ 3 ∷ 0 ∷ 0 ∷ 0 ∷ 0 ∷ 0 ∷ 0 ∷ 0 ∷ 0  -- 5 5 A A r S 0.0 0.0 0.0 0.0
+    ∷ 0x47 ∷ 0x52 ∷ 0 ∷ 6 ∷ 0 ∷ 0 ∷ 3 ∷ 3 ∷ 0 ∷ 0 ∷ 0 ∷ 0 ∷ 0 ∷ 0 ∷ 0 ∷ 0  -- 6 6 A A r S 0.0 0.0 0.0 0.0
+    ∷ 0x47 ∷ 0x52 ∷ 0 ∷ 7 ∷ 0 ∷ 0 ∷ 0 ∷ 0 ∷ 0 ∷ 0 ∷ 0 ∷ 0 ∷ 0 ∷ 10 ∷ 0 ∷ 20  -- 7 7 A A m A 0.0 0.0 1.0 2.0
+    ∷ []
+
+-- The designated plan starts at S, not at the zeros of unit 5, and unit 6 is a first failure:
+-- unit 7 is under A.
+unfoldable pub afterStepThree : List ℕ
+afterStepThree =
+    peachPlan
+    ++ (0x53 ∷ 0x55 ∷ 0 ∷ 1 ∷ 0 ∷ 0 ∷ 0 ∷ 0 ∷ 0 ∷ 0 ∷ 0 ∷ 12 ∷ 0 ∷ 1  -- 1: 0,0,0,12;A;1
+    ∷ 0x53 ∷ 0x55 ∷ 0 ∷ 2 ∷ 0 ∷ 0 ∷ 0 ∷ 0 ∷ 0 ∷ 0 ∷ 0 ∷ 12 ∷ 0 ∷ 1  -- 2: 0,0,0,12;A;1
+    ∷ 0x53 ∷ 0x55 ∷ 0 ∷ 3 ∷ 0 ∷ 0 ∷ 0 ∷ 0 ∷ 0 ∷ 1 ∷ 0 ∷ 2 ∷ 0 ∷ 1  -- 3: 0,0,1,2;A;1
+    ∷ 0x53 ∷ 0x55 ∷ 0 ∷ 4 ∷ 0 ∷ 0 ∷ 0 ∷ 0 ∷ 0 ∷ 1 ∷ 0 ∷ 2 ∷ 0 ∷ 1  -- 4: 0,0,1,2;A;1
+    ∷ 0x53 ∷ 0x55 ∷ 0 ∷ 5 ∷ 0 ∷ 0 ∷ 0 ∷ 0 ∷ 0 ∷ 1 ∷ 0 ∷ 2 ∷ 0 ∷ 1  -- 5: 0,0,1,2;A;1
+    ∷ 0x53 ∷ 0x55 ∷ 0 ∷ 6 ∷ 0 ∷ 0 ∷ 0 ∷ 1 ∷ 0 ∷ 3 ∷ 0 ∷ 9 ∷ 0 ∷ 1  -- 6: 0,1,3,9;A;1
+    ∷ 0x53 ∷ 0x55 ∷ 0 ∷ 7 ∷ 0 ∷ 0 ∷ 0 ∷ 0 ∷ 0 ∷ 3 ∷ 0 ∷ 3 ∷ 0 ∷ 1  -- 7: 0,0,3,3;A;1
+    ∷ [])
+
+unfoldable pub afterStepThreeResults : List ℕ
+afterStepThreeResults =
+    0x47 ∷ 0x52 ∷ 0 ∷ 1 ∷ 1 ∷ 1 ∷ 0 ∷ 1 ∷ 0 ∷ 0 ∷ 0 ∷ 0 ∷ 0 ∷ 0 ∷ 0 ∷ 40  -- 1 1 B B f A 0.0 0.0 0.0 4.0
+    ∷ 0x47 ∷ 0x52 ∷ 0 ∷ 2 ∷ 1 ∷ 1 ∷ 0 ∷ 1 ∷ 0 ∷ 0 ∷ 0 ∷ 0 ∷ 0 ∷ 0 ∷ 0 ∷ 40  -- 2 2 B B f A 0.0 0.0 0.0 4.0
+    ∷ 0x47 ∷ 0x52 ∷ 0 ∷ 3 ∷ 0 ∷ 0 ∷ 1 ∷ 3 ∷ 0 ∷ 0 ∷ 0 ∷ 0 ∷ 0 ∷ 0 ∷ 0 ∷ 0  -- 3 3 A A r B 0.0 0.0 0.0 0.0
+    ∷ 0x47 ∷ 0x52 ∷ 0 ∷ 4 ∷ 0 ∷ 0 ∷ 1 ∷ 3 ∷ 0 ∷ 0 ∷ 0 ∷ 0 ∷ 0 ∷ 0 ∷ 0 ∷ 0  -- 4 4 A A r B 0.0 0.0 0.0 0.0
+    ∷ 0x47 ∷ 0x52 ∷ 0 ∷ 5 ∷ 0 ∷ 0 ∷ 1 ∷ 3 ∷ 0 ∷ 0 ∷ 0 ∷ 0 ∷ 0 ∷ 0 ∷ 0 ∷ 0  -- 5 5 A A r B 0.0 0.0 0.0 0.0
+    ∷ 0x47 ∷ 0x52 ∷ 0 ∷ 6 ∷ 1 ∷ 1 ∷ 0 ∷ 1 ∷ 0 ∷ 0 ∷ 0 ∷ 0 ∷ 0 ∷ 10 ∷ 0 ∷ 40  -- 6 6 B B f A 0.0 0.0 1.0 4.0
+    ∷ 0x47 ∷ 0x52 ∷ 0 ∷ 7 ∷ 0 ∷ 0 ∷ 0 ∷ 0 ∷ 0 ∷ 0 ∷ 0 ∷ 0 ∷ 0 ∷ 10 ∷ 0 ∷ 40  -- 7 7 A A m A 0.0 0.0 1.0 4.0
+    ∷ []
+
+pub record StepThreeSheets : Type 0 where
+  pub failure-in-step-three : Graded failureInStepThree 4 131 failureInStepThreeResults
+  pub two-failures-in-step-three : Graded twoFailuresInStepThree 5 145 twoFailuresInStepThreeResults
+  pub above-tolerance : Graded aboveTolerance 6 159 aboveToleranceResults
+  pub cusum-above-zero : Graded cusumAboveZero 6 159 cusumAboveZeroResults
+  pub recovery : Graded recovery 6 159 recoveryResults
+  pub recovery-without-plan : Graded recoveryWithoutPlan 7 173 recoveryWithoutPlanResults
+  pub after-step-three : Graded afterStepThree 7 173 afterStepThreeResults
+
+-- ---- refusals, most of them where two rows of the table apply
+
+-- 1: all bytes of a plan but one.
+unfoldable pub planCutShort : List ℕ
+planCutShort = take 74 peachPlan
+
+-- 1 and 2: another first mark, and a designated grade above C.
+-- The peach plan, but mark 50 4D, designated S.
+unfoldable pub grounds1And2 : List ℕ
+grounds1And2 = set (set peachPlan 1 0x4D) 2 3
+
+-- 2 and 3: a designated grade above C, and an L of 10,000.
+-- The peach plan, but designated S, critical at A 0/0.5/1000.
+unfoldable pub grounds2And3 : List ℕ
+grounds2And3 = set (set (set peachPlan 2 3) 7 39) 8 16
+
+-- 3 and 4: an S above its L in the first class, and an L of 10,000 in the last. Rows go over the
+-- whole plan, one after the other, and not class by class.
+-- The peach plan, but critical at A 0.6/0.5/0.5, total at C 2/17/1000.
+unfoldable pub grounds3And4 : List ℕ
+grounds3And4 = set (set (set peachPlan 4 6) 73 39) 74 16
+
+-- 4 and 5: T smaller at B than at A in the first class, and an S above its L in the last.
+-- The peach plan, but critical at B 0/0.4/1.6, total at C 7.1/17/7.
+unfoldable pub grounds4And5 : List ℕ
+grounds4And5 = set (set (set peachPlan 30 4) 32 16) 70 71
+
+-- 5: T+L smaller at B than at A, with T equal.
+-- The peach plan, but critical at B 0/0.5/0.4.
+unfoldable pub ground5BySum : List ℕ
+ground5BySum = set (set peachPlan 30 5) 32 4
+
+-- 5: T smaller at C than at B, with T+L larger.
+-- The peach plan, but total at C 2/11.9/7.
+unfoldable pub ground5ByTolerance : List ℕ
+ground5ByTolerance = set peachPlan 72 119
+
+-- 6: one byte left, though it is the first of a mark; not 7.
+unfoldable pub oneByteLeft : List ℕ
+oneByteLeft =
+    peachPlan
+    ++ (0x53 ∷ 0x55 ∷ 0 ∷ 1 ∷ 0 ∷ 0 ∷ 0 ∷ 0 ∷ 0 ∷ 1 ∷ 0 ∷ 2 ∷ 0 ∷ 1  -- 1: 0,0,1,2;A;1
+    ∷ 0x53  -- one byte
+    ∷ [])
+
+-- 6: the plan stands first and only there.
+unfoldable pub secondPlan : List ℕ
+secondPlan =
+    peachPlan
+    ++ (0x53 ∷ 0x55 ∷ 0 ∷ 1 ∷ 0 ∷ 0 ∷ 0 ∷ 0 ∷ 0 ∷ 1 ∷ 0 ∷ 2 ∷ 0 ∷ 1  -- 1: 0,0,1,2;A;1
+    ∷ 0x50 ∷ 0x4C  -- the mark of a plan
+    ∷ [])
+
+-- 7: a redesignation cut short behind its mark; not 6.
+unfoldable pub markAlone : List ℕ
+markAlone =
+    peachPlan
+    ++ (0x53 ∷ 0x55 ∷ 0 ∷ 1 ∷ 0 ∷ 0 ∷ 0 ∷ 0 ∷ 0 ∷ 1 ∷ 0 ∷ 2 ∷ 0 ∷ 1  -- 1: 0,0,1,2;A;1
+    ∷ 0x52 ∷ 0x44  -- 2 bytes of redesignation to B
+    ∷ [])
+
+-- 7 and 8: a unit cut short by its last byte, with a count of 2,001.
+unfoldable pub grounds7And8 : List ℕ
+grounds7And8 =
+    peachPlan
+    ++ (0x53 ∷ 0x55 ∷ 0 ∷ 1 ∷ 0 ∷ 0 ∷ 0 ∷ 0 ∷ 0 ∷ 1 ∷ 0 ∷ 2 ∷ 0 ∷ 1  -- 1: 0,0,1,2;A;1
+    ∷ 0x53 ∷ 0x55 ∷ 0 ∷ 2 ∷ 7 ∷ 209 ∷ 0 ∷ 0 ∷ 0 ∷ 0 ∷ 0 ∷ 0 ∷ 0  -- 13 bytes of 2: 2001,0,0,0;A;1
+    ∷ [])
+
+-- 8 and 9: a count of 2,001 and a prerequisite of 4.
+unfoldable pub grounds8And9 : List ℕ
+grounds8And9 =
+    peachPlan
+    ++ (0x53 ∷ 0x55 ∷ 0 ∷ 1 ∷ 0 ∷ 0 ∷ 0 ∷ 0 ∷ 0 ∷ 1 ∷ 0 ∷ 2 ∷ 0 ∷ 1  -- 1: 0,0,1,2;A;1
+    ∷ 0x53 ∷ 0x55 ∷ 0 ∷ 2 ∷ 0 ∷ 0 ∷ 0 ∷ 0 ∷ 0 ∷ 0 ∷ 7 ∷ 209 ∷ 4 ∷ 1  -- 2: 0,0,0,2001;4;1
+    ∷ [])
+
+-- 9, then 8: each record is checked wholly before the next.
+unfoldable pub ground9Before8 : List ℕ
+ground9Before8 =
+    peachPlan
+    ++ (0x53 ∷ 0x55 ∷ 0 ∷ 1 ∷ 0 ∷ 0 ∷ 0 ∷ 0 ∷ 0 ∷ 1 ∷ 0 ∷ 2 ∷ 4 ∷ 1  -- 1: 0,0,1,2;4;1
+    ∷ 0x53 ∷ 0x55 ∷ 0 ∷ 2 ∷ 7 ∷ 209 ∷ 0 ∷ 0 ∷ 0 ∷ 0 ∷ 0 ∷ 0 ∷ 0 ∷ 1  -- 2: 2001,0,0,0;A;1
+    ∷ [])
+
+-- 9: recoverable is 0 or 1.
+unfoldable pub recoverableAbove1 : List ℕ
+recoverableAbove1 =
+    peachPlan
+    ++ (0x53 ∷ 0x55 ∷ 0 ∷ 1 ∷ 0 ∷ 0 ∷ 0 ∷ 0 ∷ 0 ∷ 1 ∷ 0 ∷ 2 ∷ 0 ∷ 1  -- 1: 0,0,1,2;A;1
+    ∷ 0x53 ∷ 0x55 ∷ 0 ∷ 2 ∷ 0 ∷ 0 ∷ 0 ∷ 0 ∷ 0 ∷ 1 ∷ 0 ∷ 2 ∷ 0 ∷ 2  -- 2: 0,0,1,2;A;2
+    ∷ [])
+
+-- 10: Substandard cannot be designated.
+unfoldable pub newGradeAboveC : List ℕ
+newGradeAboveC =
+    peachPlan
+    ++ (0x53 ∷ 0x55 ∷ 0 ∷ 1 ∷ 0 ∷ 0 ∷ 0 ∷ 0 ∷ 0 ∷ 1 ∷ 0 ∷ 2 ∷ 0 ∷ 1  -- 1: 0,0,1,2;A;1
+    ∷ 0x52 ∷ 0x44 ∷ 3  -- redesignation to S
+    ∷ [])
+
+-- 11, then 10: the first record met is returned.
+unfoldable pub ground11Before10 : List ℕ
+ground11Before10 =
+    peachPlan
+    ++ (0x52 ∷ 0x44 ∷ 0  -- redesignation to A
+    ∷ 0x52 ∷ 0x44 ∷ 3  -- redesignation to S
+    ∷ [])
+
+-- 11: to B is another grade than A of the plan, back to A another than B, and A again is not.
+unfoldable pub ground11ByLastRedesignation : List ℕ
+ground11ByLastRedesignation =
+    peachPlan
+    ++ (0x52 ∷ 0x44 ∷ 1  -- redesignation to B
+    ∷ 0x53 ∷ 0x55 ∷ 0 ∷ 1 ∷ 0 ∷ 0 ∷ 0 ∷ 0 ∷ 0 ∷ 1 ∷ 0 ∷ 2 ∷ 0 ∷ 1  -- 1: 0,0,1,2;A;1
+    ∷ 0x52 ∷ 0x44 ∷ 0  -- redesignation to A
+    ∷ 0x52 ∷ 0x44 ∷ 0  -- redesignation to A
+    ∷ [])
+
+-- 11: the grade designated is A, though B is in force. And 13 in a buffer without room: a refusal
+-- of the sheet comes first.
+unfoldable pub ground11InStepThree : List ℕ
+ground11InStepThree =
+    peachPlan
+    ++ (0x53 ∷ 0x55 ∷ 0 ∷ 1 ∷ 0 ∷ 0 ∷ 0 ∷ 0 ∷ 0 ∷ 0 ∷ 0 ∷ 12 ∷ 0 ∷ 1  -- 1: 0,0,0,12;A;1
+    ∷ 0x53 ∷ 0x55 ∷ 0 ∷ 2 ∷ 0 ∷ 0 ∷ 0 ∷ 0 ∷ 0 ∷ 0 ∷ 0 ∷ 12 ∷ 0 ∷ 1  -- 2: 0,0,0,12;A;1
+    ∷ 0x52 ∷ 0x44 ∷ 0  -- redesignation to A
+    ∷ [])
+
+-- 13: at the sheet's length, by the units and not by the records.
+unfoldable pub bufferWithoutRoom : List ℕ
+bufferWithoutRoom =
+    peachPlan
+    ++ (0x53 ∷ 0x55 ∷ 0 ∷ 1 ∷ 0 ∷ 0 ∷ 0 ∷ 0 ∷ 0 ∷ 1 ∷ 0 ∷ 2 ∷ 0 ∷ 1  -- 1: 0,0,1,2;A;1
+    ∷ 0x42 ∷ 0x4B  -- break
+    ∷ 0x53 ∷ 0x55 ∷ 0 ∷ 2 ∷ 0 ∷ 0 ∷ 0 ∷ 0 ∷ 0 ∷ 0 ∷ 0 ∷ 12 ∷ 0 ∷ 1  -- 2: 0,0,0,12;A;1
+    ∷ [])
+
+pub record RefusedSheets : Type 0 where
+  pub plan-cut-short : RefusedWith 1 planCutShort 0
+  pub grounds-1-and-2 : RefusedWith 1 grounds1And2 0
+  pub grounds-2-and-3 : RefusedWith 2 grounds2And3 0
+  pub grounds-3-and-4 : RefusedWith 3 grounds3And4 0
+  pub grounds-4-and-5 : RefusedWith 4 grounds4And5 0
+  pub ground-5-by-sum : RefusedWith 5 ground5BySum 0
+  pub ground-5-by-tolerance : RefusedWith 5 ground5ByTolerance 0
+  pub one-byte-left : RefusedWith 6 oneByteLeft 89
+  pub second-plan : RefusedWith 6 secondPlan 89
+  pub mark-alone : RefusedWith 7 markAlone 89
+  pub grounds-7-and-8 : RefusedWith 7 grounds7And8 89
+  pub grounds-8-and-9 : RefusedWith 8 grounds8And9 89
+  pub ground-9-before-8 : RefusedWith 9 ground9Before8 75
+  pub recoverable-above-1 : RefusedWith 9 recoverableAbove1 89
+  pub new-grade-above-c : RefusedWith 10 newGradeAboveC 89
+  pub ground-11-before-10 : RefusedWith 11 ground11Before10 75
+  pub ground-11-by-last-redesignation : RefusedWith 11 ground11ByLastRedesignation 95
+  pub ground-11-in-step-three : RefusedWith 11 ground11InStepThree 103
+  pub buffer-without-room : WithoutRoom 13 bufferWithoutRoom 2 105
+
+-- ---- refusals behind as many units as there may be
+
+-- 12: one unit too many. And 13 in a buffer without room.
+unfoldable pub ground12 : List ℕ
+ground12 =
+    peachPlan
+    ++ repeated 1000
+    (0x53 ∷ 0x55 ∷ 0 ∷ 1 ∷ 0 ∷ 0 ∷ 0 ∷ 0 ∷ 0 ∷ 1 ∷ 0 ∷ 2 ∷ 0 ∷ 1 ∷ [])  -- 1: 0,0,1,2;A;1
+    (0x53 ∷ 0x55 ∷ 0 ∷ 2 ∷ 0 ∷ 0 ∷ 0 ∷ 0 ∷ 0 ∷ 1 ∷ 0 ∷ 2 ∷ 0 ∷ 1 ∷ [])  -- 2: 0,0,1,2;A;1
+
+-- 12 and 8: the unit too many has a count of 2,001. 12 stands before 8.
+unfoldable pub grounds12And8 : List ℕ
+grounds12And8 =
+    peachPlan
+    ++ repeated 1000
+    (0x53 ∷ 0x55 ∷ 0 ∷ 1 ∷ 0 ∷ 0 ∷ 0 ∷ 0 ∷ 0 ∷ 1 ∷ 0 ∷ 2 ∷ 0 ∷ 1 ∷ [])  -- 1: 0,0,1,2;A;1
+    (0x53 ∷ 0x55 ∷ 0 ∷ 2 ∷ 7 ∷ 209 ∷ 0 ∷ 0 ∷ 0 ∷ 0 ∷ 0 ∷ 0 ∷ 0 ∷ 1 ∷ [])  -- 2: 2001,0,0,0;A;1
+
+-- 7 and 12: the unit too many is cut short by its last byte.
+unfoldable pub grounds7And12 : List ℕ
+grounds7And12 =
+    peachPlan
+    ++ repeated 1000
+    (0x53 ∷ 0x55 ∷ 0 ∷ 1 ∷ 0 ∷ 0 ∷ 0 ∷ 0 ∷ 0 ∷ 1 ∷ 0 ∷ 2 ∷ 0 ∷ 1 ∷ [])  -- 1: 0,0,1,2;A;1
+    (0x53 ∷ 0x55 ∷ 0 ∷ 2 ∷ 0 ∷ 0 ∷ 0 ∷ 0 ∷ 0 ∷ 1 ∷ 0 ∷ 2 ∷ 0 ∷ [])  -- 13 bytes of 2: 0,0,1,2;A;1
+
+pub record FullSheets : Type 0 where
+  pub ground-12 : RefusedWith 12 ground12 14075
+  pub grounds-12-and-8 : RefusedWith 12 grounds12And8 14075
+  pub grounds-7-and-12 : RefusedWith 7 grounds7And12 14075
+
+-- all of them
+pub record FurtherSheets : Type 0 where
+  pub breaks : BreakSheets
+  pub redesignations : RedesignationSheets
+  pub units : UnitSheets
+  pub step-three : StepThreeSheets
+  pub refusals : RefusedSheets
+  pub full : FullSheets

@@ -1,0 +1,8 @@
+-- A test of the definitions, and the statement that it stands for.
+use mathlib.Core.Path.{_≡_}
+use mathlib.Core.Bool.{Bool, true, false}
+
+-- a test is true exactly if a statement holds
+pub record Tells (test : Bool) (P : Type 0) : Type 0 where
+  pub so : test ≡ true → P
+  pub not-so : test ≡ false → P → ⊥

@@ -1,0 +1,37 @@
+-- Bounds of what one unit gets: a CuSum is at most its L, and a defect grade at most Substandard. By cases on the tests.
+use Prim.Native.Nat.{ℕ, _≤_}
+use mathlib.Core.Bool.{Bool, true, false, cond, _&&_}
+use mathlib.Core.List.{List}
+use native.Mathlib.Omega.{arith}
+use lib.Dec.{ltb}
+use Rattle.cusum.specs.declared.Cusum.{Cusum}
+use Rattle.cusum.specs.Step.{newCusum}
+use Rattle.cusum.proofs.Laws.{new-cusum-le-limit}
+use Rattle.units.specs.Words.{substandard, hasPlan, Table, rowOf, numbersOf, countIn, tenthsIn}
+use Rattle.units.specs.Unit.{classCusum, unitFails, admits, bestLower, defectGrade}
+
+-- a CuSum is at most its L
+pub class-cusum-le : (table : Table) (grade : ℕ) (cusums : List Cusum) (counts : List ℕ) (class : ℕ)
+    → classCusum table grade cusums counts class ≤ numbersOf table grade class .limit
+unfolding classCusum
+class-cusum-le table grade cusums counts class = go (hasPlan grade)
+  where
+    go : (b : Bool) → cond b (newCusum (numbersOf table grade class) (tenthsIn cusums class) (countIn counts class)) 0 ≤ numbersOf table grade class .limit
+    go true = new-cusum-le-limit (numbersOf table grade class) (tenthsIn cusums class) (countIn counts class)
+    go false = omega arith
+
+-- what bounds two numbers bounds either of them
+pub choice-le : (b : Bool) (x y n : ℕ) → x ≤ n → y ≤ n → cond b x y ≤ n
+choice-le true x y n h k = h
+choice-le false x y n h k = k
+
+best-lower-at-most : (table : Table) (grade : ℕ) (counts : List ℕ) → bestLower table grade counts ≤ substandard
+unfolding bestLower
+best-lower-at-most table grade counts =
+    choice-le (ltb grade 1 && admits (rowOf table 1) counts) 1 _ 3 (omega arith)
+    (choice-le (ltb grade 2 && admits (rowOf table 2) counts) 2 3 3 (omega arith) (omega arith))
+
+pub defect-grade-at-most : (table : Table) (grade : ℕ) (cusums : List Cusum) (counts : List ℕ) → grade ≤ substandard → defectGrade table grade cusums counts ≤ substandard
+unfolding defectGrade
+defect-grade-at-most table grade cusums counts h =
+    choice-le (unitFails table grade cusums counts) _ grade 3 (best-lower-at-most table grade counts) h

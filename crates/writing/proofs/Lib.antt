@@ -1,0 +1,4 @@
+pub mod Recovering
+pub mod Writing
+pub mod Passing
+pub mod Computing

@@ -1,0 +1,309 @@
+-- The writing of one unit: its grading and its result record are those of the sheet, there is room for the record, and what the
+-- buffer holds behind it. Where the writing stands, the walk's place and the state are those before the unit's record.
+use Prim.Native.Nat.{ℕ, suc, _+_, _*_, _-_, _≤_, _<_}
+use mathlib.Core.Path.{_≡_, refl, sym, _∙_, ap, ap₂, subst⁻¹}
+use mathlib.Core.Bool.{Bool, true, false, cond, _&&_}
+use mathlib.Core.List.{List}
+use native.Mathlib.Numerals.{add-one}
+use native.Mathlib.Omega.{arith}
+use lib.ListN.{length}
+use lib.Seq.{sets}
+use Rattle.cusum.specs.declared.PlanNumbers.{PlanNumbers}
+use Rattle.units.specs.Words.{hasPlan, substandard, Table, tableOf, rowOf, countsOf}
+use Rattle.units.specs.Unit.{newCusums, unitFails, bestLower, defectGrade, qualifies, steppedIn}
+use Rattle.units.specs.Records.{unitsOf, unitsAmong}
+use Rattle.units.specs.declared.SampleUnit.{SampleUnit}
+use Rattle.units.specs.declared.SteppedClasses.{SteppedClasses}
+use Rattle.units.specs.declared.Grading.{Grading}
+use Rattle.units.specs.declared.Entry.{Entry}
+use Rattle.units.specs.declared.Entry.the-variants.{UnitRecord, Redesignation, Break}
+use Rattle.units.proofs.Planned.{stepped-under}
+use Rattle.units.proofs.Records.{units-next}
+use Rattle.rules.specs.StepThree.{inStepThree, inForceIn, inForce, endsStepThree, graded, qualifiesWith, qualifiesIn, afterUnit, next, recordEndsStepThree}
+use Rattle.rules.specs.Sheet.{Sheet, before, designatedAt, gradedAt, stepThreeEndsAt}
+use Rattle.rules.specs.declared.Phase.{Phase}
+use Rattle.rules.specs.declared.Phase.the-variants.{Designated, StepThree}
+use Rattle.rules.specs.declared.State.{State}
+use Rattle.rules.proofs.FinishedRun.{InStepThree, FinishedRun, finished-run}
+use Rattle.layout.specs.Layout.{planOf, unitSize, sizeOf, markAt, sampleUnitAt, offset, mark, entryAt, unitsBefore}
+use Rattle.layout.specs.declared.Mark.{Mark}
+use Rattle.layout.specs.declared.Mark.the-variants.{UnitMark}
+use Rattle.layout.specs.declared.Place.{Place}
+use Rattle.layout.proofs.Walk.{at-is, units-are, whole-here}
+use Rattle.layout.proofs.Units.{entry-unit, unit-mark, next-offset, next-units, units-among}
+use Rattle.results.specs.Record.{resultSize, resultBytes}
+use Rattle.results.specs.declared.ResultRecord.{ResultRecord}
+use Rattle.codes.specs.Codes.{ungraded}
+use Rattle.writing.specs.Sheet.{sheetOf, resultWith, resultIf}
+use Rattle.writing.specs.Writing.{writtenAt, writtenSoFar, recoveredIn, ThreeHere, threeRecovered, Stands, UnitHere, OneMore}
+use Rattle.writing.proofs.Recovering.{unit-written, nothing-recovered, none-written, run-recovered}
+
+-- ---- the grading of a unit, as the code makes it
+
+-- under the designated plan
+pub graded-designated : (table : Table) (state : State) (unit : SampleUnit) (stepped : SteppedClasses) (grade : ℕ)
+    → state .phase ≡ Designated → hasPlan (state .designated) ≡ true
+    → stepped ≡ steppedIn (rowOf table (state .designated)) (state .cusums) (countsOf unit)
+    → grade ≡ cond (stepped .fails) (bestLower table (state .designated) (countsOf unit)) (state .designated)
+    → record { cusums = stepped .cusums; fails = stepped .fails; grade = grade } ≡ graded table state unit
+unfolding graded defectGrade inForceIn
+graded-designated table state unit stepped grade outside planned steps grades =
+    rw (outside, grades, steps, stepped-under table (state .designated) (state .cusums) (countsOf unit) planned)
+
+-- in step 3
+pub graded-lower : (table : Table) (state : State) (unit : SampleUnit) (stepped : SteppedClasses) (lower grade : ℕ) → lower ≡ inForce state
+    → stepped ≡ record { cusums = newCusums table lower (state .cusums) (countsOf unit); fails = unitFails table lower (state .cusums) (countsOf unit) }
+    → grade ≡ cond (stepped .fails) (bestLower table lower (countsOf unit)) lower
+    → record { cusums = stepped .cusums; fails = stepped .fails; grade = grade } ≡ graded table state unit
+unfolding graded defectGrade
+graded-lower table state unit stepped lower grade in-force steps grades = rw (grades, steps, in-force)
+
+-- ---- the state behind it
+
+-- outside step 3 no unit qualifies, in it one does by its CuSums and its counts
+outside-none : (table : Table) (state : State) (unit : SampleUnit) → state .phase ≡ Designated → false ≡ qualifiesIn table state unit
+unfolding qualifiesWith inStepThree
+outside-none table state unit outside =
+    sym (ap (λ (phase : Phase). inStepThree phase && qualifies table (state .designated) (graded table state unit .cusums) (countsOf unit)) outside)
+
+inside-test : (table : Table) (state : State) (unit : SampleUnit) (grading : Grading) → inStepThree (state .phase) ≡ true
+    → grading ≡ graded table state unit
+    → qualifies table (state .designated) (grading .cusums) (countsOf unit) ≡ qualifiesIn table state unit
+unfolding qualifiesWith
+inside-test table state unit grading inside grades =
+    ap (λ (g : Grading). qualifies table (state .designated) (g .cusums) (countsOf unit)) grades
+    ∙ sym (ap (λ (b : Bool). b && qualifies table (state .designated) (graded table state unit .cusums) (countsOf unit)) inside)
+
+next-by : (table : Table) (state : State) (unit : SampleUnit) (grading : Grading) (qualifying : Bool) (after : State) → grading ≡ graded table state unit
+    → qualifying ≡ qualifiesIn table state unit → after ≡ afterUnit table state grading qualifying → after ≡ next table state (UnitRecord unit)
+unfolding next
+next-by table state unit grading qualifying after grades tests is-after = is-after ∙ ap₂ (afterUnit table state) grades tests
+
+-- ---- at a unit
+
+module _ {bytes : List ℕ} {n : ℕ} {table : Table} {place : Place} {state : State} {unit : SampleUnit} {size : ℕ}
+    (here : UnitHere bytes n table place state unit size) where
+  abbrev sheet : Sheet
+  sheet = sheetOf bytes n
+
+  abbrev i : ℕ
+  i = place .index
+
+  has-mark : mark bytes i ≡ UnitMark
+  has-mark = unit-mark bytes i unit (here .is-unit)
+
+  unit-in-sheet : sheet .entry i ≡ UnitRecord unit
+  unfolding sheetOf
+  unit-in-sheet = here .is-unit
+
+  units-here : resultSize * place .units ≡ resultSize * unitsAmong (sheet .entry) i
+  unfolding sheetOf
+  units-here = ap (λ (units : ℕ). resultSize * units) (units-are bytes n place (here .stands .walk) ∙ units-among bytes i)
+
+  room-in-sheet : resultSize * unitsAmong (sheet .entry) (suc i) ≤ size
+  unfolding sheetOf
+  room-in-sheet = omega (arith, here .room, units-among bytes (suc i))
+
+  -- there is room for its record
+  pub room-for-record : resultSize * place .units + resultSize ≤ size
+  room-for-record = omega (arith, here .room, next-units bytes i has-mark, units-are bytes n place (here .stands .walk))
+
+  -- it is graded as the sheet has it, and so is what is recorded of it
+  result-is : (grading : Grading) → grading ≡ graded table state unit → resultWith state unit grading false ≡ resultIf sheet i unit false
+  unfolding sheetOf
+  result-is grading grades =
+      ap (λ (g : Grading). resultWith state unit g false) grades
+      ∙ ap₂ (λ (t : Table) (s : State). resultWith s unit (graded t s unit) false) (here .stands .same-table) (here .stands .same-state)
+
+  ends-is : stepThreeEndsAt sheet i ≡ endsStepThree (state .phase) (qualifiesIn table state unit)
+  unfolding stepThreeEndsAt recordEndsStepThree sheetOf
+  ends-is =
+      ap (recordEndsStepThree (sheet .table) (before sheet i)) unit-in-sheet
+      ∙ sym (ap₂ (λ (t : Table) (s : State). endsStepThree (s .phase) (qualifiesIn t s unit)) (here .stands .same-table) (here .stands .same-state))
+
+  module _ (grading : Grading) (grades : grading ≡ graded table state unit) (results behind : List ℕ) (same-size : length results ≡ size)
+      (stored : behind ≡ sets results (resultSize * place .units) (resultBytes ungraded (resultWith state unit grading false))) where
+    -- its record is added
+    record-added : (old : List ℕ) → results ≡ writtenSoFar sheet old i → length old ≡ length results → behind ≡ writtenAt sheet old i (suc i)
+    record-added old so-far same-length =
+        stored
+        ∙ ap₂ (λ (l : List ℕ) (at : ℕ). sets l at (resultBytes ungraded (resultWith state unit grading false))) so-far units-here
+        ∙ ap (λ (r : ResultRecord). sets (writtenSoFar sheet old i) (resultSize * unitsAmong (sheet .entry) i) (resultBytes ungraded r))
+        (result-is grading grades)
+        ∙ unit-written sheet old i unit unit-in-sheet (omega (arith, room-in-sheet))
+
+    -- where step 3 does not end at it, that is all
+    unit-added : stepThreeEndsAt sheet i ≡ false → OneMore sheet i results behind
+    unit-added stays old so-far same-length = record-added old so-far same-length ∙ nothing-recovered sheet old i stays
+
+    -- under the designated plan
+    pub designated-done : state .phase ≡ Designated → OneMore sheet i results behind
+    unfolding endsStepThree
+    designated-done outside = unit-added (ends-is ∙ ap (λ (phase : Phase). endsStepThree phase (qualifiesIn table state unit)) outside)
+
+    -- in step 3, where it does not end
+    pub step-three-goes-on : endsStepThree (state .phase) (qualifiesIn table state unit) ≡ false → OneMore sheet i results behind
+    step-three-goes-on going-on = unit-added (ends-is ∙ going-on)
+
+  -- ---- where step 3 ends at it, the two units right before it are those of the finished run
+
+  module _ (ends : endsStepThree (state .phase) (qualifiesIn table state unit) ≡ true) where
+    run : FinishedRun sheet i
+    run = finished-run sheet i (ends-is ∙ ends)
+
+    abbrev k : ℕ
+    k = run .start
+
+    mark-first : mark bytes k ≡ UnitMark
+    unfolding sheetOf
+    mark-first = unit-mark bytes k (run .first .unit) (run .first .is-unit)
+
+    mark-second : mark bytes (suc k) ≡ UnitMark
+    unfolding sheetOf
+    mark-second = unit-mark bytes (suc k) (run .second .unit) (run .second .is-unit)
+
+    at-second : place .at ≡ offset bytes (suc k) + unitSize
+    at-second = at-is bytes n place (here .stands .walk) ∙ ap (offset bytes) (run .ends-here) ∙ next-offset bytes (suc k) mark-second
+
+    at-first : place .at ≡ offset bytes k + unitSize + unitSize
+    at-first = at-second ∙ ap (λ (at : ℕ). at + unitSize) (next-offset bytes k mark-first)
+
+    units-second : place .units ≡ unitsBefore bytes (suc k) + 1
+    units-second = units-are bytes n place (here .stands .walk) ∙ ap (unitsBefore bytes) (run .ends-here) ∙ next-units bytes (suc k) mark-second
+
+    units-first : place .units ≡ unitsBefore bytes k + 1 + 1
+    units-first = units-second ∙ ap (λ (units : ℕ). units + 1) (next-units bytes k mark-first)
+
+    pub three-here : ThreeHere bytes place size
+    unfolding sizeOf
+    three-here =
+        let whole = whole-here bytes n place (here .stands .walk) (here .stands .before-end) in
+        let same : markAt bytes (place .at) ≡ UnitMark = ap (markAt bytes) (at-is bytes n place (here .stands .walk)) ∙ has-mark in
+        record {
+          two-before = omega (arith, at-first);
+          whole = omega (arith, whole, ap sizeOf same);
+          two-results = omega (arith, units-first);
+          room = room-for-record;
+        }
+
+    -- the three share the designated grade
+    same-designated : (state .designated ≡ designatedAt sheet k)
+        × (state .designated ≡ designatedAt sheet (suc k)) × (state .designated ≡ designatedAt sheet (suc (suc k)))
+    same-designated =
+        let third : state .designated ≡ designatedAt sheet (suc (suc k))
+        = ap (λ (s : State). s .designated) (here .stands .same-state) ∙ ap (λ (j : ℕ). designatedAt sheet j) (run .ends-here) in
+        let last = third ∙ run .third .in-step-three .same-designated in
+        (last ∙ sym (run .first .in-step-three .same-designated), last ∙ sym (run .second .in-step-three .same-designated), third)
+
+    -- a result record of the run, by the units before it
+    start-of : (j : ℕ) → resultSize * unitsBefore bytes j ≡ resultSize * unitsAmong (sheet .entry) j
+    unfolding sheetOf
+    start-of j = ap (λ (units : ℕ). resultSize * units) (units-among bytes j)
+
+    in-sheet : (j : ℕ) → mark bytes j ≡ UnitMark → sheet .entry j ≡ UnitRecord (sampleUnitAt bytes (offset bytes j))
+    unfolding sheetOf
+    in-sheet j is-unit = entry-unit bytes j is-unit
+
+    mark-third : mark bytes (suc (suc k)) ≡ UnitMark
+    mark-third = sym (ap (mark bytes) (run .ends-here)) ∙ has-mark
+
+    pub step-three-ends : (grading : Grading) → grading ≡ graded table state unit → (results added behind : List ℕ) → length results ≡ size
+        → added ≡ sets results (resultSize * place .units) (resultBytes ungraded (resultWith state unit grading false))
+        → behind ≡ threeRecovered bytes place (state .designated) added → OneMore sheet i results behind
+    unfolding threeRecovered
+    step-three-ends grading grades results added behind same-size stored recovers old so-far same-length =
+        let (first, second, third) = same-designated in
+        let start = resultSize * place .units in
+        let at-third : place .at ≡ offset bytes (suc (suc k)) = at-is bytes n place (here .stands .walk) ∙ ap (offset bytes) (run .ends-here) in
+        let one-before : place .at - unitSize ≡ offset bytes (suc k) = omega (arith, at-second) in
+        let two-before : place .at - 2 * unitSize ≡ offset bytes k = omega (arith, at-first) in
+        let start-third : start ≡ resultSize * unitsAmong (sheet .entry) (suc (suc k))
+        = units-here ∙ ap (λ (j : ℕ). resultSize * unitsAmong (sheet .entry) j) (run .ends-here) in
+        let start-second : start - resultSize ≡ resultSize * unitsAmong (sheet .entry) (suc k) = omega (arith, units-second, start-of (suc k)) in
+        let start-first : start - 2 * resultSize ≡ resultSize * unitsAmong (sheet .entry) k = omega (arith, units-first, start-of k) in
+        let written-here : added ≡ writtenAt sheet old (suc (suc k)) (suc (suc (suc k)))
+        = record-added grading grades results added same-size stored old so-far same-length
+        ∙ ap (λ (j : ℕ). writtenAt sheet old j (suc j)) (run .ends-here) in
+        recovers
+        ∙ recovered-at (recovered-at (recovered-at written-here start-first two-before) start-second one-before) start-third at-third
+        ∙ run-recovered sheet k (sym (ap (stepThreeEndsAt sheet) (run .ends-here)) ∙ ends-is ∙ ends) (state .designated)
+        (sampleUnitAt bytes (offset bytes k)) (sampleUnitAt bytes (offset bytes (suc k))) (sampleUnitAt bytes (offset bytes (suc (suc k))))
+        (in-sheet k mark-first) (in-sheet (suc k) mark-second) (in-sheet (suc (suc k)) mark-third) first second third old
+        ∙ ap (λ (j : ℕ). writtenSoFar sheet old (suc j)) (sym (run .ends-here))
+      where
+        recovered-at : {l l' : List ℕ} {start start' at at' : ℕ} → l ≡ l' → start ≡ start' → at ≡ at'
+            → recoveredIn l start (state .designated) (sampleUnitAt bytes at) ≡ recoveredIn l' start' (state .designated) (sampleUnitAt bytes at')
+        recovered-at same-list same-start same-offset = rw (same-list, same-start, same-offset)
+
+-- ---- a unit written, as the code does it: the state behind it, and the buffer
+
+-- a grading by the step in every class
+abbrev pub gradingBy : SteppedClasses → Bool → ℕ → Grading
+gradingBy stepped failed grade = record { cusums = stepped .cusums; fails = failed; grade = grade }
+
+-- under the designated plan, whether it fails or meets
+pub unit-under-designated : {bytes : List ℕ} {n : ℕ} {table : Table} {place : Place} {state : State} {unit : SampleUnit} (results : List ℕ)
+    → UnitHere bytes n table place state unit (length results) → state .phase ≡ Designated
+    → {row : List PlanNumbers} → row ≡ rowOf table (state .designated)
+    → {stepped : SteppedClasses} → stepped ≡ steppedIn row (state .cusums) (countsOf unit)
+    → {failed : Bool} → stepped .fails ≡ failed
+    → {grade : ℕ} → grade ≡ cond failed (bestLower table (state .designated) (countsOf unit)) (state .designated)
+    → {result : ResultRecord} → result ≡ resultWith state unit (gradingBy stepped failed grade) false
+    → {behind : List ℕ} → behind ≡ sets results (resultSize * place .units) (resultBytes ungraded result)
+    → {after : State} → after ≡ afterUnit table state (gradingBy stepped failed grade) false
+    → (after ≡ next table state (UnitRecord unit)) × OneMore (sheetOf bytes n) (place .index) results behind
+unit-under-designated {bytes} {n} {table} {place} {state} {unit} results here outside {row} is-row {stepped} steps {failed} is-failed {grade} is-grade
+    {result} is-result {behind} stored {after} is-after =
+    let grading : Grading = gradingBy stepped failed grade in
+    let grades : grading ≡ graded table state unit =
+    ap (λ (f : Bool). gradingBy stepped f grade) (sym is-failed)
+    ∙ graded-designated table state unit stepped grade outside (here .stands .planned)
+    (steps ∙ ap (λ (r : List PlanNumbers). steppedIn r (state .cusums) (countsOf unit)) is-row)
+    (is-grade ∙ ap (λ (f : Bool). cond f (bestLower table (state .designated) (countsOf unit)) (state .designated)) (sym is-failed)) in
+    let same-result = ap (λ (r : ResultRecord). sets results (resultSize * place .units) (resultBytes ungraded r)) is-result in (
+      next-by table state unit grading false after grades (outside-none table state unit outside) is-after,
+      designated-done here grading grades results behind refl (stored ∙ same-result) outside,
+    )
+
+-- in step 3: its grading and whether it qualifies are those of the state
+module _ {bytes : List ℕ} {n : ℕ} {table : Table} {place : Place} {state : State} {unit : SampleUnit} (results : List ℕ)
+    (here : UnitHere bytes n table place state unit (length results)) (inside : inStepThree (state .phase) ≡ true)
+    {lower : ℕ} (is-lower : lower ≡ inForce state) {stepped : SteppedClasses}
+    (steps : stepped ≡
+    record { cusums = newCusums table lower (state .cusums) (countsOf unit); fails = unitFails table lower (state .cusums) (countsOf unit) })
+    {grade : ℕ} (is-grade : grade ≡ cond (stepped .fails) (bestLower table lower (countsOf unit)) lower)
+    {qualifying : Bool} (tests : qualifying ≡ qualifies table (state .designated) (stepped .cusums) (countsOf unit)) where
+  abbrev grading : Grading
+  grading = gradingBy stepped (stepped .fails) grade
+
+  grades : grading ≡ graded table state unit
+  grades = graded-lower table state unit stepped lower grade is-lower steps is-grade
+
+  qualifies-is : qualifying ≡ qualifiesIn table state unit
+  qualifies-is = tests ∙ inside-test table state unit grading inside grades
+
+  pub state-behind : {after : State} → after ≡ afterUnit table state (gradingBy stepped (stepped .fails) grade) qualifying
+      → after ≡ next table state (UnitRecord unit)
+  state-behind {after} is-after = next-by table state unit grading qualifying after grades qualifies-is is-after
+
+  ends-as-tested : {test : Bool} → test ≡ endsStepThree (state .phase) qualifying → endsStepThree (state .phase) (qualifiesIn table state unit) ≡ test
+  ends-as-tested is-test = sym (is-test ∙ ap (endsStepThree (state .phase)) qualifies-is)
+
+  -- in a buffer of the same size
+  pub three-to-recover : {test : Bool} → test ≡ endsStepThree (state .phase) qualifying → test ≡ true → (size : ℕ) → size ≡ length results
+      → ThreeHere bytes place size
+  three-to-recover is-test ends size same-size =
+      subst⁻¹ (ThreeHere bytes place) same-size (three-here here (ends-as-tested is-test ∙ ends))
+
+  module _ {result : ResultRecord} (is-result : result ≡ resultWith state unit (gradingBy stepped (stepped .fails) grade) false) {added : List ℕ}
+      (stored : added ≡ sets results (resultSize * place .units) (resultBytes ungraded result))
+      {test : Bool} (is-test : test ≡ endsStepThree (state .phase) qualifying) where
+    stored-as : added ≡ sets results (resultSize * place .units) (resultBytes ungraded (resultWith state unit grading false))
+    stored-as = stored ∙ ap (λ (r : ResultRecord). sets results (resultSize * place .units) (resultBytes ungraded r)) is-result
+
+    pub written-going-on : test ≡ false → OneMore (sheetOf bytes n) (place .index) results added
+    written-going-on going-on = step-three-goes-on here grading grades results added refl stored-as (ends-as-tested is-test ∙ going-on)
+
+    pub written-at-end : test ≡ true → {behind : List ℕ} → behind ≡ threeRecovered bytes place (state .designated) added
+        → OneMore (sheetOf bytes n) (place .index) results behind
+    written-at-end ends {behind} recovers = step-three-ends here (ends-as-tested is-test ∙ ends) grading grades results added behind refl stored-as recovers

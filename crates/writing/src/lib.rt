@@ -1,0 +1,282 @@
+// Writing the result records of a sheet, no code graded yet.
+ghost use mathlib.Core.Path.{_≡_};
+ghost use mathlib.Core.Bool.{true, false, cond};
+ghost use Prim.Native.Nat.{suc, _+_, _*_, _≤_};
+ghost use mathlib.Core.List.{_++_};
+ghost use lib.ListN.{length, drop};
+ghost use lib.Seq.{sets};
+ghost use Rattle.rules.specs.StepThree.{next, inStepThree};
+ghost use Rattle.units.specs.declared.Entry.the-variants.{UnitRecord};
+ghost use Rattle.rules.specs.declared.Phase.the-variants.{Designated};
+ghost use Rattle.units.specs.Words.{countsOf};
+ghost use Rattle.units.specs.Unit.{bestLower};
+ghost use Rattle.layout.specs.Layout.{entryAt, unitsBefore};
+ghost use Rattle.results.specs.Record.{resultSize, resultBytes};
+ghost use Rattle.results.specs.Written.{written};
+ghost use Rattle.codes.specs.Codes.{ungraded};
+ghost use Rattle.writing.specs.Sheet.{sheetOf, resultWith, resultOf};
+ghost use Rattle.writing.specs.Writing.{recoveredIn, ThreeHere, threeRecovered, UnitHere, RecordHere, positionAt, OneMore};
+ghost use Rattle.writing.specs.Writable.{Writable};
+use codes::UNGRADED;
+use layout::Mark;
+use layout::Place;
+use layout::UNIT_SIZE;
+use layout::entry_at;
+use layout::mark_at;
+use layout::sample_unit_at;
+use results::PORTION_GRADE_OFFSET;
+use results::RESULT_SIZE;
+use results::ResultRecord;
+use results::STANDING_OFFSET;
+use rules::Phase;
+use rules::RECOVERED;
+use rules::State;
+use units::Entry;
+use units::Grading;
+use units::SampleUnit;
+use units::Table;
+use units::best_lower;
+use units::qualifies_with;
+use units::row_of;
+use units::step_classes;
+use units::step_in_force;
+use units::worse_of;
+
+// Where the writing stands: before a record, with the state of the grading there.
+struct Position {
+    place: Place,
+    state: State,
+}
+
+// What is recorded of a unit that is not recovered, but for its code grade.
+fn result_of(state: State, unit: SampleUnit, grading: Grading) -> ResultRecord
+    ensures { λ r. ⌜ r ≡ resultWith state unit grading false ⌝ }
+{
+    let phase = state.phase;
+    let cusums = grading.cusums;
+    ResultRecord {
+        code: unit.code,
+        portion: worse_of(grading.grade, unit.prerequisite),
+        plan: state.in_force(),
+        standing: phase.standing(grading.fails, false),
+        cusums: cusums,
+    }
+}
+
+// Recovers the portion of a unit, if it is marked recoverable, in its result record.
+fn recover(unit: SampleUnit, designated: u8, results: &mut [u8], start: usize)
+    requires { ⌜ start + resultSize ≤ length (now results) ⌝ }
+    ensures { λ _. ⌜ now (results .exit) ≡ recoveredIn (now (results .entry)) start designated unit ⌝ }
+{
+    if unit.recoverable {
+        results[start + PORTION_GRADE_OFFSET] = worse_of(designated, unit.prerequisite);
+        results[start + STANDING_OFFSET] = RECOVERED;
+    }
+}
+
+// Recovers the unit at a place, at which step 3 ends, and the two right before it.
+fn recover_three(bytes: &[u8], place: Place, designated: u8, results: &mut [u8])
+    requires { ⌜ ThreeHere (now bytes) place (length (now results)) ⌝ }
+    ensures { λ _. ⌜ now (results .exit) ≡ threeRecovered (now (bytes .entry)) place designated (now (results .entry)) ⌝ }
+{
+    let at = place.at;
+    let start = RESULT_SIZE * place.units;
+    let first = sample_unit_at(bytes, at - 2 * UNIT_SIZE);
+    let second = sample_unit_at(bytes, at - UNIT_SIZE);
+    let third = sample_unit_at(bytes, at);
+    recover(first, designated, results, start - 2 * RESULT_SIZE);
+    recover(second, designated, results, start - RESULT_SIZE);
+    recover(third, designated, results, start);
+}
+
+// Writes a result record into the rest of the buffer, from its start.
+fn write_at(results: &mut [u8], at: usize, result: ResultRecord)
+    requires { ⌜ at + resultSize ≤ length (now results) ⌝ }
+    ensures { λ _. ⌜ now (results .exit) ≡ sets (now (results .entry)) at (resultBytes ungraded result) ⌝ }
+{
+    results::write(&mut results[at..], result, UNGRADED);
+}
+
+// The defect grade of a unit under the plan of a grade, by whether it fails.
+fn defect_grade(table: Table, grade: u8, fails: bool, unit: SampleUnit) -> u8
+    ensures { λ r. ⌜ r ≡ cond fails (bestLower table grade (countsOf unit)) grade ⌝ }
+{
+    if fails {
+        return best_lower(table, grade, unit);
+    }
+    grade
+}
+
+// Writes what is recorded of a unit under the designated plan: the state after it. A unit that meets is written apart from one that
+// fails: this is faster than one write for both.
+fn write_designated(
+    bytes: &[u8],
+    records: usize,
+    table: Table,
+    place: Place,
+    state: State,
+    unit: SampleUnit,
+    results: &mut [u8],
+) -> State
+    requires { ⌜ UnitHere (now bytes) records table place state unit (length (now results)) × (state .phase ≡ Designated) ⌝ }
+    ensures state { λ r. ⌜ r ≡ next table state (UnitRecord unit) ⌝ }
+    ensures buffer { λ r. ⌜ OneMore (sheetOf (now (bytes .entry)) records) (place .index) (now (results .entry)) (now (results .exit)) ⌝ }
+{
+    let before = state.cusums;
+    let stepped = step_classes(row_of(table, state.designated), before, unit);
+    let new = stepped.cusums;
+    let start = RESULT_SIZE * place.units;
+    if stepped.fails {
+        let failed = Grading {
+            cusums: new,
+            fails: true,
+            grade: best_lower(table, state.designated, unit),
+        };
+        write_at(results, start, result_of(state, unit, failed));
+        return state.after_unit(table, failed, false);
+    }
+    let met = Grading {
+        cusums: new,
+        fails: false,
+        grade: state.designated,
+    };
+    write_at(results, start, result_of(state, unit, met));
+    state.after_unit(table, met, false)
+}
+
+// The same for a unit in step 3; where step 3 ends, it and the two before it are recovered.
+fn write_step_three(
+    bytes: &[u8],
+    records: usize,
+    table: Table,
+    place: Place,
+    state: State,
+    unit: SampleUnit,
+    results: &mut [u8],
+) -> State
+    requires { ⌜ UnitHere (now bytes) records table place state unit (length (now results)) × (inStepThree (state .phase) ≡ true) ⌝ }
+    ensures state { λ r. ⌜ r ≡ next table state (UnitRecord unit) ⌝ }
+    ensures buffer { λ r. ⌜ OneMore (sheetOf (now (bytes .entry)) records) (place .index) (now (results .entry)) (now (results .exit)) ⌝ }
+{
+    let start = RESULT_SIZE * place.units;
+    let phase = state.phase;
+    let before = state.cusums;
+    let lower = state.in_force();
+    let stepped = step_in_force(table, lower, before, unit);
+    let new = stepped.cusums;
+    let grading = Grading {
+        cusums: new,
+        fails: stepped.fails,
+        grade: defect_grade(table, lower, stepped.fails, unit),
+    };
+    let qualifies = qualifies_with(table, state.designated, new, unit);
+    let after = state.after_unit(table, grading, qualifies);
+    write_at(results, start, result_of(state, unit, grading));
+    if phase.ends_step_three(qualifies) {
+        recover_three(bytes, place, state.designated, results);
+    }
+    after
+}
+
+// Writes what the record at a place under the designated plan writes, and goes past it.
+fn under_designated(
+    bytes: &[u8],
+    records: usize,
+    table: Table,
+    place: Place,
+    state: State,
+    results: &mut [u8],
+) -> Position
+    requires { ⌜ RecordHere (now bytes) records table place state (length (now results)) × (state .phase ≡ Designated) ⌝ }
+    ensures position { λ r. ⌜ r ≡ positionAt (now (bytes .entry)) records (suc (place .index)) ⌝ }
+    ensures buffer { λ r. ⌜ OneMore (sheetOf (now (bytes .entry)) records) (place .index) (now (results .entry)) (now (results .exit)) ⌝ }
+{
+    match entry_at(bytes, place.at, mark_at(bytes, place.at)) {
+        Entry::UnitRecord(unit) => {
+            let after = write_designated(bytes, records, table, place, state, unit, results);
+            Position {
+                place: place.past(Mark::UnitMark),
+                state: after,
+            }
+        }
+        Entry::Redesignation(new) => Position {
+            place: place.past(Mark::RedesignationMark),
+            state: state.after_redesignation(table, new),
+        },
+        Entry::Break => Position {
+            place: place.past(Mark::BreakMark),
+            state: state.after_break(table),
+        },
+    }
+}
+
+// The same in step 3. Each phase has a path of its own: this is faster than to ask for it at each unit.
+fn under_lower(
+    bytes: &[u8],
+    records: usize,
+    table: Table,
+    place: Place,
+    state: State,
+    results: &mut [u8],
+) -> Position
+    requires { ⌜ RecordHere (now bytes) records table place state (length (now results)) × (inStepThree (state .phase) ≡ true) ⌝ }
+    ensures position { λ r. ⌜ r ≡ positionAt (now (bytes .entry)) records (suc (place .index)) ⌝ }
+    ensures buffer { λ r. ⌜ OneMore (sheetOf (now (bytes .entry)) records) (place .index) (now (results .entry)) (now (results .exit)) ⌝ }
+{
+    match entry_at(bytes, place.at, mark_at(bytes, place.at)) {
+        Entry::UnitRecord(unit) => {
+            let after = write_step_three(bytes, records, table, place, state, unit, results);
+            Position {
+                place: place.past(Mark::UnitMark),
+                state: after,
+            }
+        }
+        Entry::Redesignation(new) => Position {
+            place: place.past(Mark::RedesignationMark),
+            state: state.after_redesignation(table, new),
+        },
+        Entry::Break => Position {
+            place: place.past(Mark::BreakMark),
+            state: state.after_break(table),
+        },
+    }
+}
+
+// Writes what the record at a position writes, and goes past it.
+fn write_here(
+    bytes: &[u8],
+    records: usize,
+    table: Table,
+    position: Position,
+    results: &mut [u8],
+) -> Position
+    requires { ⌜ RecordHere (now bytes) records table (position .place) (position .state) (length (now results)) ⌝ }
+    ensures position { λ r. ⌜ r ≡ positionAt (now (bytes .entry)) records (suc (position .place .index)) ⌝ }
+    ensures buffer { λ r. ⌜ OneMore (sheetOf (now (bytes .entry)) records) (position .place .index) (now (results .entry)) (now (results .exit)) ⌝ }
+{
+    let place = position.place;
+    let state = position.state;
+    let phase = state.phase;
+    match phase {
+        Phase::Designated => under_designated(bytes, records, table, place, state, results),
+        Phase::StepThree { lower: _, run: _ } => {
+            under_lower(bytes, records, table, place, state, results)
+        }
+    }
+}
+
+// Writes the result records of a sheet, one after the other from the buffer's start, no code graded yet.
+pub fn write_records(bytes: &[u8], records: usize, table: Table, designated: u8, results: &mut [u8])
+    requires { ⌜ Writable (now bytes) records table designated (length (now results)) ⌝ }
+    ensures { λ _. ⌜ now (results .exit) ≡ written (resultOf (sheetOf (now (bytes .entry)) records)) (λ code. ungraded) (entryAt (now (bytes .entry))) records ++ drop (resultSize * unitsBefore (now (bytes .entry)) records) (now (results .entry)) ⌝ }
+{
+    let mut position = Position {
+        place: Place::first(),
+        state: State::opening(table, designated),
+    };
+    let mut done: usize = 0;
+    while done < records {
+        position = write_here(bytes, records, table, position, results);
+        done += 1;
+    }
+}

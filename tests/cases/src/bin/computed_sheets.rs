@@ -1,0 +1,934 @@
+//! Prints `crates/demands/specs/FurtherSheets.antt`: whole sheets in bytes, with the answers and the
+//! result bytes that the independent grader gives for them, to be proved of the definitions by
+//! computation. Sizes and bytes are the grader's. What stands with each sheet by hand, from paper 01,
+//! holds the grader to what the sheet is to show: letters for an accepted one, else the number.
+
+use grader::peach::peach;
+use grader::sheet::{Numbers, Record, Sheet, Unit, MOST_UNITS};
+
+/// Grades and classes by their places.
+const GRADES: [&str; 4] = ["A", "B", "C", "S"];
+const CLASSES: [&str; 5] = ["critical", "severe", "major", "total", "other"];
+const CRITICAL: usize = 0;
+const SEVERE: usize = 1;
+const MAJOR: usize = 2;
+const TOTAL: usize = 3;
+const A: u8 = 0;
+const B: u8 = 1;
+const C: u8 = 2;
+const SUBSTANDARD: u8 = 3;
+
+/// Some bytes behind the plan, a record or what is left of one, and what to say of them.
+struct Part {
+    bytes: Vec<u8>,
+    comment: String,
+}
+
+/// What is known of the answer by hand.
+enum Expected {
+    /// Accepted. For each unit portion grade, code grade, standing and plan grade, as printed.
+    Letters(&'static str),
+    /// Refused, whatever the buffer.
+    Number(u32),
+    /// Refused in a buffer without room for the result records.
+    WithoutRoom(u32),
+}
+
+struct Case {
+    name: &'static str,
+    /// The comment at the sheet.
+    shows: &'static str,
+    plan: Vec<u8>,
+    parts: Vec<Part>,
+    /// The first part stands there as often as there may be units, instead of once.
+    full: bool,
+    expected: Expected,
+}
+
+impl Case {
+    fn bytes(&self) -> Vec<u8> {
+        let mut bytes = self.plan.clone();
+        for (place, part) in self.parts.iter().enumerate() {
+            let times = if self.full && place == 0 { MOST_UNITS } else { 1 };
+            bytes.extend(part.bytes.repeat(times));
+        }
+        bytes
+    }
+
+    /// "a break in a run" as `breakInRun`, and as `break-in-run`.
+    fn words(&self) -> impl Iterator<Item = &str> {
+        self.name.split(' ').filter(|word| !["a", "the"].contains(word))
+    }
+
+    fn definition(&self) -> String {
+        let capital = |word: &str| word[..1].to_uppercase() + &word[1..];
+        let name = self.words().map(capital).collect::<String>();
+        name[..1].to_lowercase() + &name[1..]
+    }
+
+    fn field(&self) -> String {
+        self.words().map(str::to_lowercase).collect::<Vec<_>>().join("-")
+    }
+}
+
+// ---- plans and records
+
+/// The peach plan.
+fn plan() -> Vec<u8> {
+    peach(Vec::new()).bytes()
+}
+
+fn designated(grade: u8) -> Vec<u8> {
+    Sheet { designated: grade, ..peach(Vec::new()) }.bytes()
+}
+
+/// The peach plan with other S, T, L (tenths) in some classes of some grades.
+fn plan_with(cells: &[(u8, usize, [i64; 3])]) -> Vec<u8> {
+    let mut sheet = peach(Vec::new());
+    for &(grade, class, [s, t, l]) in cells {
+        sheet.table[usize::from(grade)][class] = Numbers { s, t, l };
+    }
+    sheet.bytes()
+}
+
+/// A record that need not be well formed. `counts` are critical, severe, major, minor; further kinds
+/// have none.
+fn unit_as(code: u16, counts: [i64; 4], prerequisite: u8, recoverable: bool) -> Record {
+    let mut unit = Unit { code, counts: Default::default(), prerequisite, recoverable };
+    unit.counts[..4].copy_from_slice(&counts);
+    Record::Unit(unit)
+}
+
+/// A recoverable unit with prerequisite A.
+fn unit(code: u16, counts: [i64; 4]) -> Record {
+    unit_as(code, counts, A, true)
+}
+
+/// Fails A and grades B, from any CuSums, in total alone.
+fn fails(code: u16) -> Record {
+    unit(code, [0, 0, 0, 12])
+}
+
+/// Fails A and grades C.
+fn fails_to_c(code: u16) -> Record {
+    unit(code, [0, 0, 0, 18])
+}
+
+/// Fails A and grades Substandard, in critical alone.
+fn fails_to_s(code: u16) -> Record {
+    unit(code, [5, 0, 0, 0])
+}
+
+/// Within every designated T; from S it makes each CuSum of every plan zero.
+fn clean(code: u16) -> Record {
+    unit(code, [0, 0, 1, 2])
+}
+
+fn to(grade: u8) -> Record {
+    Record::Redesignation(grade)
+}
+
+const BREAK: Record = Record::Break;
+
+fn part(record: &Record) -> Part {
+    let grade = |grade: u8| {
+        GRADES.get(usize::from(grade)).map_or(grade.to_string(), |letter| letter.to_string())
+    };
+    let comment = match *record {
+        Record::Unit(Unit { code, counts, prerequisite, recoverable }) => {
+            let counts = counts.map(|count| count.to_string()).join(",");
+            format!("{code}: {counts};{};{}", grade(prerequisite), u8::from(recoverable))
+        }
+        Record::Redesignation(new) => format!("redesignation to {}", grade(new)),
+        Record::Break => "break".to_string(),
+    };
+    Part { bytes: record.bytes(), comment }
+}
+
+/// All bytes of a record but the last.
+fn cut_by_one(record: &Record) -> Part {
+    cut(record, record.bytes().len() - 1)
+}
+
+/// The first bytes of a record.
+fn cut(record: &Record, length: usize) -> Part {
+    let Part { mut bytes, comment } = part(record);
+    bytes.truncate(length);
+    Part { bytes, comment: format!("{length} bytes of {comment}") }
+}
+
+fn raw(bytes: &[u8], comment: &str) -> Part {
+    Part { bytes: bytes.to_vec(), comment: comment.to_string() }
+}
+
+/// A unit with another last byte, recoverable, and the end of what is said of it.
+fn recoverable(record: &Record, byte: u8) -> Part {
+    let Part { mut bytes, mut comment } = part(record);
+    bytes.pop();
+    bytes.push(byte);
+    comment.pop();
+    Part { bytes, comment: format!("{comment}{byte}") }
+}
+
+fn accepted(
+    name: &'static str,
+    shows: &'static str,
+    plan: Vec<u8>,
+    records: &[Record],
+    letters: &'static str,
+) -> Case {
+    let parts = records.iter().map(part).collect();
+    Case { name, shows, plan, parts, full: false, expected: Expected::Letters(letters) }
+}
+
+fn refused(
+    number: u32,
+    name: &'static str,
+    shows: &'static str,
+    plan: Vec<u8>,
+    parts: Vec<Part>,
+) -> Case {
+    Case { name, shows, plan, parts, full: false, expected: Expected::Number(number) }
+}
+
+/// A sheet of as many units as there may be, and one part more.
+fn refused_full(number: u32, name: &'static str, shows: &'static str, last: Part) -> Case {
+    let parts = vec![part(&clean(1)), last];
+    Case { full: true, ..refused(number, name, shows, plan(), parts) }
+}
+
+// ---- the sheets
+
+struct Group {
+    /// The name of its record type, and of the field of the whole.
+    name: &'static str,
+    field: &'static str,
+    title: &'static str,
+    cases: Vec<Case>,
+}
+
+fn groups() -> Vec<Group> {
+    vec![
+        Group { name: "BreakSheets", field: "breaks", title: "breaks", cases: breaks() },
+        Group {
+            name: "RedesignationSheets",
+            field: "redesignations",
+            title: "redesignations",
+            cases: redesignations(),
+        },
+        Group {
+            name: "UnitSheets",
+            field: "units",
+            title: "defect grades, portion grades, code grades; what begins step 3",
+            cases: units(),
+        },
+        Group {
+            name: "StepThreeSheets",
+            field: "step-three",
+            title: "units in step 3, its end and recovery",
+            cases: step_three(),
+        },
+        Group {
+            name: "RefusedSheets",
+            field: "refusals",
+            title: "refusals, most of them where two rows of the table apply",
+            cases: refusals(),
+        },
+        Group {
+            name: "FullSheets",
+            field: "full",
+            title: "refusals behind as many units as there may be",
+            cases: full(),
+        },
+    ]
+}
+
+fn breaks() -> Vec<Case> {
+    vec![
+        accepted(
+            "a break between units",
+            "A break sets the CuSums to S: with those of unit 1 the second would fail, from zero they\n\
+             would be lower. Unit 3 goes on from unit 2.",
+            plan(),
+            &[unit(1, [0, 1, 4, 4]), BREAK, unit(2, [0, 1, 4, 4]), unit(3, [0, 0, 3, 3])],
+            "AAmA AAmA AAmA",
+        ),
+        accepted(
+            "a break between failures",
+            "A break forgets the failure just before: no step 3, else unit 3 would be under B.",
+            plan(),
+            &[fails(1), BREAK, fails(2), unit(3, [0, 0, 3, 3])],
+            "BBfA BBfA AAmA",
+        ),
+        accepted(
+            "a break in step three",
+            "A break in step 3 sets the CuSums to the S of the lower plan, not to that of the designated\n\
+             one, and does not end step 3. With CuSums kept, unit 4 would fail.",
+            plan(),
+            &[fails(1), fails(2), unit(3, [0, 4, 6, 4]), BREAK, unit(4, [0, 4, 6, 4])],
+            "BBfA BBfA BBuB BBuB",
+        ),
+        accepted(
+            "a break in a run",
+            "A break sets the run of qualifying units to none: else units 3 to 5 would be recovered and unit\n\
+             6 be under A.",
+            plan(),
+            &[fails(1), fails(2), clean(3), clean(4), BREAK, clean(5), clean(6)],
+            "BBfA BBfA BBuB BBuB BBuB BBuB",
+        ),
+        accepted(
+            "no unit",
+            "The plan alone: accepted, and every buffer is kept as it is.",
+            plan(),
+            &[],
+            "",
+        ),
+        accepted(
+            "no unit but records",
+            "Breaks and redesignations are no units and have no result records.",
+            plan(),
+            &[BREAK, to(B), BREAK, to(A)],
+            "",
+        ),
+    ]
+}
+
+fn redesignations() -> Vec<Case> {
+    vec![
+        accepted(
+            "a redesignation outside step three",
+            "It starts the new plan at S, not at the CuSums of A, and forgets the failure just before: no\n\
+             step 3, else unit 3 would be under C.",
+            plan(),
+            &[unit(1, [0, 1, 4, 9]), to(B), unit(2, [0, 3, 6, 9]), unit(3, [0, 3, 5, 3])],
+            "BBfA CCfB BBmB",
+        ),
+        accepted(
+            "a redesignation in step three",
+            "Step 3 is at C, the worse of the two defect grades, not the second's. B is better than C, so\n\
+             step 3 goes on at C with its CuSums: a restart would give unit 4 lower ones.",
+            plan(),
+            &[fails_to_c(1), fails(2), unit(3, [0, 6, 7, 5]), to(B), unit(4, [0, 5, 6, 6])],
+            "CCfA BBfA CCuC CCuC",
+        ),
+        accepted(
+            "a redesignation in a run",
+            "It sets the run to none: else units 3 to 5 would be recovered. Units 5 to 7 are above the T of\n\
+             A and within that of B, the grade now designated, which they get.",
+            plan(),
+            &[
+                fails(1),
+                fails_to_c(2),
+                clean(3),
+                clean(4),
+                to(B),
+                unit(5, [0, 2, 4, 2]),
+                unit(6, [0, 2, 4, 2]),
+                unit(7, [0, 2, 4, 2]),
+            ],
+            "BBfA CCfA CCuC CCuC BBrC BBrC BBrC",
+        ),
+        accepted(
+            "a redesignation to the lower grade",
+            "A new grade equal to the lower one ends step 3 and starts at S: unit 4 meets the designated\n\
+             plan; with CuSums kept it would fail.",
+            plan(),
+            &[fails(1), fails(2), unit(3, [0, 4, 6, 4]), to(B), unit(4, [0, 4, 6, 4])],
+            "BBfA BBfA BBuB BBmB",
+        ),
+        accepted(
+            "a redesignation below the lower grade",
+            "A new grade worse than the lower one ends step 3: unit 4 is under C.",
+            plan(),
+            &[fails(1), fails(2), unit(3, [0, 4, 6, 4]), to(C), unit(4, [0, 6, 7, 5])],
+            "BBfA BBfA BBuB CCmC",
+        ),
+        accepted(
+            "a redesignation without a plan",
+            "C is better than Substandard, so step 3 goes on without a plan, and the run is none: else unit\n\
+             5 would end step 3. Units 4 to 6 are at the T of C in every class, which none exceeds.",
+            plan(),
+            &[
+                fails_to_s(1),
+                fails(2),
+                clean(3),
+                to(C),
+                unit(4, [2, 5, 6, 4]),
+                unit(5, [2, 5, 6, 4]),
+                unit(6, [2, 5, 6, 4]),
+            ],
+            "SSfA BBfA SSuS CCrS CCrS CCrS",
+        ),
+    ]
+}
+
+fn units() -> Vec<Case> {
+    vec![
+        accepted(
+            "the best lower grade",
+            "Unit 1 exceeds T+L of B in severe and grades C, not the next lower grade. Unit 2 is at T+L of B\n\
+             in every class, unit 3 at that of C, which admit them; unit 4 exceeds that of C in total alone.",
+            plan(),
+            &[
+                unit(1, [0, 7, 0, 0]),
+                BREAK,
+                unit(2, [2, 6, 8, 1]),
+                BREAK,
+                unit(3, [4, 8, 10, 2]),
+                BREAK,
+                unit(4, [0, 0, 0, 25]),
+            ],
+            "CCfA BBfA CCfA SSfA",
+        ),
+        accepted(
+            "designated C failed twice",
+            "No grade is lower than C, so that both are Substandard, though within T+L of C. There is no\n\
+             plan then: CuSums are zero and plan grade 3.",
+            designated(C),
+            &[unit(1, [0, 8, 0, 0]), unit(2, [0, 8, 0, 0]), clean(3)],
+            "SSfC SSfC SSuS",
+        ),
+        accepted(
+            "prerequisite Substandard",
+            "A prerequisite never makes a unit fail: no step 3 behind two of them. Unit 3 meets A and grades\n\
+             C by its prerequisite.",
+            plan(),
+            &[
+                unit_as(1, [0, 0, 1, 2], SUBSTANDARD, true),
+                unit_as(2, [0, 0, 1, 2], SUBSTANDARD, true),
+                unit_as(3, [0, 1, 4, 5], C, true),
+            ],
+            "SSmA SSmA CCmA",
+        ),
+        accepted(
+            "prerequisites of two failures",
+            "Step 3 is at the worse of the two defect grades, B, and not of the portion grades.",
+            plan(),
+            &[
+                unit_as(1, [0, 0, 0, 12], C, true),
+                unit_as(2, [0, 0, 0, 12], SUBSTANDARD, true),
+                unit(3, [0, 3, 5, 5]),
+            ],
+            "CCfA SSfA BBuB",
+        ),
+        accepted(
+            "total alone fails",
+            "Minor defects count in total, and so do all others. Unit 1 comes to L and meets; unit 2 has one\n\
+             minor defect more; unit 3 as many in three kinds, and meets in each of these classes.",
+            plan(),
+            &[unit(1, [0, 0, 0, 9]), BREAK, unit(2, [0, 0, 0, 10]), BREAK, unit(3, [0, 2, 3, 5])],
+            "AAmA BBfA BBfA",
+        ),
+        accepted(
+            "two classes fail in turn",
+            "Unit 1 fails in severe alone, unit 2 in major alone: step 3 begins all the same, at the S of B.",
+            plan(),
+            &[unit(1, [0, 4, 0, 0]), unit(2, [0, 0, 7, 0]), unit(3, [0, 3, 5, 5])],
+            "BBfA BBfA BBuB",
+        ),
+        accepted(
+            "a unit that meets between failures",
+            "Failures with a unit between them are not in a row: unit 4 is under A.",
+            plan(),
+            &[fails(1), unit(2, [0, 0, 0, 0]), fails(3), unit(4, [0, 0, 3, 3])],
+            "BBfA AAmA BBfA AAmA",
+        ),
+        accepted(
+            "a code met again",
+            "Codes are 01 2C, 00 2C, 01 2D, 01 2C: the first and the last are one code, not adjoining, and\n\
+             have the worse portion grade. One byte of a code alone does not tell it.",
+            plan(),
+            &[
+                clean(300),
+                unit_as(44, [0, 0, 1, 2], B, true),
+                unit_as(301, [0, 0, 1, 2], SUBSTANDARD, true),
+                unit_as(300, [0, 0, 1, 2], C, true),
+            ],
+            "ACmA BBmA SSmA CCmA",
+        ),
+        accepted(
+            "start equal to limit",
+            "S equal to L is accepted, here in every class of A. Counts at T keep major and total at L and\n\
+             meet; one major defect more fails.",
+            plan_with(&[
+                (A, CRITICAL, [5, 5, 5]),
+                (A, SEVERE, [20, 15, 20]),
+                (A, MAJOR, [30, 30, 30]),
+                (A, TOTAL, [40, 60, 40]),
+            ]),
+            &[unit(1, [0, 1, 3, 2]), unit(2, [0, 1, 4, 1])],
+            "AAmA BBfA",
+        ),
+    ]
+}
+
+fn step_three() -> Vec<Case> {
+    vec![
+        accepted(
+            "a failure in step three",
+            "Unit 3 fails B and grades lower, here Substandard; its standing is 2, the plan in force stays B\n\
+             and the CuSum is L of B. Unit 4 goes on from there.",
+            plan(),
+            &[fails(1), fails(2), unit(3, [0, 9, 0, 0]), unit(4, [0, 3, 0, 0])],
+            "BBfA BBfA SSuB BBuB",
+        ),
+        accepted(
+            "two failures in step three",
+            "Two failures at the lower plan start nothing further: unit 5 is under B, from its CuSums.",
+            plan(),
+            &[
+                fails(1),
+                fails(2),
+                unit(3, [0, 7, 0, 0]),
+                unit(4, [0, 7, 0, 0]),
+                unit(5, [0, 3, 0, 0]),
+            ],
+            "BBfA BBfA CCuB CCuB BBuB",
+        ),
+        accepted(
+            "above the tolerance",
+            "Unit 4 has two severe defects, within the T of B and above that of A: it does not qualify, else\n\
+             units 3 to 5 would be recovered and unit 6 be under A.",
+            plan(),
+            &[fails(1), fails(2), clean(3), unit(4, [0, 2, 0, 0]), clean(5), clean(6)],
+            "BBfA BBfA BBuB BBuB BBuB BBuB",
+        ),
+        accepted(
+            "cusum above zero",
+            "Unit 4 is within the T of A, but its CuSum in severe is 1.0: it does not qualify, else units 4\n\
+             to 6 would be recovered.",
+            plan(),
+            &[fails(1), fails(2), unit(3, [0, 7, 0, 0]), unit(4, [0, 1, 0, 0]), clean(5), clean(6)],
+            "BBfA BBfA CCuB BBuB BBuB BBuB",
+        ),
+        accepted(
+            "recovery",
+            "Unit 3 gets its prerequisite B, which is worse than A; unit 4, out of reach, keeps C and\n\
+             standing 2; unit 5 gets A. Codes are graded after that: code 3 grades B, code 4 C.",
+            plan(),
+            &[
+                fails(1),
+                fails_to_c(2),
+                unit_as(3, [0, 0, 1, 2], B, true),
+                unit_as(4, [0, 0, 1, 2], A, false),
+                clean(4),
+                clean(3),
+            ],
+            "BBfA CCfA BBrC CCuC ACrC ABmA",
+        ),
+        accepted(
+            "recovery without a plan",
+            "Without a plan CuSums are taken as zero. Unit 3 is above the T of A in severe and does not\n\
+             qualify; units 4 and 5 are at it in major and total. Unit 7 starts A at S.",
+            plan(),
+            &[
+                fails_to_s(1),
+                fails_to_s(2),
+                unit(3, [0, 2, 0, 0]),
+                unit(4, [0, 1, 3, 2]),
+                unit(5, [0, 1, 3, 2]),
+                clean(6),
+                unit(7, [0, 1, 3, 3]),
+            ],
+            "SSfA SSfA SSuS AArS AArS AArS AAmA",
+        ),
+        accepted(
+            "after step three",
+            "The designated plan starts at S, not at the zeros of unit 5, and unit 6 is a first failure:\n\
+             unit 7 is under A.",
+            plan(),
+            &[
+                fails(1),
+                fails(2),
+                clean(3),
+                clean(4),
+                clean(5),
+                unit(6, [0, 1, 3, 9]),
+                unit(7, [0, 0, 3, 3]),
+            ],
+            "BBfA BBfA AArB AArB AArB BBfA AAmA",
+        ),
+    ]
+}
+
+fn refusals() -> Vec<Case> {
+    let mut plan_cut = plan();
+    plan_cut.pop();
+    let mut marked_other = designated(3);
+    marked_other[1] = 0x4D;
+    let mut designated_and_number = plan_with(&[(A, CRITICAL, [0, 5, 10_000])]);
+    designated_and_number[2] = 3;
+    let first = || part(&clean(1));
+    vec![
+        refused(1, "a plan cut short", "1: all bytes of a plan but one.", plan_cut, vec![]),
+        refused(
+            1,
+            "grounds 1 and 2",
+            "1 and 2: another first mark, and a designated grade above C.",
+            marked_other,
+            vec![],
+        ),
+        refused(
+            2,
+            "grounds 2 and 3",
+            "2 and 3: a designated grade above C, and an L of 10,000.",
+            designated_and_number,
+            vec![],
+        ),
+        refused(
+            3,
+            "grounds 3 and 4",
+            "3 and 4: an S above its L in the first class, and an L of 10,000 in the last. Rows go over the\n\
+             whole plan, one after the other, and not class by class.",
+            plan_with(&[(A, CRITICAL, [6, 5, 5]), (C, TOTAL, [20, 170, 10_000])]),
+            vec![],
+        ),
+        refused(
+            4,
+            "grounds 4 and 5",
+            "4 and 5: T smaller at B than at A in the first class, and an S above its L in the last.",
+            plan_with(&[(B, CRITICAL, [0, 4, 16]), (C, TOTAL, [71, 170, 70])]),
+            vec![],
+        ),
+        refused(
+            5,
+            "ground 5 by sum",
+            "5: T+L smaller at B than at A, with T equal.",
+            plan_with(&[(B, CRITICAL, [0, 5, 4])]),
+            vec![],
+        ),
+        refused(
+            5,
+            "ground 5 by tolerance",
+            "5: T smaller at C than at B, with T+L larger.",
+            plan_with(&[(C, TOTAL, [20, 119, 70])]),
+            vec![],
+        ),
+        refused(
+            6,
+            "one byte left",
+            "6: one byte left, though it is the first of a mark; not 7.",
+            plan(),
+            vec![first(), raw(&[0x53], "one byte")],
+        ),
+        refused(
+            6,
+            "a second plan",
+            "6: the plan stands first and only there.",
+            plan(),
+            vec![first(), raw(&[0x50, 0x4C], "the mark of a plan")],
+        ),
+        refused(
+            7,
+            "a mark alone",
+            "7: a redesignation cut short behind its mark; not 6.",
+            plan(),
+            vec![first(), cut(&to(B), 2)],
+        ),
+        refused(
+            7,
+            "grounds 7 and 8",
+            "7 and 8: a unit cut short by its last byte, with a count of 2,001.",
+            plan(),
+            vec![first(), cut_by_one(&unit(2, [2_001, 0, 0, 0]))],
+        ),
+        refused(
+            8,
+            "grounds 8 and 9",
+            "8 and 9: a count of 2,001 and a prerequisite of 4.",
+            plan(),
+            vec![first(), part(&unit_as(2, [0, 0, 0, 2_001], 4, true))],
+        ),
+        refused(
+            9,
+            "ground 9 before 8",
+            "9, then 8: each record is checked wholly before the next.",
+            plan(),
+            vec![part(&unit_as(1, [0, 0, 1, 2], 4, true)), part(&unit(2, [2_001, 0, 0, 0]))],
+        ),
+        refused(
+            9,
+            "recoverable above 1",
+            "9: recoverable is 0 or 1.",
+            plan(),
+            vec![first(), recoverable(&clean(2), 2)],
+        ),
+        refused(
+            10,
+            "a new grade above C",
+            "10: Substandard cannot be designated.",
+            plan(),
+            vec![first(), part(&to(SUBSTANDARD))],
+        ),
+        refused(
+            11,
+            "ground 11 before 10",
+            "11, then 10: the first record met is returned.",
+            plan(),
+            vec![part(&to(A)), part(&to(SUBSTANDARD))],
+        ),
+        refused(
+            11,
+            "ground 11 by the last redesignation",
+            "11: to B is another grade than A of the plan, back to A another than B, and A again is not.",
+            plan(),
+            vec![part(&to(B)), first(), part(&to(A)), part(&to(A))],
+        ),
+        refused(
+            11,
+            "ground 11 in step three",
+            "11: the grade designated is A, though B is in force. And 13 in a buffer without room: a refusal\n\
+             of the sheet comes first.",
+            plan(),
+            vec![part(&fails(1)), part(&fails(2)), part(&to(A))],
+        ),
+        Case {
+            name: "a buffer without room",
+            shows: "13: at the sheet's length, by the units and not by the records.",
+            plan: plan(),
+            parts: vec![first(), part(&BREAK), part(&fails(2))],
+            full: false,
+            expected: Expected::WithoutRoom(13),
+        },
+    ]
+}
+
+fn full() -> Vec<Case> {
+    vec![
+        refused_full(
+            12,
+            "ground 12",
+            "12: one unit too many. And 13 in a buffer without room.",
+            part(&clean(2)),
+        ),
+        refused_full(
+            12,
+            "grounds 12 and 8",
+            "12 and 8: the unit too many has a count of 2,001. 12 stands before 8.",
+            part(&unit(2, [2_001, 0, 0, 0])),
+        ),
+        refused_full(
+            7,
+            "grounds 7 and 12",
+            "7 and 12: the unit too many is cut short by its last byte.",
+            cut_by_one(&clean(2)),
+        ),
+    ]
+}
+
+// ---- the file
+
+const HEAD: &str = "\
+-- Further sheets in bytes beside the worked cases, as one group: the record at the end. Each is held to the answer and the result bytes
+-- that the independent grader gives for it (tests/grader, written from paper 01 alone), so that a rule which is wrong on one of them
+-- alike in a definition and in the code that meets it is refused here. This file is printed by tests/cases/src/bin/computed_sheets.rs.
+use Prim.Native.Nat.{ℕ, zero, suc, _*_, _<_, _≤_}
+use mathlib.Core.Path.{_≡_}
+use mathlib.Core.List.{List, [], _∷_, _++_}
+use lib.ListN.{length, take, drop, set}
+use Rattle.results.specs.Record.{resultSize}
+use Rattle.tally.specs.Outcome.{outcome, refusal}
+use Rattle.demands.specs.WorkedCases.{peachPlan}
+
+-- a sheet is accepted with so many units, at its length, and these result records are in every buffer that has room for them; bytes
+-- behind the last one keep theirs
+abbrev pub Graded : List ℕ → ℕ → ℕ → List ℕ → Type 0
+Graded sheet units offset results =
+    (buffer : List ℕ) → resultSize * units ≤ length buffer
+    → outcome sheet buffer
+    ≡ record { answer = record { number = 0; units = units; offset = offset }; buffer = results ++ drop (resultSize * units) buffer }
+
+-- it is refused with this number and offset, whatever the buffer
+abbrev pub RefusedWith : ℕ → List ℕ → ℕ → Type 0
+RefusedWith number sheet offset = (buffer : List ℕ) → outcome sheet buffer ≡ refusal number offset buffer
+
+-- and with this one in every buffer without room for so many units
+abbrev pub WithoutRoom : ℕ → List ℕ → ℕ → ℕ → Type 0
+WithoutRoom number sheet units offset =
+    (buffer : List ℕ) → length buffer < resultSize * units → outcome sheet buffer ≡ refusal number offset buffer
+
+-- a record so many times, and what stands behind them
+unfoldable pub repeated : ℕ → List ℕ → List ℕ → List ℕ
+repeated zero bytes behind = behind
+repeated (suc times) bytes behind = bytes ++ repeated times bytes behind
+
+-- In a sheet behind each record its content: of a unit code, counts of critical, severe, major, minor, prerequisite, recoverable. In
+-- results behind each record the line that is printed for it.
+";
+
+const FOOT: &str = "
+-- all of them
+pub record FurtherSheets : Type 0 where
+";
+
+/// What the grader answers, with the result records and the line printed for each.
+struct Graded {
+    answer: grader::Answer,
+    records: Vec<(Vec<u8>, String)>,
+}
+
+/// Grades a sheet, and sees that the grader does as is known by hand and keeps what it has to keep.
+fn graded(case: &Case) -> Graded {
+    let (name, sheet) = (case.name, case.bytes());
+    let mut buffer = vec![0xEE; 4_096];
+    let (answer, trace) = grader::grade_traced(&sheet, &mut buffer, true);
+    let rows = trace.map_or(Vec::new(), |trace| trace.rows);
+    let size = rows.first().map_or(0, |row| row.result().len());
+    let (results, rest) = buffer.split_at(size * answer.units);
+    assert!(rest.iter().all(|&byte| byte == 0xEE), "{name}: bytes behind the records");
+    match case.expected {
+        Expected::Letters(letters) => {
+            assert_eq!(answer.number, 0, "{name}");
+            let printed = grader::print(&sheet);
+            let found = printed.lines().map(|line| line.split(' ').skip(2).take(4).collect());
+            assert_eq!(found.collect::<Vec<String>>().join(" "), letters, "{name}");
+            let lines = printed.lines().map(str::to_string);
+            let records = results.chunks(size.max(1)).map(<[u8]>::to_vec).zip(lines).collect();
+            Graded { answer, records }
+        }
+        Expected::Number(number) => {
+            assert_eq!(answer.number, number, "{name}");
+            assert_eq!(grader::grade(&sheet, &mut []), answer, "{name}: without a buffer");
+            Graded { answer, records: Vec::new() }
+        }
+        Expected::WithoutRoom(number) => {
+            assert_eq!(answer.number, 0, "{name}");
+            let mut short = vec![0xEE; size * answer.units - 1];
+            let refused = grader::grade(&sheet, &mut short);
+            assert_eq!(refused.number, number, "{name}");
+            assert_eq!(grader::grade(&sheet, &mut []), refused, "{name}: without a buffer");
+            assert!(short.iter().all(|&byte| byte == 0xEE), "{name}: the buffer");
+            // The units, for which there is no room.
+            Graded {
+                answer: grader::Answer { units: answer.units, ..refused },
+                records: Vec::new(),
+            }
+        }
+    }
+}
+
+/// Bytes as elements of a list, the mark in hexadecimal.
+fn elements(bytes: &[u8]) -> String {
+    let element = |(at, byte): (usize, &u8)| match at {
+        0 | 1 => format!("0x{byte:02X}"),
+        _ => byte.to_string(),
+    };
+    bytes.iter().enumerate().map(element).collect::<Vec<_>>().join(" ∷ ")
+}
+
+/// A list of records, a line for each, with no bracket before or behind it.
+fn lines<'a>(records: impl Iterator<Item = (&'a [u8], &'a str)>) -> String {
+    let line =
+        |(bytes, comment): (&[u8], &str)| format!("{}  -- {comment}\n    ∷ ", elements(bytes));
+    records.map(line).collect::<String>() + "[]"
+}
+
+/// The peach plan with the bytes that differ from it.
+fn plan_text(bytes: &[u8]) -> String {
+    let peach = plan();
+    let kept = if bytes.len() == peach.len() {
+        "peachPlan".to_string()
+    } else {
+        format!("take {} peachPlan", bytes.len())
+    };
+    let others = bytes.iter().zip(&peach).enumerate().filter(|(_, (byte, old))| byte != old);
+    let set = |text: String, (at, (byte, _)): (usize, (&u8, &u8))| {
+        let text = if text.contains(' ') { format!("({text})") } else { text };
+        let byte = if at < 2 { format!("0x{byte:02X}") } else { byte.to_string() };
+        format!("set {text} {at} {byte}")
+    };
+    others.fold(kept, set)
+}
+
+/// Says what differs in the plan from the peach plan.
+fn plan_comment(bytes: &[u8]) -> String {
+    let peach = plan();
+    let mut said = Vec::new();
+    if bytes.len() == peach.len() && bytes != peach {
+        if bytes[..2] != peach[..2] {
+            said.push(format!("mark {:02X} {:02X}", bytes[0], bytes[1]));
+        }
+        if bytes[2] != peach[2] {
+            let letter = GRADES.get(usize::from(bytes[2])).expect("a grade");
+            said.push(format!("designated {letter}"));
+        }
+        let classes = (peach.len() - 3) / 18;
+        for (cell, (new, old)) in bytes[3..].chunks(6).zip(peach[3..].chunks(6)).enumerate() {
+            if new != old {
+                let number = |at: usize| u16::from_be_bytes([new[at], new[at + 1]]);
+                let decimal = |at: usize| match (number(at) / 10, number(at) % 10) {
+                    (whole, 0) => whole.to_string(),
+                    (whole, tenths) => format!("{whole}.{tenths}"),
+                };
+                let numbers = [0, 2, 4].map(decimal).join("/");
+                let (grade, class) = (GRADES[cell / classes], CLASSES[cell % classes]);
+                said.push(format!("{class} at {grade} {numbers}"));
+            }
+        }
+    }
+    if said.is_empty() {
+        return String::new();
+    }
+    format!("-- The peach plan, but {}.\n", said.join(", "))
+}
+
+/// A sheet's bytes and its result bytes.
+fn definitions(case: &Case, graded: &Graded) -> String {
+    let name = case.definition();
+    let shows = case.shows.lines().map(|line| format!("-- {line}\n")).collect::<String>();
+    let comment = plan_comment(&case.plan);
+    let mut text = format!("\n{shows}{comment}unfoldable pub {name} : List ℕ\n{name} =");
+    if case.parts.is_empty() {
+        text += &format!(" {}\n", plan_text(&case.plan));
+    } else if case.full {
+        text += &format!("\n    {}\n    ++ repeated {MOST_UNITS}\n", plan_text(&case.plan));
+        for Part { bytes, comment } in &case.parts {
+            text += &format!("    ({} ∷ [])  -- {comment}\n", elements(bytes));
+        }
+    } else {
+        let parts = case.parts.iter().map(|part| (&part.bytes[..], part.comment.as_str()));
+        text += &format!("\n    {}\n    ++ ({})\n", plan_text(&case.plan), lines(parts));
+    }
+    if let Expected::Letters(_) = case.expected {
+        text += &format!("\nunfoldable pub {name}Results : List ℕ\n{name}Results =");
+        let records = graded.records.iter().map(|(bytes, line)| (&bytes[..], line.as_str()));
+        text += if graded.records.is_empty() { " " } else { "\n    " };
+        text += &format!("{}\n", lines(records));
+    }
+    text
+}
+
+/// The field that says what a sheet comes to.
+fn statement(case: &Case, graded: &Graded) -> String {
+    let (field, name) = (case.field(), case.definition());
+    let grader::Answer { number, units, offset } = graded.answer;
+    match case.expected {
+        Expected::Letters(_) => {
+            format!("  pub {field} : Graded {name} {units} {offset} {name}Results\n")
+        }
+        Expected::Number(_) => format!("  pub {field} : RefusedWith {number} {name} {offset}\n"),
+        Expected::WithoutRoom(_) => {
+            format!("  pub {field} : WithoutRoom {number} {name} {units} {offset}\n")
+        }
+    }
+}
+
+fn file(groups: &[Group]) -> String {
+    let (mut text, mut foot) = (HEAD.to_string(), FOOT.to_string());
+    for Group { name, field, title, cases } in groups {
+        text += &format!("\n-- ---- {title}\n");
+        let mut record = format!("\npub record {name} : Type 0 where\n");
+        for case in cases {
+            let graded = graded(case);
+            text += &definitions(case, &graded);
+            record += &statement(case, &graded);
+        }
+        text += &record;
+        foot += &format!("  pub {field} : {name}\n");
+    }
+    text + &foot
+}
+
+fn main() {
+    print!("{}", file(&groups()));
+}
