@@ -3,7 +3,7 @@
  * File Code 120 A-6 of August 1978.
  *
  * Link with libhatmuyon.a, which `rt staticlib hatmuyon` writes to target/staticlib (x86-64).
- * The archive needs no other library.
+ * The archive needs no other library. The header is C99 and C++11.
  */
 #ifndef HATMUYON_H
 #define HATMUYON_H
@@ -14,6 +14,16 @@
 #ifdef __cplusplus
 extern "C" {
 #endif
+
+/*
+ * The version, the same as that of the Rust crate: raised with each change of a record or an answer,
+ * and of the functions and types in C or Rust. A program, the header and the archive of one version
+ * belong together. The archive does not carry its version, so that nothing notices another one.
+ */
+#define HATMUYON_VERSION "0.2.0"
+#define HATMUYON_VERSION_MAJOR 0
+#define HATMUYON_VERSION_MINOR 2
+#define HATMUYON_VERSION_PATCH 0
 
 /*
  * A tally sheet is a plan record and then, in any order, sample units, redesignations and breaks.
@@ -111,6 +121,13 @@ struct hatmuyon_answer {
 };
 
 /*
+ * hatmuyon_grade needs at most 2 KiB of stack, its return address among them. This is measured and
+ * not proved: the disassembled archive takes about 800 bytes, in frames of fixed size and without
+ * recursion, and a test of bindings/rust fails if it takes more than this of a painted stack.
+ */
+#define HATMUYON_STACK_SIZE 2048
+
+/*
  * Grades a sheet into a result buffer: one result record for each sample unit, in their order.
  *
  * The caller owes:
@@ -133,6 +150,25 @@ struct hatmuyon_answer {
  */
 struct hatmuyon_answer hatmuyon_grade(const uint8_t *sheet, size_t sheet_length,
                                       uint8_t *results, size_t results_length);
+
+/*
+ * The same, but where a length is 0 nothing is owed of its pointer: it may be null, as that of an
+ * empty vector in C++ may be. The address of a local byte is passed on in its place.
+ *
+ * Where a length is not 0, all is owed that hatmuyon_grade asks: the pointer is not null and valid
+ * for its length, the two buffers do not overlap, and other threads keep away as said there. The
+ * promises are those of hatmuyon_grade: a sheet of length 0 is refused by number 1, and a result
+ * buffer of length 0 is long enough for a sheet without a unit.
+ */
+static inline struct hatmuyon_answer hatmuyon_grade_nullable(const uint8_t *sheet,
+                                                             size_t sheet_length, uint8_t *results,
+                                                             size_t results_length)
+{
+    uint8_t no_byte = 0;
+
+    return hatmuyon_grade(sheet_length == 0 ? &no_byte : sheet, sheet_length,
+                          results_length == 0 ? &no_byte : results, results_length);
+}
 
 #ifdef __cplusplus
 }

@@ -25,7 +25,7 @@ type Contender<'a> = &'a mut dyn FnMut(&[u8], &mut [u8]) -> Answer;
 fn library(sheet: &[u8], results: &mut [u8]) -> Answer {
     match hatmuyon::grade(sheet, results) {
         Ok(graded) => (0, graded.units(), sheet.len()),
-        Err(refusal) => (refusal.ground.number(), 0, refusal.offset),
+        Err(refusal) => (refusal.number, 0, refusal.offset),
     }
 }
 

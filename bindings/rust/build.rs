@@ -1,5 +1,5 @@
 //! Links libhatmuyon.a from the folder `HATMUYON_ARCHIVE_DIR`, or else from target/staticlib of the
-//! repository.
+//! repository. The tests find its path in `HATMUYON_ARCHIVE`.
 
 use std::env;
 use std::path::PathBuf;
@@ -18,6 +18,7 @@ fn main() {
             let folder = archive.parent().expect("a file lies in a folder");
             println!("cargo:rustc-link-search=native={}", folder.display());
             println!("cargo:rustc-link-lib=static=hatmuyon");
+            println!("cargo:rustc-env=HATMUYON_ARCHIVE={}", archive.display());
         }
         Err(error) => {
             eprintln!("{}: {error}", archive.display());

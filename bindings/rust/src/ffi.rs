@@ -19,11 +19,14 @@ pub const RESULT_MAJOR: usize = 12;
 /// Offset of the CuSum of total defects.
 pub const RESULT_TOTAL: usize = 14;
 
+/// Bytes of stack that [`hatmuyon_grade`] needs at most; the header says how they were measured.
+pub const STACK_SIZE: usize = 2048;
+
 /// `struct hatmuyon_answer`.
 #[derive(Clone, Copy, Debug, PartialEq, Eq)]
 #[repr(C)]
 pub struct Answer {
-    /// 0, or the number of the refusal, 1 to 14.
+    /// 0, or the number of the refusal, 1 to 14 from an archive of this version.
     pub number: u32,
     /// Accepted: the number of sample units. Refused: 0.
     pub units: usize,

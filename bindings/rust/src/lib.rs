@@ -28,7 +28,7 @@
 //!
 //! // The same without its last byte.
 //! let refusal = grade(&sheet[..88], &mut results).unwrap_err();
-//! assert_eq!(refusal.ground, Ground::CutShort);
+//! assert_eq!(refusal.ground(), Some(Ground::CutShort));
 //! assert_eq!(refusal.offset, 75);
 //! # Ok::<(), hatmuyon::Refusal>(())
 //! ```
@@ -36,6 +36,19 @@
 //! The grading itself is the proved library `libhatmuyon.a`, which `rt staticlib hatmuyon` writes
 //! (x86-64). The build links it from target/staticlib of the repository, or from the folder that
 //! the environment variable `HATMUYON_ARCHIVE_DIR` names.
+//!
+//! # Versions
+//!
+//! The crate and the archive must be of one version. The archive does not carry its version, so that
+//! the build cannot compare them. Linked with an archive of another version:
+//!
+//! - A refusal by a number that this version does not know is handed on with its number and offset;
+//!   its [`Refusal::ground`] is `None`.
+//! - An answer of more result records than the result buffer has room for, at this version's
+//!   [`RESULT_SIZE`], panics.
+//! - Nothing else is checked. If that archive writes records of another size or with other fields,
+//!   it keeps to the buffer, but they are read as if they were of this version, and the [`Record`]s
+//!   are wrong. If its answer or the function itself has another form, the behaviour is undefined.
 
 #![warn(missing_docs)]
 
@@ -44,6 +57,21 @@ use std::iter::FusedIterator;
 use std::slice::ChunksExact;
 
 pub mod ffi;
+
+/// The version of the crate, which is `HATMUYON_VERSION` of the header: raised with each change of a
+/// record or an answer, and of the functions and types in C or Rust.
+pub const VERSION: &str = env!("CARGO_PKG_VERSION");
+
+/// The mark that opens a plan record, as a number of two bytes; the high byte comes first.
+pub const PLAN_MARK: u16 = 0x504C;
+/// The mark of a sample unit.
+pub const UNIT_MARK: u16 = 0x5355;
+/// The mark of a redesignation.
+pub const REDESIGNATION_MARK: u16 = 0x5244;
+/// The mark of a break in production.
+pub const BREAK_MARK: u16 = 0x424B;
+/// The mark of a result record.
+pub const RESULT_MARK: u16 = 0x4752;
 
 /// Bytes of a plan record.
 pub const PLAN_SIZE: usize = 75;
@@ -55,9 +83,14 @@ pub const REDESIGNATION_SIZE: usize = 3;
 pub const BREAK_SIZE: usize = 2;
 /// Bytes of a result record.
 pub const RESULT_SIZE: usize = 16;
+
 /// The most sample units on a sheet, so that `RESULT_SIZE * MOST_UNITS` bytes hold the results of
 /// any sheet.
 pub const MOST_UNITS: usize = 1000;
+/// The largest count of a sample unit.
+pub const LARGEST_COUNT: u16 = 2000;
+/// The largest S, T and L of a plan, in tenths.
+pub const LARGEST_PLAN_NUMBER: u16 = 9999;
 
 /// Grades a sheet into a result buffer: one result record of [`RESULT_SIZE`] bytes for each sample
 /// unit, in their order.
@@ -69,20 +102,31 @@ pub const MOST_UNITS: usize = 1000;
 /// ```
 /// let mut results = [0xEE; 32];
 /// let refusal = hatmuyon::grade(b"not a sheet", &mut results).unwrap_err();
-/// assert_eq!(refusal.ground.number(), 1);
+/// assert_eq!(refusal.number, 1);
 /// assert_eq!(results, [0xEE; 32]);
 /// ```
+///
+/// # Panics
+///
+/// Never with an archive of this version; see [Versions](crate#versions).
 pub fn grade<'r>(sheet: &[u8], results: &'r mut [u8]) -> Result<Graded<'r>, Refusal> {
     // Safety: a slice's pointer is not null and valid for its length, and a slice that may be
     // written overlaps no other.
     let answer = unsafe {
         ffi::hatmuyon_grade(sheet.as_ptr(), sheet.len(), results.as_mut_ptr(), results.len())
     };
-    if answer.number == 0 {
-        return Ok(Graded { bytes: &results[..RESULT_SIZE * answer.units] });
+    outcome(answer, results)
+}
+
+/// What an answer says, after which the result records are in the buffer if the sheet is accepted.
+fn outcome(answer: ffi::Answer, results: &[u8]) -> Result<Graded<'_>, Refusal> {
+    let ffi::Answer { number, units, offset } = answer;
+    if number != 0 {
+        return Err(Refusal { number, offset });
     }
-    let ground = Ground::from_number(answer.number).expect("the library answers 0 to 14");
-    Err(Refusal { ground, offset: answer.offset })
+    let room = results.len() / RESULT_SIZE;
+    assert!(units <= room, "an archive of another version: {units} records where {room} have room");
+    Ok(Graded { bytes: &results[..RESULT_SIZE * units] })
 }
 
 /// The result records of an accepted sheet, borrowed from the result buffer.
@@ -158,6 +202,9 @@ impl ExactSizeIterator for Records<'_> {}
 impl FusedIterator for Records<'_> {}
 
 /// What is recorded of a sample unit.
+///
+/// An archive of this version writes grades and standings from 0 to 3. A larger byte would be read
+/// as 3: [`Grade::Substandard`], no plan in force, [`Standing::Recovered`]. The mark is not read.
 #[derive(Clone, Copy, Debug, PartialEq, Eq, Hash)]
 pub struct Record {
     /// The production code.
@@ -176,7 +223,7 @@ pub struct Record {
 }
 
 impl Record {
-    /// From the bytes of a result record. The library writes grades and standings from 0 to 3.
+    /// From the bytes of a result record.
     fn from_bytes(bytes: &[u8]) -> Record {
         use ffi::*;
         let two = |at: usize| u16::from_be_bytes([bytes[at], bytes[at + 1]]);
@@ -253,7 +300,7 @@ impl Standing {
     }
 }
 
-/// A refused sheet: on which ground, and the place.
+/// A refused sheet: the number of the ground, and the place.
 ///
 /// ```
 /// let refusal = hatmuyon::grade(&[], &mut []).unwrap_err();
@@ -264,17 +311,29 @@ impl Standing {
 /// ```
 #[derive(Clone, Copy, Debug, PartialEq, Eq, Hash)]
 pub struct Refusal {
-    /// The first ground met.
-    pub ground: Ground,
+    /// The number of the first ground met, 1 to 14 from an archive of this version.
+    pub number: u32,
     /// 0 for a ground in the plan, the offset of the record's mark for one in a record, and the
     /// sheet's length for one in the result buffer.
     pub offset: usize,
 }
 
+impl Refusal {
+    /// The first ground met, or `None` if this version does not know its number: the archive is of
+    /// another version then.
+    pub fn ground(&self) -> Option<Ground> {
+        Ground::from_number(self.number)
+    }
+}
+
 impl fmt::Display for Refusal {
     fn fmt(&self, f: &mut fmt::Formatter<'_>) -> fmt::Result {
-        let Refusal { ground, offset } = self;
-        write!(f, "refused {} at offset {offset}: {ground}", ground.number())
+        let Refusal { number, offset } = self;
+        write!(f, "refused {number} at offset {offset}: ")?;
+        match self.ground() {
+            Some(ground) => ground.fmt(f),
+            None => write!(f, "a number that version {VERSION} does not know"),
+        }
     }
 }
 
@@ -376,5 +435,55 @@ impl fmt::Display for Ground {
             Ground::ResultBufferTooShort => "result buffer shorter than 16 times the units",
             Ground::CusumTooLarge => "a CuSum too large for two bytes",
         })
+    }
+}
+
+#[cfg(test)]
+mod tests {
+    use super::*;
+    use ffi::Answer;
+
+    #[test]
+    fn a_number_not_known() {
+        let refusal = outcome(Answer { number: 15, units: 0, offset: 75 }, &[]).unwrap_err();
+        assert_eq!(refusal, Refusal { number: 15, offset: 75 });
+        assert_eq!(refusal.ground(), None);
+        assert_eq!(
+            refusal.to_string(),
+            format!("refused 15 at offset 75: a number that version {VERSION} does not know")
+        );
+    }
+
+    #[test]
+    fn records_up_to_the_room() {
+        let results = [0; 3 * RESULT_SIZE - 1];
+        let graded = outcome(Answer { number: 0, units: 2, offset: 103 }, &results).unwrap();
+        assert_eq!((graded.units(), graded.bytes().len()), (2, 2 * RESULT_SIZE));
+    }
+
+    #[test]
+    #[should_panic(expected = "an archive of another version")]
+    fn more_records_than_room() {
+        let _ = outcome(Answer { number: 0, units: 3, offset: 117 }, &[0; 3 * RESULT_SIZE - 1]);
+    }
+
+    #[test]
+    #[should_panic(expected = "an archive of another version")]
+    fn more_records_than_any_room() {
+        // Times RESULT_SIZE this would be 0.
+        let _ = outcome(Answer { number: 0, units: 1 << 60, offset: 75 }, &[]);
+    }
+
+    #[test]
+    fn a_larger_byte_is_read_as_three() {
+        let read = |byte| Record::from_bytes(&[byte; RESULT_SIZE]);
+        for byte in [3, 4, 255] {
+            let Record { portion_grade, code_grade, plan_grade, standing, .. } = read(byte);
+            assert_eq!((portion_grade, code_grade), (Grade::Substandard, Grade::Substandard));
+            assert_eq!((plan_grade, standing), (None, Standing::Recovered));
+        }
+        let Record { portion_grade, code_grade, plan_grade, standing, .. } = read(2);
+        assert_eq!((portion_grade, code_grade, plan_grade), (Grade::C, Grade::C, Some(Grade::C)));
+        assert_eq!(standing, Standing::InStepThree);
     }
 }

@@ -46,9 +46,9 @@ fn sheet(records: &[&[u8]]) -> Vec<u8> {
 /// Grades into a buffer of 0xEE, which a refusal must keep.
 fn refused(sheet: &[u8], room: usize) -> (u32, usize) {
     let mut results = vec![0xEE; room];
-    let Refusal { ground, offset } = grade(sheet, &mut results).expect_err("the sheet is accepted");
+    let Refusal { number, offset } = grade(sheet, &mut results).expect_err("the sheet is accepted");
     assert!(results.iter().all(|&byte| byte == 0xEE), "a byte was changed");
-    (ground.number(), offset)
+    (number, offset)
 }
 
 #[test]
@@ -195,7 +195,10 @@ fn fifteen_and_sixteen_result_bytes_for_one_unit() {
     let sheet = sheet(&[&unit(1, [0; 4])]);
     let mut results = [0xEE; 16];
     let refusal = grade(&sheet, &mut results[..15]).unwrap_err();
-    assert_eq!((refusal.ground, refusal.offset), (Ground::ResultBufferTooShort, sheet.len()));
+    assert_eq!(
+        (refusal.ground(), refusal.offset),
+        (Some(Ground::ResultBufferTooShort), sheet.len())
+    );
     assert_eq!(results, [0xEE; 16]);
     assert_eq!(grade(&sheet, &mut results).unwrap().units(), 1);
 }

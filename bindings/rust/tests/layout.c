@@ -1,4 +1,4 @@
-/* Prints what include/hatmuyon.h says of layout and numbers, a name and a value a line. */
+/* Prints what include/hatmuyon.h says of version, layout and numbers, a name and a value a line. */
 #include <stdio.h>
 
 #include "hatmuyon.h"
@@ -19,18 +19,33 @@ static void value(const char *name, size_t value)
 
 int main(void)
 {
+    printf("version %s\n", HATMUYON_VERSION);
+    value("version major", HATMUYON_VERSION_MAJOR);
+    value("version minor", HATMUYON_VERSION_MINOR);
+    value("version patch", HATMUYON_VERSION_PATCH);
+
     value("answer size", sizeof(struct hatmuyon_answer));
     value("answer alignment", offsetof(struct behind_a_byte, answer));
     ANSWER(number);
     ANSWER(units);
     ANSWER(offset);
 
+    value("plan mark", HATMUYON_PLAN_MARK);
+    value("unit mark", HATMUYON_UNIT_MARK);
+    value("redesignation mark", HATMUYON_REDESIGNATION_MARK);
+    value("break mark", HATMUYON_BREAK_MARK);
+    value("result mark", HATMUYON_RESULT_MARK);
+
     value("plan size", HATMUYON_PLAN_SIZE);
     value("unit size", HATMUYON_UNIT_SIZE);
     value("redesignation size", HATMUYON_REDESIGNATION_SIZE);
     value("break size", HATMUYON_BREAK_SIZE);
     value("result size", HATMUYON_RESULT_SIZE);
+
     value("most units", HATMUYON_MOST_UNITS);
+    value("largest count", HATMUYON_LARGEST_COUNT);
+    value("largest plan number", HATMUYON_LARGEST_PLAN_NUMBER);
+    value("stack size", HATMUYON_STACK_SIZE);
 
     value("code at", HATMUYON_RESULT_CODE);
     value("portion grade at", HATMUYON_RESULT_PORTION_GRADE);
@@ -52,6 +67,7 @@ int main(void)
     value("InStepThree", HATMUYON_IN_STEP_THREE);
     value("Recovered", HATMUYON_RECOVERED);
 
+    value("accepted", HATMUYON_ACCEPTED);
     value("NoPlan", HATMUYON_REFUSED_NO_PLAN);
     value("BadDesignatedGrade", HATMUYON_REFUSED_BAD_DESIGNATED_GRADE);
     value("PlanNumberTooLarge", HATMUYON_REFUSED_PLAN_NUMBER_TOO_LARGE);

@@ -1,0 +1,132 @@
+//! The boundary as programs in C and C++ see it: each in this folder is compiled against
+//! include/hatmuyon.h, linked with the archive and run.
+
+use hatmuyon::ffi::{self, Answer};
+use hatmuyon::{Grade, Ground, Standing};
+use std::collections::{BTreeMap, BTreeSet};
+use std::mem::{align_of, offset_of, size_of};
+use std::path::Path;
+use std::process::Command;
+
+const HEADER: &str = include_str!("../../../include/hatmuyon.h");
+const LAYOUT: &str = include_str!("layout.c");
+
+/// What a program of this folder prints, compiled by a compiler with this standard of its language.
+fn printed_by(source: &str, compiler: &str, standard: &str, arguments: &[String]) -> String {
+    let manifest = Path::new(env!("CARGO_MANIFEST_DIR"));
+    let program = Path::new(env!("CARGO_TARGET_TMPDIR")).join(format!("{source}.{standard}"));
+    let language = if compiler == "c++" { "c++" } else { "c" };
+    let compiled = Command::new(compiler)
+        .arg(format!("-std={standard}"))
+        .args(["-Wall", "-Wextra", "-Werror", "-pedantic", "-pthread", "-I"])
+        .arg(manifest.join("../../include"))
+        .args(["-x", language])
+        .arg(manifest.join("tests").join(source))
+        .args(["-x", "none", env!("HATMUYON_ARCHIVE"), "-o"])
+        .arg(&program)
+        .status()
+        .unwrap_or_else(|error| panic!("cannot run {compiler}: {error}"));
+    assert!(compiled.success(), "{compiler} refuses {source}");
+    let output = Command::new(&program)
+        .args(arguments)
+        .current_dir(manifest)
+        .output()
+        .unwrap_or_else(|error| panic!("cannot run {}: {error}", program.display()));
+    let text = String::from_utf8(output.stdout).expect("not text");
+    assert!(output.status.success(), "{source} as {standard}: {}, {text}", output.status);
+    text
+}
+
+/// The struct, the numbers and the version of this crate are those of the header, of which layout.c
+/// prints names and values.
+#[test]
+fn same_as_in_c() {
+    let mut here: BTreeMap<String, String> = [
+        ("version major", env!("CARGO_PKG_VERSION_MAJOR")),
+        ("version minor", env!("CARGO_PKG_VERSION_MINOR")),
+        ("version patch", env!("CARGO_PKG_VERSION_PATCH")),
+        ("version", hatmuyon::VERSION),
+    ]
+    .map(|(name, value)| (name.to_string(), value.to_string()))
+    .into();
+    let mut put = |name: &str, value: usize| here.insert(name.to_string(), value.to_string());
+    put("answer size", size_of::<Answer>());
+    put("answer alignment", align_of::<Answer>());
+    put("number offset", offset_of!(Answer, number));
+    put("number size", size_of::<u32>());
+    put("units offset", offset_of!(Answer, units));
+    put("units size", size_of::<usize>());
+    put("offset offset", offset_of!(Answer, offset));
+    put("offset size", size_of::<usize>());
+    put("plan mark", hatmuyon::PLAN_MARK.into());
+    put("unit mark", hatmuyon::UNIT_MARK.into());
+    put("redesignation mark", hatmuyon::REDESIGNATION_MARK.into());
+    put("break mark", hatmuyon::BREAK_MARK.into());
+    put("result mark", hatmuyon::RESULT_MARK.into());
+    put("plan size", hatmuyon::PLAN_SIZE);
+    put("unit size", hatmuyon::UNIT_SIZE);
+    put("redesignation size", hatmuyon::REDESIGNATION_SIZE);
+    put("break size", hatmuyon::BREAK_SIZE);
+    put("result size", hatmuyon::RESULT_SIZE);
+    put("most units", hatmuyon::MOST_UNITS);
+    put("largest count", hatmuyon::LARGEST_COUNT.into());
+    put("largest plan number", hatmuyon::LARGEST_PLAN_NUMBER.into());
+    put("stack size", ffi::STACK_SIZE);
+    put("code at", ffi::RESULT_CODE);
+    put("portion grade at", ffi::RESULT_PORTION_GRADE);
+    put("code grade at", ffi::RESULT_CODE_GRADE);
+    put("plan grade at", ffi::RESULT_PLAN_GRADE);
+    put("standing at", ffi::RESULT_STANDING);
+    put("critical at", ffi::RESULT_CRITICAL);
+    put("severe at", ffi::RESULT_SEVERE);
+    put("major at", ffi::RESULT_MAJOR);
+    put("total at", ffi::RESULT_TOTAL);
+    for grade in [Grade::A, Grade::B, Grade::C, Grade::Substandard] {
+        put(&format!("{grade:?}"), grade as usize);
+    }
+    for standing in [Standing::Met, Standing::Failed, Standing::InStepThree, Standing::Recovered] {
+        put(&format!("{standing:?}"), standing as usize);
+    }
+    put("accepted", 0);
+    for ground in Ground::ALL {
+        put(&format!("{ground:?}"), ground.number() as usize);
+    }
+
+    let text = printed_by("layout.c", "cc", "c99", &[]);
+    let in_c: BTreeMap<String, String> = text
+        .lines()
+        .map(|line| line.rsplit_once(' ').expect("no value"))
+        .map(|(name, value)| (name.to_string(), value.to_string()))
+        .collect();
+    assert_eq!(in_c, here);
+}
+
+/// No name of the header is left out of the comparison.
+#[test]
+fn every_name_is_compared() {
+    fn names(text: &str) -> BTreeSet<&str> {
+        text.split(|c: char| !(c.is_ascii_alphanumeric() || c == '_'))
+            .filter(|word| word.starts_with("HATMUYON_") && *word != "HATMUYON_H")
+            .collect()
+    }
+    assert_eq!(names(LAYOUT), names(HEADER));
+}
+
+#[test]
+fn null_pointers_in_c() {
+    assert_eq!(printed_by("nullable.c", "cc", "c99", &[]), "");
+}
+
+#[test]
+fn empty_vectors_in_cpp() {
+    assert_eq!(printed_by("nullable.c", "c++", "c++11", &[]), "");
+}
+
+#[test]
+fn stack_at_most_that_of_the_header() {
+    let sheets = ["peach", "pea", "damaged"].map(|name| format!("../../examples/{name}.sheet"));
+    let text = printed_by("stack.c", "cc", "c99", &sheets);
+    let used: Vec<usize> = text.lines().map(|line| line.parse().expect("not a number")).collect();
+    assert_eq!(used.len(), sheets.len());
+    assert!(used.iter().all(|&used| used <= ffi::STACK_SIZE), "{used:?} bytes of stack");
+}
