@@ -17,12 +17,12 @@ use Rattle.tally.specs.declared.Answer.{Answer}
 use Rattle.tally.specs.Outcome.{recordsIn}
 use Rattle.tally.specs.Accepted.{AcceptedAs}
 use Rattle.tally.proofs.Computing.{computing}
-use Rattle.demands.specs.WorkedCases.{peachPlan}
-use Rattle.demands.specs.FurtherSheets.{breakBetweenUnits, Graded}
+use Rattle.computed.specs.WorkedCases.{peachPlan}
+use Rattle.computed.specs.FurtherSheets.{breakBetweenUnits, Graded}
 use Rattle.demands.specs.Instances.{criticalLow, oneCriticalMore, oneCriticalMoreResults, fewerLeft, moreLeft}
 use Rattle.demands.specs.Demand3.{InCount, Alike, FewerDefects}
-use Rattle.demands.proofs.Computed.{and-next, before-the-first, accepts}
-use Rattle.demands.proofs.FurtherSheets.{further-sheets}
+use Rattle.computed.proofs.Computed.{and-next, before-the-first, accepts}
+use Rattle.computed.proofs.FurtherSheets.{further-sheets}
 
 -- both are accepted with three units
 abbrev pub threeAccepted : Answer

@@ -7,8 +7,8 @@ use Rattle.demands.proofs.NeverOverfull.{never-overfull}
 use Rattle.demands.proofs.Graded.{demand2-records}
 use Rattle.demands.proofs.LargestOf.{demand3-largest-form}
 use Rattle.demands.proofs.NeverWorse.{demand3-fewer-defects}
-use Rattle.demands.proofs.Peach.{small-sheets}
-use Rattle.demands.proofs.FurtherSheets.{further-sheets}
+use Rattle.computed.proofs.Peach.{small-sheets}
+use Rattle.computed.proofs.FurtherSheets.{further-sheets}
 use Rattle.demands.proofs.Instances.{instances}
 
 pub demands : Demands

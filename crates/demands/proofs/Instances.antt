@@ -23,17 +23,17 @@ use Rattle.tally.proofs.Computing.{computing}
 use Rattle.demands.specs.Demand1.{StoppedAt, Listed}
 use Rattle.demands.specs.Demand2.{GradedByRules, codeOf}
 use Rattle.demands.specs.Demand3.{LargestOf, NeverWorse}
-use Rattle.demands.specs.WorkedCases.{peachPlan, peachUnits, peach}
-use Rattle.demands.specs.FurtherSheets.{breakBetweenUnits, grounds8And9, ground11ByLastRedesignation}
+use Rattle.computed.specs.WorkedCases.{peachPlan, peachUnits, peach}
+use Rattle.computed.specs.FurtherSheets.{breakBetweenUnits, grounds8And9, ground11ByLastRedesignation}
 use Rattle.demands.specs.Instances.{peachLeft, oneCriticalMore, fewerLeft, moreLeft, RefusedInstance, AcceptedInstance, GroundInstance, CourseInstance, CodeInstance, LargestInstance, FewerInstance, Instances}
 use Rattle.demands.proofs.Listed.{demand1}
 use Rattle.demands.proofs.Grounds.{demand2-grounds}
 use Rattle.demands.proofs.Graded.{demand2-records}
 use Rattle.demands.proofs.LargestOf.{demand3-largest-form}
 use Rattle.demands.proofs.NeverWorse.{demand3-fewer-defects}
-use Rattle.demands.proofs.Computed.{and-next, before-the-first}
-use Rattle.demands.proofs.WorkedCases.{worked-cases}
-use Rattle.demands.proofs.FurtherSheets.{further-sheets}
+use Rattle.computed.proofs.Computed.{and-next, before-the-first}
+use Rattle.computed.proofs.WorkedCases.{worked-cases}
+use Rattle.computed.proofs.FurtherSheets.{further-sheets}
 use Rattle.demands.proofs.AlikeExample.{threeAccepted, both-records, marks, an-example}
 
 -- ---- demand 1

@@ -11,11 +11,6 @@ pub mod Graded
 pub mod LargestOf
 pub mod AlikeSheets
 pub mod NeverWorse
-pub mod Computed
-pub mod FullSheet
-pub mod WorkedCases
-pub mod FurtherSheets
 pub mod AlikeExample
-pub mod Peach
 pub mod Instances
 pub mod Demands

@@ -6,8 +6,8 @@ use Rattle.demands.specs.Demand1.{Demand1}
 use Rattle.demands.specs.Grounds.{Demand2Grounds, NeverOverfull}
 use Rattle.demands.specs.Demand2.{Demand2Records}
 use Rattle.demands.specs.Demand3.{Demand3LargestForm, Demand3FewerDefects}
-use Rattle.demands.specs.Peach.{SmallSheets}
-use Rattle.demands.specs.FurtherSheets.{FurtherSheets}
+use Rattle.computed.specs.Peach.{SmallSheets}
+use Rattle.computed.specs.FurtherSheets.{FurtherSheets}
 use Rattle.demands.specs.Instances.{Instances}
 
 pub record Demands : Type 2 where

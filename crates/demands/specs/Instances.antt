@@ -19,8 +19,8 @@ use Rattle.demands.specs.Grounds.{toleranceIn, limitIn, Ground, row}
 use Rattle.demands.specs.Course.{Course, tenTimes, Rules}
 use Rattle.demands.specs.Demand2.{recordedPlanGrade}
 use Rattle.demands.specs.Demand3.{AnchorAt}
-use Rattle.demands.specs.WorkedCases.{peach, peachResults}
-use Rattle.demands.specs.FurtherSheets.{breakBetweenUnits, breakBetweenUnitsResults, grounds8And9, ground11ByLastRedesignation}
+use Rattle.computed.specs.WorkedCases.{peach, peachResults}
+use Rattle.computed.specs.FurtherSheets.{breakBetweenUnits, breakBetweenUnitsResults, grounds8And9, ground11ByLastRedesignation}
 
 -- ---- the sheets
 

@@ -4,8 +4,5 @@ pub mod Grounds
 pub mod Course
 pub mod Demand2
 pub mod Demand3
-pub mod WorkedCases
-pub mod FurtherSheets
-pub mod Peach
 pub mod Instances
 pub mod Demands

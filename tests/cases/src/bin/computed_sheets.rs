@@ -1,4 +1,4 @@
-//! Prints `crates/demands/specs/FurtherSheets.antt`: whole sheets in bytes, with the answers and the
+//! Prints `crates/computed/specs/FurtherSheets.antt`: whole sheets in bytes, with the answers and the
 //! result bytes that the independent grader gives for them, to be proved of the definitions by
 //! computation. Sizes and bytes are the grader's. What stands with each sheet by hand, from paper 01,
 //! holds the grader to what the sheet is to show: letters for an accepted one, else the number.
@@ -728,7 +728,7 @@ use mathlib.Core.List.{List, [], _∷_, _++_}
 use lib.ListN.{length, take, drop, set}
 use Rattle.results.specs.Record.{resultSize}
 use Rattle.tally.specs.Outcome.{outcome, refusal}
-use Rattle.demands.specs.WorkedCases.{peachPlan}
+use Rattle.computed.specs.WorkedCases.{peachPlan}
 
 -- a sheet is accepted with so many units, at its length, and these result records are in every buffer that has room for them; bytes
 -- behind the last one keep theirs

@@ -10,8 +10,8 @@ use Rattle.cusum.specs.declared.PlanNumbers.{PlanNumbers}
 use Rattle.cusum.proofs.Laws.{step-within}
 use Rattle.tally.specs.Outcome.{Outcome}
 use Rattle.tally.proofs.Computing.{computing}
-use Rattle.demands.proofs.Computed.{accepts}
-use Rattle.demands.specs.WorkedCases.{met, failed, stepsFrom, minorSheet, minorGraded, minorQualifies, peachPlan, peachUnits, peach, peachResults, oneUnit, WorkedCases}
+use Rattle.computed.proofs.Computed.{accepts}
+use Rattle.computed.specs.WorkedCases.{met, failed, stepsFrom, minorSheet, minorGraded, minorQualifies, peachPlan, peachUnits, peach, peachResults, oneUnit, WorkedCases}
 
 -- P3 to P5
 module _ (numbers : PlanNumbers) where

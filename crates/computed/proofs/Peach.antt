@@ -7,10 +7,10 @@ use native.Mathlib.Omega.{arith}
 use lib.ListN.{length, length-replicate}
 use Rattle.sheet.specs.Refusals.{mostUnits}
 use Rattle.results.specs.Record.{resultSize}
-use Rattle.demands.specs.WorkedCases.{peachPlan, peachUnits, peach, peachResults}
-use Rattle.demands.proofs.WorkedCases.{worked-cases}
+use Rattle.computed.specs.WorkedCases.{peachPlan, peachUnits, peach, peachResults}
+use Rattle.computed.proofs.WorkedCases.{worked-cases}
 use Rattle.lines.specs.Lines.{digits, decimal, oneDecimal, restOfLine, lineWith, lineOf, linesOf, emptyResults}
-use Rattle.demands.specs.Peach.{peachLines, PeachPrinted, SmallSheets}
+use Rattle.computed.specs.Peach.{peachLines, PeachPrinted, SmallSheets}
 use Rattle.lines.proofs.Printed.{lines-printed}
 
 seven-lines : (rest : List ℕ) → linesOf (peachResults ++ rest) 7 ≡ peachLines

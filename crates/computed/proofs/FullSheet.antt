@@ -18,8 +18,8 @@ use Rattle.sheet.specs.declared.Verdict.the-variants.{Refused}
 use Rattle.sheet.proofs.Grounds.{refusal-by-mark}
 use Rattle.sheet.proofs.Computing.{computing}
 use Rattle.tally.specs.Outcome.{outcomeBy, outcome, refusal}
-use Rattle.demands.specs.WorkedCases.{peachPlan}
-use Rattle.demands.specs.FurtherSheets.{repeated}
+use Rattle.computed.specs.WorkedCases.{peachPlan}
+use Rattle.computed.specs.FurtherSheets.{repeated}
 
 -- the record that is repeated: 1: 0,0,1,2;A;1
 abbrev oneRecord : List ℕ

@@ -7,7 +7,7 @@ use mathlib.Core.List.{List, [], _∷_, _++_}
 use lib.ListN.{length, take, drop, set}
 use Rattle.results.specs.Record.{resultSize}
 use Rattle.tally.specs.Outcome.{outcome, refusal}
-use Rattle.demands.specs.WorkedCases.{peachPlan}
+use Rattle.computed.specs.WorkedCases.{peachPlan}
 
 -- a sheet is accepted with so many units, at its length, and these result records are in every buffer that has room for them; bytes
 -- behind the last one keep theirs

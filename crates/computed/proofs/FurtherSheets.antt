@@ -4,10 +4,10 @@
 use mathlib.Core.Path.{refl}
 use lib.Dec.{lit<}
 use Rattle.tally.proofs.Computing.{computing}
-use Rattle.demands.specs.WorkedCases.{peachPlan}
-use Rattle.demands.specs.FurtherSheets.{BreakSheets, RedesignationSheets, UnitSheets, StepThreeSheets, RefusedSheets, FullSheets, FurtherSheets, ground12, grounds12And8, grounds7And12, breakBetweenUnits, breakBetweenUnitsResults, breakBetweenFailures, breakBetweenFailuresResults, breakInStepThree, breakInStepThreeResults, breakInRun, breakInRunResults, noUnit, noUnitResults, noUnitButRecords, noUnitButRecordsResults, redesignationOutsideStepThree, redesignationOutsideStepThreeResults, redesignationInStepThree, redesignationInStepThreeResults, redesignationInRun, redesignationInRunResults, redesignationToLowerGrade, redesignationToLowerGradeResults, redesignationBelowLowerGrade, redesignationBelowLowerGradeResults, redesignationWithoutPlan, redesignationWithoutPlanResults, bestLowerGrade, bestLowerGradeResults, designatedCFailedTwice, designatedCFailedTwiceResults, prerequisiteSubstandard, prerequisiteSubstandardResults, prerequisitesOfTwoFailures, prerequisitesOfTwoFailuresResults, totalAloneFails, totalAloneFailsResults, twoClassesFailInTurn, twoClassesFailInTurnResults, unitThatMeetsBetweenFailures, unitThatMeetsBetweenFailuresResults, codeMetAgain, codeMetAgainResults, startEqualToLimit, startEqualToLimitResults, failureInStepThree, failureInStepThreeResults, twoFailuresInStepThree, twoFailuresInStepThreeResults, aboveTolerance, aboveToleranceResults, cusumAboveZero, cusumAboveZeroResults, recovery, recoveryResults, recoveryWithoutPlan, recoveryWithoutPlanResults, afterStepThree, afterStepThreeResults, planCutShort, grounds1And2, grounds2And3, grounds3And4, grounds4And5, ground5BySum, ground5ByTolerance, oneByteLeft, secondPlan, markAlone, grounds7And8, grounds8And9, ground9Before8, recoverableAbove1, newGradeAboveC, ground11Before10, ground11ByLastRedesignation, ground11InStepThree, bufferWithoutRoom}
-use Rattle.demands.proofs.Computed.{accepts, without-room}
-use Rattle.demands.proofs.FullSheet.{cut-short, one-too-many}
+use Rattle.computed.specs.WorkedCases.{peachPlan}
+use Rattle.computed.specs.FurtherSheets.{BreakSheets, RedesignationSheets, UnitSheets, StepThreeSheets, RefusedSheets, FullSheets, FurtherSheets, ground12, grounds12And8, grounds7And12, breakBetweenUnits, breakBetweenUnitsResults, breakBetweenFailures, breakBetweenFailuresResults, breakInStepThree, breakInStepThreeResults, breakInRun, breakInRunResults, noUnit, noUnitResults, noUnitButRecords, noUnitButRecordsResults, redesignationOutsideStepThree, redesignationOutsideStepThreeResults, redesignationInStepThree, redesignationInStepThreeResults, redesignationInRun, redesignationInRunResults, redesignationToLowerGrade, redesignationToLowerGradeResults, redesignationBelowLowerGrade, redesignationBelowLowerGradeResults, redesignationWithoutPlan, redesignationWithoutPlanResults, bestLowerGrade, bestLowerGradeResults, designatedCFailedTwice, designatedCFailedTwiceResults, prerequisiteSubstandard, prerequisiteSubstandardResults, prerequisitesOfTwoFailures, prerequisitesOfTwoFailuresResults, totalAloneFails, totalAloneFailsResults, twoClassesFailInTurn, twoClassesFailInTurnResults, unitThatMeetsBetweenFailures, unitThatMeetsBetweenFailuresResults, codeMetAgain, codeMetAgainResults, startEqualToLimit, startEqualToLimitResults, failureInStepThree, failureInStepThreeResults, twoFailuresInStepThree, twoFailuresInStepThreeResults, aboveTolerance, aboveToleranceResults, cusumAboveZero, cusumAboveZeroResults, recovery, recoveryResults, recoveryWithoutPlan, recoveryWithoutPlanResults, afterStepThree, afterStepThreeResults, planCutShort, grounds1And2, grounds2And3, grounds3And4, grounds4And5, ground5BySum, ground5ByTolerance, oneByteLeft, secondPlan, markAlone, grounds7And8, grounds8And9, ground9Before8, recoverableAbove1, newGradeAboveC, ground11Before10, ground11ByLastRedesignation, ground11InStepThree, bufferWithoutRoom}
+use Rattle.computed.proofs.Computed.{accepts, without-room}
+use Rattle.computed.proofs.FullSheet.{cut-short, one-too-many}
 
 break-sheets : BreakSheets
 unfolding computing peachPlan breakBetweenUnits breakBetweenUnitsResults breakBetweenFailures breakBetweenFailuresResults breakInStepThree

@@ -1,0 +1,5 @@
+pub mod Computed
+pub mod FullSheet
+pub mod WorkedCases
+pub mod FurtherSheets
+pub mod Peach

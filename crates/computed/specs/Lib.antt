@@ -1,0 +1,3 @@
+pub mod WorkedCases
+pub mod FurtherSheets
+pub mod Peach
