@@ -1,12 +1,8 @@
 -- Sheets that are graded by computation: what is left to show once a sheet is known to pass numbers 1 to 12 is the room in the buffer.
--- What is computed of one record after the other holds of every record before a given one.
-use Prim.Native.Nat.{ℕ, suc, _*_, _<_, _≤_}
-use mathlib.Core.Path.{_≡_, sym, subst}
+use Prim.Native.Nat.{ℕ, _*_, _<_, _≤_}
+use mathlib.Core.Path.{_≡_}
 use mathlib.Core.Bool.{false}
 use mathlib.Core.List.{List}
-use mathlib.Core.Logic.{_⊎_, inl, inr}
-use native.Mathlib.Nat.{eq-or-lt-of-le, le-of-suc-le-suc}
-use native.Mathlib.Omega.{arith}
 use lib.ListN.{length}
 use borrow.Author.Tests.{lt-ltb, le-ltb}
 use Rattle.units.specs.Conditions.{pick}
@@ -27,16 +23,3 @@ module _ (bytes buffer : List ℕ) (records units : ℕ) (passes : verdict bytes
   pub without-room : length buffer < resultSize * units → outcome bytes buffer ≡ refusal 13 (length bytes) buffer
   unfolding pick outcomeBy outcome
   without-room short = rw (passes, lt-ltb (length buffer) (resultSize * units) short)
-
--- ---- one record after the other
-
--- what holds of the records before record n, and of record n
-pub and-next : (P : ℕ → Type 0) (n : ℕ) → ((i : ℕ) → i < n → P i) → P n → (i : ℕ) → i < suc n → P i
-and-next P n before here i h = go (eq-or-lt-of-le (le-of-suc-le-suc h))
-  where
-    go : (i ≡ n) ⊎ (i < n) → P i
-    go (inl same) = subst P (sym same) here
-    go (inr less) = before i less
-
-pub before-the-first : (P : ℕ → Type 0) (i : ℕ) → i < 0 → P i
-before-the-first P i h = absurd (omega arith)

@@ -5,19 +5,20 @@ use mathlib.Core.Path.{refl}
 use lib.Dec.{lit<}
 use Rattle.tally.proofs.Computing.{computing}
 use Rattle.computed.specs.WorkedCases.{peachPlan}
-use Rattle.computed.specs.FurtherSheets.{BreakSheets, RedesignationSheets, UnitSheets, StepThreeSheets, RefusedSheets, FullSheets, FurtherSheets, ground12, grounds12And8, grounds7And12, breakBetweenUnits, breakBetweenUnitsResults, breakBetweenFailures, breakBetweenFailuresResults, breakInStepThree, breakInStepThreeResults, breakInRun, breakInRunResults, noUnit, noUnitResults, noUnitButRecords, noUnitButRecordsResults, redesignationOutsideStepThree, redesignationOutsideStepThreeResults, redesignationInStepThree, redesignationInStepThreeResults, redesignationInRun, redesignationInRunResults, redesignationToLowerGrade, redesignationToLowerGradeResults, redesignationBelowLowerGrade, redesignationBelowLowerGradeResults, redesignationWithoutPlan, redesignationWithoutPlanResults, bestLowerGrade, bestLowerGradeResults, designatedCFailedTwice, designatedCFailedTwiceResults, prerequisiteSubstandard, prerequisiteSubstandardResults, prerequisitesOfTwoFailures, prerequisitesOfTwoFailuresResults, totalAloneFails, totalAloneFailsResults, twoClassesFailInTurn, twoClassesFailInTurnResults, unitThatMeetsBetweenFailures, unitThatMeetsBetweenFailuresResults, codeMetAgain, codeMetAgainResults, startEqualToLimit, startEqualToLimitResults, failureInStepThree, failureInStepThreeResults, twoFailuresInStepThree, twoFailuresInStepThreeResults, aboveTolerance, aboveToleranceResults, cusumAboveZero, cusumAboveZeroResults, recovery, recoveryResults, recoveryWithoutPlan, recoveryWithoutPlanResults, afterStepThree, afterStepThreeResults, planCutShort, grounds1And2, grounds2And3, grounds3And4, grounds4And5, ground5BySum, ground5ByTolerance, oneByteLeft, secondPlan, markAlone, grounds7And8, grounds8And9, ground9Before8, recoverableAbove1, newGradeAboveC, ground11Before10, ground11ByLastRedesignation, ground11InStepThree, bufferWithoutRoom}
+use Rattle.computed.specs.FurtherSheets.{BreakSheets, RedesignationSheets, UnitSheets, StepThreeSheets, FewerDefectSheets, RefusedSheets, FullSheets, FurtherSheets, ground12, grounds12And8, grounds7And12, breakBetweenUnits, breakBetweenUnitsResults, breakBetweenFailures, breakBetweenFailuresResults, breakInStepThree, breakInStepThreeResults, breakInRun, breakInRunResults, breakWithoutPlan, breakWithoutPlanResults, noUnit, noUnitResults, noUnitButRecords, noUnitButRecordsResults, redesignationOutsideStepThree, redesignationOutsideStepThreeResults, redesignationInStepThree, redesignationInStepThreeResults, redesignationInRun, redesignationInRunResults, redesignationToLowerGrade, redesignationToLowerGradeResults, redesignationBelowLowerGrade, redesignationBelowLowerGradeResults, redesignationWithoutPlan, redesignationWithoutPlanResults, redesignationAfterStepThree, redesignationAfterStepThreeResults, everyKindOfRecord, everyKindOfRecordResults, bestLowerGrade, bestLowerGradeResults, designatedCFailedTwice, designatedCFailedTwiceResults, prerequisiteSubstandard, prerequisiteSubstandardResults, prerequisitesOfTwoFailures, prerequisitesOfTwoFailuresResults, totalAloneFails, totalAloneFailsResults, twoClassesFailInTurn, twoClassesFailInTurnResults, unitThatMeetsBetweenFailures, unitThatMeetsBetweenFailuresResults, codeMetAgain, codeMetAgainResults, startEqualToLimit, startEqualToLimitResults, cusumsOfTwoBytes, cusumsOfTwoBytesResults, p1InBytes, p1InBytesResults, failureInStepThree, failureInStepThreeResults, lowerThanPlanInForce, lowerThanPlanInForceResults, twoFailuresInStepThree, twoFailuresInStepThreeResults, aboveTolerance, aboveToleranceResults, cusumAboveZero, cusumAboveZeroResults, recovery, recoveryResults, recoveryWithoutPlan, recoveryWithoutPlanResults, afterStepThree, afterStepThreeResults, p7AndP8InBytes, p7AndP8InBytesResults, oneMinorDefectFewer, oneMinorDefectFewerResults, oneSevereDefectFewer, oneSevereDefectFewerResults, planCutShort, grounds1And2, grounds2And3, grounds3And4, grounds4And5, ground5BySum, ground5ByTolerance, oneByteLeft, secondPlan, markAlone, grounds7And8, grounds8And9, ground9Before8, recoverableAbove1, newGradeAboveC, ground11Before10, ground11ByLastRedesignation, ground11InStepThree, bufferWithoutRoom}
 use Rattle.computed.proofs.Computed.{accepts, without-room}
 use Rattle.computed.proofs.FullSheet.{cut-short, one-too-many}
 
 break-sheets : BreakSheets
 unfolding computing peachPlan breakBetweenUnits breakBetweenUnitsResults breakBetweenFailures breakBetweenFailuresResults breakInStepThree
-    breakInStepThreeResults breakInRun breakInRunResults noUnit noUnitResults noUnitButRecords noUnitButRecordsResults
+    breakInStepThreeResults breakInRun breakInRunResults breakWithoutPlan breakWithoutPlanResults noUnit noUnitResults noUnitButRecords noUnitButRecordsResults
 break-sheets =
     record {
       break-between-units = λ buffer holds. accepts breakBetweenUnits buffer 4 3 refl holds refl;
       break-between-failures = λ buffer holds. accepts breakBetweenFailures buffer 4 3 refl holds refl;
       break-in-step-three = λ buffer holds. accepts breakInStepThree buffer 5 4 refl holds refl;
       break-in-run = λ buffer holds. accepts breakInRun buffer 7 6 refl holds refl;
+      break-without-plan = λ buffer holds. accepts breakWithoutPlan buffer 8 7 refl holds refl;
       no-unit = λ buffer holds. accepts noUnit buffer 0 0 refl holds refl;
       no-unit-but-records = λ buffer holds. accepts noUnitButRecords buffer 4 0 refl holds refl;
     }
@@ -26,6 +27,7 @@ redesignation-sheets : RedesignationSheets
 unfolding computing peachPlan redesignationOutsideStepThree redesignationOutsideStepThreeResults redesignationInStepThree
     redesignationInStepThreeResults redesignationInRun redesignationInRunResults redesignationToLowerGrade redesignationToLowerGradeResults
     redesignationBelowLowerGrade redesignationBelowLowerGradeResults redesignationWithoutPlan redesignationWithoutPlanResults
+    redesignationAfterStepThree redesignationAfterStepThreeResults everyKindOfRecord everyKindOfRecordResults
 redesignation-sheets =
     record {
       redesignation-outside-step-three = λ buffer holds. accepts redesignationOutsideStepThree buffer 4 3 refl holds refl;
@@ -34,13 +36,15 @@ redesignation-sheets =
       redesignation-to-lower-grade = λ buffer holds. accepts redesignationToLowerGrade buffer 5 4 refl holds refl;
       redesignation-below-lower-grade = λ buffer holds. accepts redesignationBelowLowerGrade buffer 5 4 refl holds refl;
       redesignation-without-plan = λ buffer holds. accepts redesignationWithoutPlan buffer 7 6 refl holds refl;
+      redesignation-after-step-three = λ buffer holds. accepts redesignationAfterStepThree buffer 7 6 refl holds refl;
+      every-kind-of-record = λ buffer holds. accepts everyKindOfRecord buffer 9 6 refl holds refl;
     }
 
 unit-sheets : UnitSheets
 unfolding computing peachPlan bestLowerGrade bestLowerGradeResults designatedCFailedTwice designatedCFailedTwiceResults prerequisiteSubstandard
     prerequisiteSubstandardResults prerequisitesOfTwoFailures prerequisitesOfTwoFailuresResults totalAloneFails totalAloneFailsResults
     twoClassesFailInTurn twoClassesFailInTurnResults unitThatMeetsBetweenFailures unitThatMeetsBetweenFailuresResults codeMetAgain codeMetAgainResults
-    startEqualToLimit startEqualToLimitResults
+    startEqualToLimit startEqualToLimitResults cusumsOfTwoBytes cusumsOfTwoBytesResults p1InBytes p1InBytesResults
 unit-sheets =
     record {
       best-lower-grade = λ buffer holds. accepts bestLowerGrade buffer 7 4 refl holds refl;
@@ -52,21 +56,33 @@ unit-sheets =
       unit-that-meets-between-failures = λ buffer holds. accepts unitThatMeetsBetweenFailures buffer 4 4 refl holds refl;
       code-met-again = λ buffer holds. accepts codeMetAgain buffer 4 4 refl holds refl;
       start-equal-to-limit = λ buffer holds. accepts startEqualToLimit buffer 2 2 refl holds refl;
+      cusums-of-two-bytes = λ buffer holds. accepts cusumsOfTwoBytes buffer 3 3 refl holds refl;
+      p1-in-bytes = λ buffer holds. accepts p1InBytes buffer 5 5 refl holds refl;
     }
 
 step-three-sheets : StepThreeSheets
-unfolding computing peachPlan failureInStepThree failureInStepThreeResults twoFailuresInStepThree twoFailuresInStepThreeResults aboveTolerance
+unfolding computing peachPlan failureInStepThree failureInStepThreeResults lowerThanPlanInForce lowerThanPlanInForceResults twoFailuresInStepThree twoFailuresInStepThreeResults aboveTolerance
     aboveToleranceResults cusumAboveZero cusumAboveZeroResults recovery recoveryResults recoveryWithoutPlan recoveryWithoutPlanResults afterStepThree
-    afterStepThreeResults
+    afterStepThreeResults p7AndP8InBytes p7AndP8InBytesResults
 step-three-sheets =
     record {
       failure-in-step-three = λ buffer holds. accepts failureInStepThree buffer 4 4 refl holds refl;
+      lower-than-plan-in-force = λ buffer holds. accepts lowerThanPlanInForce buffer 4 4 refl holds refl;
       two-failures-in-step-three = λ buffer holds. accepts twoFailuresInStepThree buffer 5 5 refl holds refl;
       above-tolerance = λ buffer holds. accepts aboveTolerance buffer 6 6 refl holds refl;
       cusum-above-zero = λ buffer holds. accepts cusumAboveZero buffer 6 6 refl holds refl;
       recovery = λ buffer holds. accepts recovery buffer 6 6 refl holds refl;
       recovery-without-plan = λ buffer holds. accepts recoveryWithoutPlan buffer 7 7 refl holds refl;
       after-step-three = λ buffer holds. accepts afterStepThree buffer 7 7 refl holds refl;
+      p7-and-p8-in-bytes = λ buffer holds. accepts p7AndP8InBytes buffer 8 8 refl holds refl;
+    }
+
+fewer-defect-sheets : FewerDefectSheets
+unfolding computing peachPlan oneMinorDefectFewer oneMinorDefectFewerResults oneSevereDefectFewer oneSevereDefectFewerResults
+fewer-defect-sheets =
+    record {
+      one-minor-defect-fewer = λ buffer holds. accepts oneMinorDefectFewer buffer 4 3 refl holds refl;
+      one-severe-defect-fewer = λ buffer holds. accepts oneSevereDefectFewer buffer 7 7 refl holds refl;
     }
 
 refused-sheets : RefusedSheets
@@ -112,6 +128,7 @@ further-sheets =
       redesignations = redesignation-sheets;
       units = unit-sheets;
       step-three = step-three-sheets;
+      fewer-defects = fewer-defect-sheets;
       refusals = refused-sheets;
       full = full-sheets;
     }

@@ -3,3 +3,4 @@ pub mod FullSheet
 pub mod WorkedCases
 pub mod FurtherSheets
 pub mod Peach
+pub mod Printed

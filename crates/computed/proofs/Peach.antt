@@ -17,13 +17,17 @@ seven-lines : (rest : List ℕ) → linesOf (peachResults ++ rest) 7 ≡ peachLi
 unfolding peachResults peachLines digits decimal oneDecimal restOfLine lineWith lineOf linesOf
 seven-lines rest = refl
 
+-- the buffer that is printed from has room for every sheet
+pub room : (units : ℕ) → units ≤ mostUnits → resultSize * units ≤ length emptyResults
+unfolding emptyResults
+room units most = omega (arith, length-replicate {A = ℕ} (resultSize * mostUnits) 0)
+
 pub peach-printed : PeachPrinted
-unfolding peachPlan peachUnits peach peachResults emptyResults
+unfolding peachPlan peachUnits peach peachResults
 peach-printed =
-    let room : resultSize * 7 ≤ length emptyResults = omega (arith, length-replicate {A = ℕ} (resultSize * mostUnits) 0) in
     record {
       records-lines = seven-lines [];
-      sheet-lines = lines-printed peach _ _ (sym (worked-cases .p10 emptyResults room)) (omega arith) refl ∙ seven-lines _;
+      sheet-lines = lines-printed peach _ _ (sym (worked-cases .p10 emptyResults (room 7 (omega arith)))) (omega arith) refl ∙ seven-lines _;
     }
 
 pub small-sheets : SmallSheets

@@ -7,6 +7,8 @@ use mathlib.Core.List.{List, [], _∷_, _++_}
 use lib.ListN.{length, take, drop, set}
 use Rattle.results.specs.Record.{resultSize}
 use Rattle.tally.specs.Outcome.{outcome, refusal}
+use Rattle.lines.specs.Ascii.{ascii}
+use Rattle.lines.specs.Lines.{linesOf, printed}
 use Rattle.computed.specs.WorkedCases.{peachPlan}
 
 -- a sheet is accepted with so many units, at its length, and these result records are in every buffer that has room for them; bytes
@@ -115,6 +117,32 @@ breakInRunResults =
     ∷ 0x47 ∷ 0x52 ∷ 0 ∷ 6 ∷ 1 ∷ 1 ∷ 1 ∷ 2 ∷ 0 ∷ 0 ∷ 0 ∷ 0 ∷ 0 ∷ 0 ∷ 0 ∷ 0  -- 6 6 B B u B 0.0 0.0 0.0 0.0
     ∷ []
 
+-- Without a plan a break sets the run to none as well, else units 3 to 5 would be recovered; and
+-- it does not end step 3.
+unfoldable pub breakWithoutPlan : List ℕ
+breakWithoutPlan =
+    peachPlan
+    ++ (0x53 ∷ 0x55 ∷ 0 ∷ 1 ∷ 0 ∷ 5 ∷ 0 ∷ 0 ∷ 0 ∷ 0 ∷ 0 ∷ 0 ∷ 0 ∷ 1  -- 1: 5,0,0,0;A;1
+    ∷ 0x53 ∷ 0x55 ∷ 0 ∷ 2 ∷ 0 ∷ 5 ∷ 0 ∷ 0 ∷ 0 ∷ 0 ∷ 0 ∷ 0 ∷ 0 ∷ 1  -- 2: 5,0,0,0;A;1
+    ∷ 0x53 ∷ 0x55 ∷ 0 ∷ 3 ∷ 0 ∷ 0 ∷ 0 ∷ 0 ∷ 0 ∷ 1 ∷ 0 ∷ 2 ∷ 0 ∷ 1  -- 3: 0,0,1,2;A;1
+    ∷ 0x53 ∷ 0x55 ∷ 0 ∷ 4 ∷ 0 ∷ 0 ∷ 0 ∷ 0 ∷ 0 ∷ 1 ∷ 0 ∷ 2 ∷ 0 ∷ 1  -- 4: 0,0,1,2;A;1
+    ∷ 0x42 ∷ 0x4B  -- break
+    ∷ 0x53 ∷ 0x55 ∷ 0 ∷ 5 ∷ 0 ∷ 0 ∷ 0 ∷ 0 ∷ 0 ∷ 1 ∷ 0 ∷ 2 ∷ 0 ∷ 1  -- 5: 0,0,1,2;A;1
+    ∷ 0x53 ∷ 0x55 ∷ 0 ∷ 6 ∷ 0 ∷ 0 ∷ 0 ∷ 0 ∷ 0 ∷ 1 ∷ 0 ∷ 2 ∷ 0 ∷ 1  -- 6: 0,0,1,2;A;1
+    ∷ 0x53 ∷ 0x55 ∷ 0 ∷ 7 ∷ 0 ∷ 0 ∷ 0 ∷ 0 ∷ 0 ∷ 1 ∷ 0 ∷ 2 ∷ 0 ∷ 1  -- 7: 0,0,1,2;A;1
+    ∷ [])
+
+unfoldable pub breakWithoutPlanResults : List ℕ
+breakWithoutPlanResults =
+    0x47 ∷ 0x52 ∷ 0 ∷ 1 ∷ 3 ∷ 3 ∷ 0 ∷ 1 ∷ 0 ∷ 5 ∷ 0 ∷ 0 ∷ 0 ∷ 0 ∷ 0 ∷ 0  -- 1 1 S S f A 0.5 0.0 0.0 0.0
+    ∷ 0x47 ∷ 0x52 ∷ 0 ∷ 2 ∷ 3 ∷ 3 ∷ 0 ∷ 1 ∷ 0 ∷ 5 ∷ 0 ∷ 0 ∷ 0 ∷ 0 ∷ 0 ∷ 0  -- 2 2 S S f A 0.5 0.0 0.0 0.0
+    ∷ 0x47 ∷ 0x52 ∷ 0 ∷ 3 ∷ 3 ∷ 3 ∷ 3 ∷ 2 ∷ 0 ∷ 0 ∷ 0 ∷ 0 ∷ 0 ∷ 0 ∷ 0 ∷ 0  -- 3 3 S S u S 0.0 0.0 0.0 0.0
+    ∷ 0x47 ∷ 0x52 ∷ 0 ∷ 4 ∷ 3 ∷ 3 ∷ 3 ∷ 2 ∷ 0 ∷ 0 ∷ 0 ∷ 0 ∷ 0 ∷ 0 ∷ 0 ∷ 0  -- 4 4 S S u S 0.0 0.0 0.0 0.0
+    ∷ 0x47 ∷ 0x52 ∷ 0 ∷ 5 ∷ 0 ∷ 0 ∷ 3 ∷ 3 ∷ 0 ∷ 0 ∷ 0 ∷ 0 ∷ 0 ∷ 0 ∷ 0 ∷ 0  -- 5 5 A A r S 0.0 0.0 0.0 0.0
+    ∷ 0x47 ∷ 0x52 ∷ 0 ∷ 6 ∷ 0 ∷ 0 ∷ 3 ∷ 3 ∷ 0 ∷ 0 ∷ 0 ∷ 0 ∷ 0 ∷ 0 ∷ 0 ∷ 0  -- 6 6 A A r S 0.0 0.0 0.0 0.0
+    ∷ 0x47 ∷ 0x52 ∷ 0 ∷ 7 ∷ 0 ∷ 0 ∷ 3 ∷ 3 ∷ 0 ∷ 0 ∷ 0 ∷ 0 ∷ 0 ∷ 0 ∷ 0 ∷ 0  -- 7 7 A A r S 0.0 0.0 0.0 0.0
+    ∷ []
+
 -- The plan alone: accepted, and every buffer is kept as it is.
 unfoldable pub noUnit : List ℕ
 noUnit = peachPlan
@@ -140,6 +168,7 @@ pub record BreakSheets : Type 0 where
   pub break-between-failures : Graded breakBetweenFailures 3 119 breakBetweenFailuresResults
   pub break-in-step-three : Graded breakInStepThree 4 133 breakInStepThreeResults
   pub break-in-run : Graded breakInRun 6 161 breakInRunResults
+  pub break-without-plan : Graded breakWithoutPlan 7 175 breakWithoutPlanResults
   pub no-unit : Graded noUnit 0 75 noUnitResults
   pub no-unit-but-records : Graded noUnitButRecords 0 85 noUnitButRecordsResults
 
@@ -272,6 +301,56 @@ redesignationWithoutPlanResults =
     ∷ 0x47 ∷ 0x52 ∷ 0 ∷ 6 ∷ 2 ∷ 2 ∷ 3 ∷ 3 ∷ 0 ∷ 0 ∷ 0 ∷ 0 ∷ 0 ∷ 0 ∷ 0 ∷ 0  -- 6 6 C C r S 0.0 0.0 0.0 0.0
     ∷ []
 
+-- Unit 5 is the third that qualifies: units 3 to 5 get A, which is designated there, and not B.
+-- The redesignation is outside step 3 and starts B at S: from zero unit 6 would have lower CuSums.
+unfoldable pub redesignationAfterStepThree : List ℕ
+redesignationAfterStepThree =
+    peachPlan
+    ++ (0x53 ∷ 0x55 ∷ 0 ∷ 1 ∷ 0 ∷ 0 ∷ 0 ∷ 0 ∷ 0 ∷ 0 ∷ 0 ∷ 12 ∷ 0 ∷ 1  -- 1: 0,0,0,12;A;1
+    ∷ 0x53 ∷ 0x55 ∷ 0 ∷ 2 ∷ 0 ∷ 0 ∷ 0 ∷ 0 ∷ 0 ∷ 0 ∷ 0 ∷ 12 ∷ 0 ∷ 1  -- 2: 0,0,0,12;A;1
+    ∷ 0x53 ∷ 0x55 ∷ 0 ∷ 3 ∷ 0 ∷ 0 ∷ 0 ∷ 0 ∷ 0 ∷ 1 ∷ 0 ∷ 2 ∷ 0 ∷ 1  -- 3: 0,0,1,2;A;1
+    ∷ 0x53 ∷ 0x55 ∷ 0 ∷ 4 ∷ 0 ∷ 0 ∷ 0 ∷ 0 ∷ 0 ∷ 1 ∷ 0 ∷ 2 ∷ 0 ∷ 1  -- 4: 0,0,1,2;A;1
+    ∷ 0x53 ∷ 0x55 ∷ 0 ∷ 5 ∷ 0 ∷ 0 ∷ 0 ∷ 0 ∷ 0 ∷ 1 ∷ 0 ∷ 2 ∷ 0 ∷ 1  -- 5: 0,0,1,2;A;1
+    ∷ 0x52 ∷ 0x44 ∷ 1  -- redesignation to B
+    ∷ 0x53 ∷ 0x55 ∷ 0 ∷ 6 ∷ 0 ∷ 0 ∷ 0 ∷ 3 ∷ 0 ∷ 5 ∷ 0 ∷ 5 ∷ 0 ∷ 1  -- 6: 0,3,5,5;A;1
+    ∷ [])
+
+unfoldable pub redesignationAfterStepThreeResults : List ℕ
+redesignationAfterStepThreeResults =
+    0x47 ∷ 0x52 ∷ 0 ∷ 1 ∷ 1 ∷ 1 ∷ 0 ∷ 1 ∷ 0 ∷ 0 ∷ 0 ∷ 0 ∷ 0 ∷ 0 ∷ 0 ∷ 40  -- 1 1 B B f A 0.0 0.0 0.0 4.0
+    ∷ 0x47 ∷ 0x52 ∷ 0 ∷ 2 ∷ 1 ∷ 1 ∷ 0 ∷ 1 ∷ 0 ∷ 0 ∷ 0 ∷ 0 ∷ 0 ∷ 0 ∷ 0 ∷ 40  -- 2 2 B B f A 0.0 0.0 0.0 4.0
+    ∷ 0x47 ∷ 0x52 ∷ 0 ∷ 3 ∷ 0 ∷ 0 ∷ 1 ∷ 3 ∷ 0 ∷ 0 ∷ 0 ∷ 0 ∷ 0 ∷ 0 ∷ 0 ∷ 0  -- 3 3 A A r B 0.0 0.0 0.0 0.0
+    ∷ 0x47 ∷ 0x52 ∷ 0 ∷ 4 ∷ 0 ∷ 0 ∷ 1 ∷ 3 ∷ 0 ∷ 0 ∷ 0 ∷ 0 ∷ 0 ∷ 0 ∷ 0 ∷ 0  -- 4 4 A A r B 0.0 0.0 0.0 0.0
+    ∷ 0x47 ∷ 0x52 ∷ 0 ∷ 5 ∷ 0 ∷ 0 ∷ 1 ∷ 3 ∷ 0 ∷ 0 ∷ 0 ∷ 0 ∷ 0 ∷ 0 ∷ 0 ∷ 0  -- 5 5 A A r B 0.0 0.0 0.0 0.0
+    ∷ 0x47 ∷ 0x52 ∷ 0 ∷ 6 ∷ 1 ∷ 1 ∷ 1 ∷ 0 ∷ 0 ∷ 0 ∷ 0 ∷ 10 ∷ 0 ∷ 10 ∷ 0 ∷ 30  -- 6 6 B B m B 0.0 1.0 1.0 3.0
+    ∷ []
+
+-- B is better than C, so that step 3 goes on at C; C is not, and ends it. Then C fails twice, and
+-- unit 6 has no plan. Code 300 is met again in unit 6, which grades lower than unit 1.
+unfoldable pub everyKindOfRecord : List ℕ
+everyKindOfRecord =
+    peachPlan
+    ++ (0x53 ∷ 0x55 ∷ 1 ∷ 44 ∷ 0 ∷ 0 ∷ 0 ∷ 0 ∷ 0 ∷ 0 ∷ 0 ∷ 18 ∷ 0 ∷ 1  -- 300: 0,0,0,18;A;1
+    ∷ 0x53 ∷ 0x55 ∷ 0 ∷ 2 ∷ 0 ∷ 0 ∷ 0 ∷ 0 ∷ 0 ∷ 0 ∷ 0 ∷ 12 ∷ 0 ∷ 1  -- 2: 0,0,0,12;A;1
+    ∷ 0x52 ∷ 0x44 ∷ 1  -- redesignation to B
+    ∷ 0x53 ∷ 0x55 ∷ 0 ∷ 3 ∷ 0 ∷ 0 ∷ 0 ∷ 6 ∷ 0 ∷ 7 ∷ 0 ∷ 5 ∷ 0 ∷ 1  -- 3: 0,6,7,5;A;1
+    ∷ 0x52 ∷ 0x44 ∷ 2  -- redesignation to C
+    ∷ 0x53 ∷ 0x55 ∷ 0 ∷ 4 ∷ 0 ∷ 0 ∷ 0 ∷ 8 ∷ 0 ∷ 0 ∷ 0 ∷ 0 ∷ 0 ∷ 1  -- 4: 0,8,0,0;A;1
+    ∷ 0x53 ∷ 0x55 ∷ 0 ∷ 5 ∷ 0 ∷ 0 ∷ 0 ∷ 8 ∷ 0 ∷ 9 ∷ 0 ∷ 0 ∷ 0 ∷ 1  -- 5: 0,8,9,0;A;1
+    ∷ 0x42 ∷ 0x4B  -- break
+    ∷ 0x53 ∷ 0x55 ∷ 1 ∷ 44 ∷ 0 ∷ 0 ∷ 0 ∷ 0 ∷ 0 ∷ 1 ∷ 0 ∷ 2 ∷ 0 ∷ 1  -- 300: 0,0,1,2;A;1
+    ∷ [])
+
+unfoldable pub everyKindOfRecordResults : List ℕ
+everyKindOfRecordResults =
+    0x47 ∷ 0x52 ∷ 1 ∷ 44 ∷ 2 ∷ 3 ∷ 0 ∷ 1 ∷ 0 ∷ 0 ∷ 0 ∷ 0 ∷ 0 ∷ 0 ∷ 0 ∷ 40  -- 1 300 C S f A 0.0 0.0 0.0 4.0
+    ∷ 0x47 ∷ 0x52 ∷ 0 ∷ 2 ∷ 1 ∷ 1 ∷ 0 ∷ 1 ∷ 0 ∷ 0 ∷ 0 ∷ 0 ∷ 0 ∷ 0 ∷ 0 ∷ 40  -- 2 2 B B f A 0.0 0.0 0.0 4.0
+    ∷ 0x47 ∷ 0x52 ∷ 0 ∷ 3 ∷ 2 ∷ 2 ∷ 2 ∷ 2 ∷ 0 ∷ 0 ∷ 0 ∷ 20 ∷ 0 ∷ 20 ∷ 0 ∷ 30  -- 3 3 C C u C 0.0 2.0 2.0 3.0
+    ∷ 0x47 ∷ 0x52 ∷ 0 ∷ 4 ∷ 3 ∷ 3 ∷ 2 ∷ 1 ∷ 0 ∷ 0 ∷ 0 ∷ 30 ∷ 0 ∷ 0 ∷ 0 ∷ 0  -- 4 4 S S f C 0.0 3.0 0.0 0.0
+    ∷ 0x47 ∷ 0x52 ∷ 0 ∷ 5 ∷ 3 ∷ 3 ∷ 2 ∷ 1 ∷ 0 ∷ 0 ∷ 0 ∷ 30 ∷ 0 ∷ 30 ∷ 0 ∷ 0  -- 5 5 S S f C 0.0 3.0 3.0 0.0
+    ∷ 0x47 ∷ 0x52 ∷ 1 ∷ 44 ∷ 3 ∷ 3 ∷ 3 ∷ 2 ∷ 0 ∷ 0 ∷ 0 ∷ 0 ∷ 0 ∷ 0 ∷ 0 ∷ 0  -- 6 300 S S u S 0.0 0.0 0.0 0.0
+    ∷ []
+
 pub record RedesignationSheets : Type 0 where
   pub redesignation-outside-step-three : Graded redesignationOutsideStepThree 3 120 redesignationOutsideStepThreeResults
   pub redesignation-in-step-three : Graded redesignationInStepThree 4 134 redesignationInStepThreeResults
@@ -279,6 +358,8 @@ pub record RedesignationSheets : Type 0 where
   pub redesignation-to-lower-grade : Graded redesignationToLowerGrade 4 134 redesignationToLowerGradeResults
   pub redesignation-below-lower-grade : Graded redesignationBelowLowerGrade 4 134 redesignationBelowLowerGradeResults
   pub redesignation-without-plan : Graded redesignationWithoutPlan 6 162 redesignationWithoutPlanResults
+  pub redesignation-after-step-three : Graded redesignationAfterStepThree 6 162 redesignationAfterStepThreeResults
+  pub every-kind-of-record : Graded everyKindOfRecord 6 167 everyKindOfRecordResults
 
 -- ---- defect grades, portion grades, code grades; what begins step 3
 
@@ -443,6 +524,45 @@ startEqualToLimitResults =
     ∷ 0x47 ∷ 0x52 ∷ 0 ∷ 2 ∷ 1 ∷ 1 ∷ 0 ∷ 1 ∷ 0 ∷ 0 ∷ 0 ∷ 10 ∷ 0 ∷ 30 ∷ 0 ∷ 40  -- 2 2 B B f A 0.0 1.0 3.0 4.0
     ∷ []
 
+-- S, CuSums and L above 25.5 have both bytes: 25.6, 59.6, and 60.0 at the failure.
+-- The peach plan, but total at A 25.6/6/60, total at B 2/12/60, total at C 2/17/60.
+unfoldable pub cusumsOfTwoBytes : List ℕ
+cusumsOfTwoBytes =
+    set (set (set (set (set (set (set (set peachPlan 21 1) 22 0) 25 2) 26 88) 49 2) 50 88) 73 2) 74 88
+    ++ (0x53 ∷ 0x55 ∷ 0 ∷ 1 ∷ 0 ∷ 0 ∷ 0 ∷ 0 ∷ 0 ∷ 0 ∷ 0 ∷ 6 ∷ 0 ∷ 1  -- 1: 0,0,0,6;A;1
+    ∷ 0x53 ∷ 0x55 ∷ 0 ∷ 2 ∷ 0 ∷ 0 ∷ 0 ∷ 0 ∷ 0 ∷ 0 ∷ 0 ∷ 40 ∷ 0 ∷ 1  -- 2: 0,0,0,40;A;1
+    ∷ 0x53 ∷ 0x55 ∷ 0 ∷ 3 ∷ 0 ∷ 0 ∷ 0 ∷ 0 ∷ 0 ∷ 0 ∷ 0 ∷ 7 ∷ 0 ∷ 1  -- 3: 0,0,0,7;A;1
+    ∷ [])
+
+unfoldable pub cusumsOfTwoBytesResults : List ℕ
+cusumsOfTwoBytesResults =
+    0x47 ∷ 0x52 ∷ 0 ∷ 1 ∷ 0 ∷ 0 ∷ 0 ∷ 0 ∷ 0 ∷ 0 ∷ 0 ∷ 0 ∷ 0 ∷ 0 ∷ 1 ∷ 0  -- 1 1 A A m A 0.0 0.0 0.0 25.6
+    ∷ 0x47 ∷ 0x52 ∷ 0 ∷ 2 ∷ 0 ∷ 0 ∷ 0 ∷ 0 ∷ 0 ∷ 0 ∷ 0 ∷ 0 ∷ 0 ∷ 0 ∷ 2 ∷ 84  -- 2 2 A A m A 0.0 0.0 0.0 59.6
+    ∷ 0x47 ∷ 0x52 ∷ 0 ∷ 3 ∷ 1 ∷ 1 ∷ 0 ∷ 1 ∷ 0 ∷ 0 ∷ 0 ∷ 0 ∷ 0 ∷ 0 ∷ 2 ∷ 88  -- 3 3 B B f A 0.0 0.0 0.0 60.0
+    ∷ []
+
+-- P1 and P2 in the class total, with minor defects alone: 1/3/3, counts 8,3,2,1,12: CuSums 3
+-- (fails),3,2,0,3 (fails). T+L at B 10 and at C 13: the 8 grades B, the 12 C.
+-- The peach plan, but total at A 1/3/3, total at B 2/6/4, total at C 2/7/6.
+unfoldable pub p1InBytes : List ℕ
+p1InBytes =
+    set (set (set (set (set (set peachPlan 24 30) 26 30) 48 60) 50 40) 72 70) 74 60
+    ++ (0x53 ∷ 0x55 ∷ 0 ∷ 1 ∷ 0 ∷ 0 ∷ 0 ∷ 0 ∷ 0 ∷ 0 ∷ 0 ∷ 8 ∷ 0 ∷ 1  -- 1: 0,0,0,8;A;1
+    ∷ 0x53 ∷ 0x55 ∷ 0 ∷ 2 ∷ 0 ∷ 0 ∷ 0 ∷ 0 ∷ 0 ∷ 0 ∷ 0 ∷ 3 ∷ 0 ∷ 1  -- 2: 0,0,0,3;A;1
+    ∷ 0x53 ∷ 0x55 ∷ 0 ∷ 3 ∷ 0 ∷ 0 ∷ 0 ∷ 0 ∷ 0 ∷ 0 ∷ 0 ∷ 2 ∷ 0 ∷ 1  -- 3: 0,0,0,2;A;1
+    ∷ 0x53 ∷ 0x55 ∷ 0 ∷ 4 ∷ 0 ∷ 0 ∷ 0 ∷ 0 ∷ 0 ∷ 0 ∷ 0 ∷ 1 ∷ 0 ∷ 1  -- 4: 0,0,0,1;A;1
+    ∷ 0x53 ∷ 0x55 ∷ 0 ∷ 5 ∷ 0 ∷ 0 ∷ 0 ∷ 0 ∷ 0 ∷ 0 ∷ 0 ∷ 12 ∷ 0 ∷ 1  -- 5: 0,0,0,12;A;1
+    ∷ [])
+
+unfoldable pub p1InBytesResults : List ℕ
+p1InBytesResults =
+    0x47 ∷ 0x52 ∷ 0 ∷ 1 ∷ 1 ∷ 1 ∷ 0 ∷ 1 ∷ 0 ∷ 0 ∷ 0 ∷ 0 ∷ 0 ∷ 0 ∷ 0 ∷ 30  -- 1 1 B B f A 0.0 0.0 0.0 3.0
+    ∷ 0x47 ∷ 0x52 ∷ 0 ∷ 2 ∷ 0 ∷ 0 ∷ 0 ∷ 0 ∷ 0 ∷ 0 ∷ 0 ∷ 0 ∷ 0 ∷ 0 ∷ 0 ∷ 30  -- 2 2 A A m A 0.0 0.0 0.0 3.0
+    ∷ 0x47 ∷ 0x52 ∷ 0 ∷ 3 ∷ 0 ∷ 0 ∷ 0 ∷ 0 ∷ 0 ∷ 0 ∷ 0 ∷ 0 ∷ 0 ∷ 0 ∷ 0 ∷ 20  -- 3 3 A A m A 0.0 0.0 0.0 2.0
+    ∷ 0x47 ∷ 0x52 ∷ 0 ∷ 4 ∷ 0 ∷ 0 ∷ 0 ∷ 0 ∷ 0 ∷ 0 ∷ 0 ∷ 0 ∷ 0 ∷ 0 ∷ 0 ∷ 0  -- 4 4 A A m A 0.0 0.0 0.0 0.0
+    ∷ 0x47 ∷ 0x52 ∷ 0 ∷ 5 ∷ 2 ∷ 2 ∷ 0 ∷ 1 ∷ 0 ∷ 0 ∷ 0 ∷ 0 ∷ 0 ∷ 0 ∷ 0 ∷ 30  -- 5 5 C C f A 0.0 0.0 0.0 3.0
+    ∷ []
+
 pub record UnitSheets : Type 0 where
   pub best-lower-grade : Graded bestLowerGrade 4 137 bestLowerGradeResults
   pub designated-c-failed-twice : Graded designatedCFailedTwice 3 117 designatedCFailedTwiceResults
@@ -453,6 +573,8 @@ pub record UnitSheets : Type 0 where
   pub unit-that-meets-between-failures : Graded unitThatMeetsBetweenFailures 4 131 unitThatMeetsBetweenFailuresResults
   pub code-met-again : Graded codeMetAgain 4 131 codeMetAgainResults
   pub start-equal-to-limit : Graded startEqualToLimit 2 103 startEqualToLimitResults
+  pub cusums-of-two-bytes : Graded cusumsOfTwoBytes 3 117 cusumsOfTwoBytesResults
+  pub p1-in-bytes : Graded p1InBytes 5 145 p1InBytesResults
 
 -- ---- units in step 3, its end and recovery
 
@@ -473,6 +595,25 @@ failureInStepThreeResults =
     ∷ 0x47 ∷ 0x52 ∷ 0 ∷ 2 ∷ 1 ∷ 1 ∷ 0 ∷ 1 ∷ 0 ∷ 0 ∷ 0 ∷ 0 ∷ 0 ∷ 0 ∷ 0 ∷ 40  -- 2 2 B B f A 0.0 0.0 0.0 4.0
     ∷ 0x47 ∷ 0x52 ∷ 0 ∷ 3 ∷ 3 ∷ 3 ∷ 1 ∷ 2 ∷ 0 ∷ 0 ∷ 0 ∷ 30 ∷ 0 ∷ 0 ∷ 0 ∷ 0  -- 3 3 S S u B 0.0 3.0 0.0 0.0
     ∷ 0x47 ∷ 0x52 ∷ 0 ∷ 4 ∷ 1 ∷ 1 ∷ 1 ∷ 2 ∷ 0 ∷ 0 ∷ 0 ∷ 30 ∷ 0 ∷ 0 ∷ 0 ∷ 0  -- 4 4 B B u B 0.0 3.0 0.0 0.0
+    ∷ []
+
+-- Unit 4 fails B within the T+L of B. It grades lower than the plan in force, C, and not only
+-- lower than the designated A.
+unfoldable pub lowerThanPlanInForce : List ℕ
+lowerThanPlanInForce =
+    peachPlan
+    ++ (0x53 ∷ 0x55 ∷ 0 ∷ 1 ∷ 0 ∷ 0 ∷ 0 ∷ 0 ∷ 0 ∷ 0 ∷ 0 ∷ 12 ∷ 0 ∷ 1  -- 1: 0,0,0,12;A;1
+    ∷ 0x53 ∷ 0x55 ∷ 0 ∷ 2 ∷ 0 ∷ 0 ∷ 0 ∷ 0 ∷ 0 ∷ 0 ∷ 0 ∷ 12 ∷ 0 ∷ 1  -- 2: 0,0,0,12;A;1
+    ∷ 0x53 ∷ 0x55 ∷ 0 ∷ 3 ∷ 0 ∷ 0 ∷ 0 ∷ 5 ∷ 0 ∷ 0 ∷ 0 ∷ 0 ∷ 0 ∷ 1  -- 3: 0,5,0,0;A;1
+    ∷ 0x53 ∷ 0x55 ∷ 0 ∷ 4 ∷ 0 ∷ 0 ∷ 0 ∷ 5 ∷ 0 ∷ 0 ∷ 0 ∷ 0 ∷ 0 ∷ 1  -- 4: 0,5,0,0;A;1
+    ∷ [])
+
+unfoldable pub lowerThanPlanInForceResults : List ℕ
+lowerThanPlanInForceResults =
+    0x47 ∷ 0x52 ∷ 0 ∷ 1 ∷ 1 ∷ 1 ∷ 0 ∷ 1 ∷ 0 ∷ 0 ∷ 0 ∷ 0 ∷ 0 ∷ 0 ∷ 0 ∷ 40  -- 1 1 B B f A 0.0 0.0 0.0 4.0
+    ∷ 0x47 ∷ 0x52 ∷ 0 ∷ 2 ∷ 1 ∷ 1 ∷ 0 ∷ 1 ∷ 0 ∷ 0 ∷ 0 ∷ 0 ∷ 0 ∷ 0 ∷ 0 ∷ 40  -- 2 2 B B f A 0.0 0.0 0.0 4.0
+    ∷ 0x47 ∷ 0x52 ∷ 0 ∷ 3 ∷ 1 ∷ 1 ∷ 1 ∷ 2 ∷ 0 ∷ 0 ∷ 0 ∷ 30 ∷ 0 ∷ 0 ∷ 0 ∷ 0  -- 3 3 B B u B 0.0 3.0 0.0 0.0
+    ∷ 0x47 ∷ 0x52 ∷ 0 ∷ 4 ∷ 2 ∷ 2 ∷ 1 ∷ 2 ∷ 0 ∷ 0 ∷ 0 ∷ 30 ∷ 0 ∷ 0 ∷ 0 ∷ 0  -- 4 4 C C u B 0.0 3.0 0.0 0.0
     ∷ []
 
 -- Two failures at the lower plan start nothing further: unit 5 is under B, from its CuSums.
@@ -614,14 +755,92 @@ afterStepThreeResults =
     ∷ 0x47 ∷ 0x52 ∷ 0 ∷ 7 ∷ 0 ∷ 0 ∷ 0 ∷ 0 ∷ 0 ∷ 0 ∷ 0 ∷ 0 ∷ 0 ∷ 10 ∷ 0 ∷ 40  -- 7 7 A A m A 0.0 0.0 1.0 4.0
     ∷ []
 
+-- In the class total, with minor defects alone. P7: 1.5/1.5/3, counts 1,4,3: 1, 3 (fails), 3
+-- (fails). P8: then 2,2,1,1,1 at lower plan 1/3/3 are all zero; the last three qualify, since 2 is
+-- above 1.5.
+-- The peach plan, but total at A 1.5/1.5/3, total at B 1/3/3.
+unfoldable pub p7AndP8InBytes : List ℕ
+p7AndP8InBytes =
+    set (set (set (set (set (set peachPlan 22 15) 24 15) 26 30) 46 10) 48 30) 50 30
+    ++ (0x53 ∷ 0x55 ∷ 0 ∷ 1 ∷ 0 ∷ 0 ∷ 0 ∷ 0 ∷ 0 ∷ 0 ∷ 0 ∷ 1 ∷ 0 ∷ 1  -- 1: 0,0,0,1;A;1
+    ∷ 0x53 ∷ 0x55 ∷ 0 ∷ 2 ∷ 0 ∷ 0 ∷ 0 ∷ 0 ∷ 0 ∷ 0 ∷ 0 ∷ 4 ∷ 0 ∷ 1  -- 2: 0,0,0,4;A;1
+    ∷ 0x53 ∷ 0x55 ∷ 0 ∷ 3 ∷ 0 ∷ 0 ∷ 0 ∷ 0 ∷ 0 ∷ 0 ∷ 0 ∷ 3 ∷ 0 ∷ 1  -- 3: 0,0,0,3;A;1
+    ∷ 0x53 ∷ 0x55 ∷ 0 ∷ 4 ∷ 0 ∷ 0 ∷ 0 ∷ 0 ∷ 0 ∷ 0 ∷ 0 ∷ 2 ∷ 0 ∷ 1  -- 4: 0,0,0,2;A;1
+    ∷ 0x53 ∷ 0x55 ∷ 0 ∷ 5 ∷ 0 ∷ 0 ∷ 0 ∷ 0 ∷ 0 ∷ 0 ∷ 0 ∷ 2 ∷ 0 ∷ 1  -- 5: 0,0,0,2;A;1
+    ∷ 0x53 ∷ 0x55 ∷ 0 ∷ 6 ∷ 0 ∷ 0 ∷ 0 ∷ 0 ∷ 0 ∷ 0 ∷ 0 ∷ 1 ∷ 0 ∷ 1  -- 6: 0,0,0,1;A;1
+    ∷ 0x53 ∷ 0x55 ∷ 0 ∷ 7 ∷ 0 ∷ 0 ∷ 0 ∷ 0 ∷ 0 ∷ 0 ∷ 0 ∷ 1 ∷ 0 ∷ 1  -- 7: 0,0,0,1;A;1
+    ∷ 0x53 ∷ 0x55 ∷ 0 ∷ 8 ∷ 0 ∷ 0 ∷ 0 ∷ 0 ∷ 0 ∷ 0 ∷ 0 ∷ 1 ∷ 0 ∷ 1  -- 8: 0,0,0,1;A;1
+    ∷ [])
+
+unfoldable pub p7AndP8InBytesResults : List ℕ
+p7AndP8InBytesResults =
+    0x47 ∷ 0x52 ∷ 0 ∷ 1 ∷ 0 ∷ 0 ∷ 0 ∷ 0 ∷ 0 ∷ 0 ∷ 0 ∷ 0 ∷ 0 ∷ 0 ∷ 0 ∷ 10  -- 1 1 A A m A 0.0 0.0 0.0 1.0
+    ∷ 0x47 ∷ 0x52 ∷ 0 ∷ 2 ∷ 1 ∷ 1 ∷ 0 ∷ 1 ∷ 0 ∷ 0 ∷ 0 ∷ 0 ∷ 0 ∷ 0 ∷ 0 ∷ 30  -- 2 2 B B f A 0.0 0.0 0.0 3.0
+    ∷ 0x47 ∷ 0x52 ∷ 0 ∷ 3 ∷ 1 ∷ 1 ∷ 0 ∷ 1 ∷ 0 ∷ 0 ∷ 0 ∷ 0 ∷ 0 ∷ 0 ∷ 0 ∷ 30  -- 3 3 B B f A 0.0 0.0 0.0 3.0
+    ∷ 0x47 ∷ 0x52 ∷ 0 ∷ 4 ∷ 1 ∷ 1 ∷ 1 ∷ 2 ∷ 0 ∷ 0 ∷ 0 ∷ 0 ∷ 0 ∷ 0 ∷ 0 ∷ 0  -- 4 4 B B u B 0.0 0.0 0.0 0.0
+    ∷ 0x47 ∷ 0x52 ∷ 0 ∷ 5 ∷ 1 ∷ 1 ∷ 1 ∷ 2 ∷ 0 ∷ 0 ∷ 0 ∷ 0 ∷ 0 ∷ 0 ∷ 0 ∷ 0  -- 5 5 B B u B 0.0 0.0 0.0 0.0
+    ∷ 0x47 ∷ 0x52 ∷ 0 ∷ 6 ∷ 0 ∷ 0 ∷ 1 ∷ 3 ∷ 0 ∷ 0 ∷ 0 ∷ 0 ∷ 0 ∷ 0 ∷ 0 ∷ 0  -- 6 6 A A r B 0.0 0.0 0.0 0.0
+    ∷ 0x47 ∷ 0x52 ∷ 0 ∷ 7 ∷ 0 ∷ 0 ∷ 1 ∷ 3 ∷ 0 ∷ 0 ∷ 0 ∷ 0 ∷ 0 ∷ 0 ∷ 0 ∷ 0  -- 7 7 A A r B 0.0 0.0 0.0 0.0
+    ∷ 0x47 ∷ 0x52 ∷ 0 ∷ 8 ∷ 0 ∷ 0 ∷ 1 ∷ 3 ∷ 0 ∷ 0 ∷ 0 ∷ 0 ∷ 0 ∷ 0 ∷ 0 ∷ 0  -- 8 8 A A r B 0.0 0.0 0.0 0.0
+    ∷ []
+
 pub record StepThreeSheets : Type 0 where
   pub failure-in-step-three : Graded failureInStepThree 4 131 failureInStepThreeResults
+  pub lower-than-plan-in-force : Graded lowerThanPlanInForce 4 131 lowerThanPlanInForceResults
   pub two-failures-in-step-three : Graded twoFailuresInStepThree 5 145 twoFailuresInStepThreeResults
   pub above-tolerance : Graded aboveTolerance 6 159 aboveToleranceResults
   pub cusum-above-zero : Graded cusumAboveZero 6 159 cusumAboveZeroResults
   pub recovery : Graded recovery 6 159 recoveryResults
   pub recovery-without-plan : Graded recoveryWithoutPlan 7 173 recoveryWithoutPlanResults
   pub after-step-three : Graded afterStepThree 7 173 afterStepThreeResults
+  pub p7-and-p8-in-bytes : Graded p7AndP8InBytes 8 187 p7AndP8InBytesResults
+
+-- ---- sheets with a defect fewer than another
+
+-- `breakBetweenFailures` with 2 minor defects in its last unit, and not 3.
+unfoldable pub oneMinorDefectFewer : List ℕ
+oneMinorDefectFewer =
+    peachPlan
+    ++ (0x53 ∷ 0x55 ∷ 0 ∷ 1 ∷ 0 ∷ 0 ∷ 0 ∷ 0 ∷ 0 ∷ 0 ∷ 0 ∷ 12 ∷ 0 ∷ 1  -- 1: 0,0,0,12;A;1
+    ∷ 0x42 ∷ 0x4B  -- break
+    ∷ 0x53 ∷ 0x55 ∷ 0 ∷ 2 ∷ 0 ∷ 0 ∷ 0 ∷ 0 ∷ 0 ∷ 0 ∷ 0 ∷ 12 ∷ 0 ∷ 1  -- 2: 0,0,0,12;A;1
+    ∷ 0x53 ∷ 0x55 ∷ 0 ∷ 3 ∷ 0 ∷ 0 ∷ 0 ∷ 0 ∷ 0 ∷ 3 ∷ 0 ∷ 2 ∷ 0 ∷ 1  -- 3: 0,0,3,2;A;1
+    ∷ [])
+
+unfoldable pub oneMinorDefectFewerResults : List ℕ
+oneMinorDefectFewerResults =
+    0x47 ∷ 0x52 ∷ 0 ∷ 1 ∷ 1 ∷ 1 ∷ 0 ∷ 1 ∷ 0 ∷ 0 ∷ 0 ∷ 0 ∷ 0 ∷ 0 ∷ 0 ∷ 40  -- 1 1 B B f A 0.0 0.0 0.0 4.0
+    ∷ 0x47 ∷ 0x52 ∷ 0 ∷ 2 ∷ 1 ∷ 1 ∷ 0 ∷ 1 ∷ 0 ∷ 0 ∷ 0 ∷ 0 ∷ 0 ∷ 0 ∷ 0 ∷ 40  -- 2 2 B B f A 0.0 0.0 0.0 4.0
+    ∷ 0x47 ∷ 0x52 ∷ 0 ∷ 3 ∷ 0 ∷ 0 ∷ 0 ∷ 0 ∷ 0 ∷ 0 ∷ 0 ∷ 0 ∷ 0 ∷ 0 ∷ 0 ∷ 30  -- 3 3 A A m A 0.0 0.0 0.0 3.0
+    ∷ []
+
+-- The peach sheet with 1 severe defect in its second unit, and not 2.
+unfoldable pub oneSevereDefectFewer : List ℕ
+oneSevereDefectFewer =
+    peachPlan
+    ++ (0x53 ∷ 0x55 ∷ 0 ∷ 1 ∷ 0 ∷ 0 ∷ 0 ∷ 1 ∷ 0 ∷ 2 ∷ 0 ∷ 4 ∷ 0 ∷ 0  -- 1: 0,1,2,4;A;0
+    ∷ 0x53 ∷ 0x55 ∷ 0 ∷ 2 ∷ 0 ∷ 0 ∷ 0 ∷ 1 ∷ 0 ∷ 4 ∷ 0 ∷ 6 ∷ 0 ∷ 0  -- 2: 0,1,4,6;A;0
+    ∷ 0x53 ∷ 0x55 ∷ 0 ∷ 3 ∷ 0 ∷ 0 ∷ 0 ∷ 1 ∷ 0 ∷ 3 ∷ 0 ∷ 3 ∷ 0 ∷ 0  -- 3: 0,1,3,3;A;0
+    ∷ 0x53 ∷ 0x55 ∷ 0 ∷ 4 ∷ 0 ∷ 0 ∷ 0 ∷ 0 ∷ 0 ∷ 1 ∷ 0 ∷ 5 ∷ 0 ∷ 1  -- 4: 0,0,1,5;A;1
+    ∷ 0x53 ∷ 0x55 ∷ 0 ∷ 5 ∷ 0 ∷ 0 ∷ 0 ∷ 1 ∷ 0 ∷ 2 ∷ 0 ∷ 2 ∷ 0 ∷ 1  -- 5: 0,1,2,2;A;1
+    ∷ 0x53 ∷ 0x55 ∷ 0 ∷ 5 ∷ 0 ∷ 0 ∷ 0 ∷ 1 ∷ 0 ∷ 1 ∷ 0 ∷ 2 ∷ 0 ∷ 0  -- 5: 0,1,1,2;A;0
+    ∷ 0x53 ∷ 0x55 ∷ 0 ∷ 7 ∷ 0 ∷ 1 ∷ 0 ∷ 0 ∷ 0 ∷ 0 ∷ 0 ∷ 0 ∷ 1 ∷ 0  -- 7: 1,0,0,0;B;0
+    ∷ [])
+
+unfoldable pub oneSevereDefectFewerResults : List ℕ
+oneSevereDefectFewerResults =
+    0x47 ∷ 0x52 ∷ 0 ∷ 1 ∷ 0 ∷ 0 ∷ 0 ∷ 0 ∷ 0 ∷ 0 ∷ 0 ∷ 0 ∷ 0 ∷ 0 ∷ 0 ∷ 20  -- 1 1 A A m A 0.0 0.0 0.0 2.0
+    ∷ 0x47 ∷ 0x52 ∷ 0 ∷ 2 ∷ 1 ∷ 1 ∷ 0 ∷ 1 ∷ 0 ∷ 0 ∷ 0 ∷ 0 ∷ 0 ∷ 10 ∷ 0 ∷ 40  -- 2 2 B B f A 0.0 0.0 1.0 4.0
+    ∷ 0x47 ∷ 0x52 ∷ 0 ∷ 3 ∷ 1 ∷ 1 ∷ 0 ∷ 1 ∷ 0 ∷ 0 ∷ 0 ∷ 0 ∷ 0 ∷ 10 ∷ 0 ∷ 40  -- 3 3 B B f A 0.0 0.0 1.0 4.0
+    ∷ 0x47 ∷ 0x52 ∷ 0 ∷ 4 ∷ 0 ∷ 0 ∷ 1 ∷ 3 ∷ 0 ∷ 0 ∷ 0 ∷ 0 ∷ 0 ∷ 0 ∷ 0 ∷ 0  -- 4 4 A A r B 0.0 0.0 0.0 0.0
+    ∷ 0x47 ∷ 0x52 ∷ 0 ∷ 5 ∷ 0 ∷ 1 ∷ 1 ∷ 3 ∷ 0 ∷ 0 ∷ 0 ∷ 0 ∷ 0 ∷ 0 ∷ 0 ∷ 0  -- 5 5 A B r B 0.0 0.0 0.0 0.0
+    ∷ 0x47 ∷ 0x52 ∷ 0 ∷ 5 ∷ 1 ∷ 1 ∷ 1 ∷ 2 ∷ 0 ∷ 0 ∷ 0 ∷ 0 ∷ 0 ∷ 0 ∷ 0 ∷ 0  -- 6 5 B B u B 0.0 0.0 0.0 0.0
+    ∷ 0x47 ∷ 0x52 ∷ 0 ∷ 7 ∷ 1 ∷ 1 ∷ 0 ∷ 0 ∷ 0 ∷ 5 ∷ 0 ∷ 0 ∷ 0 ∷ 0 ∷ 0 ∷ 0  -- 7 7 B B m A 0.5 0.0 0.0 0.0
+    ∷ []
+
+pub record FewerDefectSheets : Type 0 where
+  pub one-minor-defect-fewer : Graded oneMinorDefectFewer 3 119 oneMinorDefectFewerResults
+  pub one-severe-defect-fewer : Graded oneSevereDefectFewer 7 173 oneSevereDefectFewerResults
 
 -- ---- refusals, most of them where two rows of the table apply
 
@@ -813,11 +1032,70 @@ pub record FullSheets : Type 0 where
   pub grounds-12-and-8 : RefusedWith 12 grounds12And8 14075
   pub grounds-7-and-12 : RefusedWith 7 grounds7And12 14075
 
--- all of them
+-- ---- what is printed
+
+unfoldable pub recoveryWithoutPlanLines : List ℕ
+recoveryWithoutPlanLines =
+    ascii "1 1 S S f A 0.5 0.0 0.0 0.0\n"
+    ++ ascii "2 2 S S f A 0.5 0.0 0.0 0.0\n"
+    ++ ascii "3 3 S S u S 0.0 0.0 0.0 0.0\n"
+    ++ ascii "4 4 A A r S 0.0 0.0 0.0 0.0\n"
+    ++ ascii "5 5 A A r S 0.0 0.0 0.0 0.0\n"
+    ++ ascii "6 6 A A r S 0.0 0.0 0.0 0.0\n"
+    ++ ascii "7 7 A A m A 0.0 0.0 1.0 2.0\n"
+
+unfoldable pub cusumsOfTwoBytesLines : List ℕ
+cusumsOfTwoBytesLines =
+    ascii "1 1 A A m A 0.0 0.0 0.0 25.6\n"
+    ++ ascii "2 2 A A m A 0.0 0.0 0.0 59.6\n"
+    ++ ascii "3 3 B B f A 0.0 0.0 0.0 60.0\n"
+
+-- The result records of twelve units: unit numbers, codes and CuSums of one digit and of many,
+-- each grade in each place of a grade, each standing.
+unfoldable pub twelveUnitsResults : List ℕ
+twelveUnitsResults =
+    0x47 ∷ 0x52 ∷ 255 ∷ 255 ∷ 0 ∷ 1 ∷ 0 ∷ 0 ∷ 3 ∷ 232 ∷ 0 ∷ 105 ∷ 0 ∷ 0 ∷ 0 ∷ 0  -- 1 65535 A B m A 100.0 10.5 0.0 0.0
+    ∷ 0x47 ∷ 0x52 ∷ 0 ∷ 0 ∷ 1 ∷ 1 ∷ 0 ∷ 0 ∷ 3 ∷ 232 ∷ 0 ∷ 100 ∷ 0 ∷ 0 ∷ 0 ∷ 0  -- 2 0 B B m A 100.0 10.0 0.0 0.0
+    ∷ 0x47 ∷ 0x52 ∷ 0 ∷ 9 ∷ 2 ∷ 2 ∷ 0 ∷ 0 ∷ 3 ∷ 232 ∷ 3 ∷ 227 ∷ 0 ∷ 0 ∷ 0 ∷ 0  -- 3 9 C C m A 100.0 99.5 0.0 0.0
+    ∷ 0x47 ∷ 0x52 ∷ 0 ∷ 10 ∷ 3 ∷ 3 ∷ 0 ∷ 0 ∷ 3 ∷ 232 ∷ 3 ∷ 222 ∷ 0 ∷ 0 ∷ 0 ∷ 0  -- 4 10 S S m A 100.0 99.0 0.0 0.0
+    ∷ 0x47 ∷ 0x52 ∷ 0 ∷ 100 ∷ 3 ∷ 3 ∷ 0 ∷ 1 ∷ 39 ∷ 15 ∷ 3 ∷ 217 ∷ 0 ∷ 0 ∷ 39 ∷ 15  -- 5 100 S S f A 999.9 98.5 0.0 999.9
+    ∷ 0x47 ∷ 0x52 ∷ 1 ∷ 0 ∷ 3 ∷ 3 ∷ 0 ∷ 1 ∷ 39 ∷ 15 ∷ 39 ∷ 15 ∷ 0 ∷ 10 ∷ 39 ∷ 15  -- 6 256 S S f A 999.9 999.9 1.0 999.9
+    ∷ 0x47 ∷ 0x52 ∷ 3 ∷ 232 ∷ 3 ∷ 3 ∷ 3 ∷ 2 ∷ 0 ∷ 0 ∷ 0 ∷ 0 ∷ 0 ∷ 0 ∷ 0 ∷ 0  -- 7 1000 S S u S 0.0 0.0 0.0 0.0
+    ∷ 0x47 ∷ 0x52 ∷ 39 ∷ 15 ∷ 0 ∷ 0 ∷ 3 ∷ 3 ∷ 0 ∷ 0 ∷ 0 ∷ 0 ∷ 0 ∷ 0 ∷ 0 ∷ 0  -- 8 9999 A A r S 0.0 0.0 0.0 0.0
+    ∷ 0x47 ∷ 0x52 ∷ 39 ∷ 16 ∷ 3 ∷ 3 ∷ 3 ∷ 2 ∷ 0 ∷ 0 ∷ 0 ∷ 0 ∷ 0 ∷ 0 ∷ 0 ∷ 0  -- 9 10000 S S u S 0.0 0.0 0.0 0.0
+    ∷ 0x47 ∷ 0x52 ∷ 48 ∷ 57 ∷ 2 ∷ 2 ∷ 3 ∷ 3 ∷ 0 ∷ 0 ∷ 0 ∷ 0 ∷ 0 ∷ 0 ∷ 0 ∷ 0  -- 10 12345 C C r S 0.0 0.0 0.0 0.0
+    ∷ 0x47 ∷ 0x52 ∷ 160 ∷ 0 ∷ 2 ∷ 2 ∷ 2 ∷ 0 ∷ 0 ∷ 0 ∷ 0 ∷ 5 ∷ 0 ∷ 0 ∷ 0 ∷ 0  -- 11 40960 C C m C 0.0 0.5 0.0 0.0
+    ∷ 0x47 ∷ 0x52 ∷ 255 ∷ 255 ∷ 1 ∷ 1 ∷ 1 ∷ 0 ∷ 0 ∷ 0 ∷ 0 ∷ 0 ∷ 0 ∷ 50 ∷ 0 ∷ 0  -- 12 65535 B B m B 0.0 0.0 5.0 0.0
+    ∷ []
+
+unfoldable pub twelveUnitsLines : List ℕ
+twelveUnitsLines =
+    ascii "1 65535 A B m A 100.0 10.5 0.0 0.0\n"
+    ++ ascii "2 0 B B m A 100.0 10.0 0.0 0.0\n"
+    ++ ascii "3 9 C C m A 100.0 99.5 0.0 0.0\n"
+    ++ ascii "4 10 S S m A 100.0 99.0 0.0 0.0\n"
+    ++ ascii "5 100 S S f A 999.9 98.5 0.0 999.9\n"
+    ++ ascii "6 256 S S f A 999.9 999.9 1.0 999.9\n"
+    ++ ascii "7 1000 S S u S 0.0 0.0 0.0 0.0\n"
+    ++ ascii "8 9999 A A r S 0.0 0.0 0.0 0.0\n"
+    ++ ascii "9 10000 S S u S 0.0 0.0 0.0 0.0\n"
+    ++ ascii "10 12345 C C r S 0.0 0.0 0.0 0.0\n"
+    ++ ascii "11 40960 C C m C 0.0 0.5 0.0 0.0\n"
+    ++ ascii "12 65535 B B m B 0.0 0.0 5.0 0.0\n"
+
+pub record PrintedSheets : Type 0 where
+  pub recovery-without-plan : printed recoveryWithoutPlan ≡ recoveryWithoutPlanLines
+  pub cusums-of-two-bytes : printed cusumsOfTwoBytes ≡ cusumsOfTwoBytesLines
+  pub grounds-8-and-9 : printed grounds8And9 ≡ ascii "refused 8 89\n"
+  pub ground-12 : printed ground12 ≡ ascii "refused 12 14075\n"
+  pub twelve-units : linesOf twelveUnitsResults 12 ≡ twelveUnitsLines
+
+-- all of them; what is printed is part of `PrintedText` in `Printed`
 pub record FurtherSheets : Type 0 where
   pub breaks : BreakSheets
   pub redesignations : RedesignationSheets
   pub units : UnitSheets
   pub step-three : StepThreeSheets
+  pub fewer-defects : FewerDefectSheets
   pub refusals : RefusedSheets
   pub full : FullSheets

@@ -1,3 +1,4 @@
 pub mod WorkedCases
 pub mod FurtherSheets
 pub mod Peach
+pub mod Printed

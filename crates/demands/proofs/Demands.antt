@@ -1,5 +1,7 @@
--- The demands, each from its own file; the promise is the theorem of `tally::grade`.
-use Rattle.tally.proofs.grade.Met.{met}
+-- The demands, each from its own file; a promise is the theorem of its function.
+use Rattle.tally.proofs.grade.Met as grade
+use Rattle.hatmuyon.proofs.hatmuyon_grade.Met as hatmuyon_grade
+use Rattle.lines.proofs.print_into.Met as print_into
 use Rattle.demands.specs.Demands.{Demands}
 use Rattle.demands.proofs.Listed.{demand1}
 use Rattle.demands.proofs.Grounds.{demand2-grounds}
@@ -9,12 +11,15 @@ use Rattle.demands.proofs.LargestOf.{demand3-largest-form}
 use Rattle.demands.proofs.NeverWorse.{demand3-fewer-defects}
 use Rattle.computed.proofs.Peach.{small-sheets}
 use Rattle.computed.proofs.FurtherSheets.{further-sheets}
+use Rattle.computed.proofs.Printed.{printed-text}
 use Rattle.demands.proofs.Instances.{instances}
 
 pub demands : Demands
 demands =
     record {
-      promise-of-grade = met;
+      promise-of-grade = grade.met;
+      promise-of-hatmuyon-grade = hatmuyon_grade.met;
+      promise-of-print-into = print_into.met;
       demand1 = demand1;
       demand2-grounds = demand2-grounds;
       never-overfull = never-overfull;
@@ -23,5 +28,6 @@ demands =
       demand3-fewer-defects = demand3-fewer-defects;
       small-sheets = small-sheets;
       further-sheets = further-sheets;
+      printed-text = printed-text;
       instances = instances;
     }

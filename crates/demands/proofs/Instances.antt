@@ -1,40 +1,41 @@
--- Each demand on its concrete sheet, from the demand's theorem. Only its premises are computed: which answer the sheet gets, which
--- records are units, that a plan is in force, that no two units in a row fail.
+-- Each demand on its concrete sheets, from the demand's theorem. Only its premises are computed: which answer a sheet gets, which records
+-- are units, of which standing and with which code, that a plan is in force, where two units in a row fail.
 use Prim.Native.Nat.{ℕ, _*_, _<_, _≤_}
 use mathlib.Core.Path.{_≡_, refl, sym, _∙_, ap}
-use mathlib.Core.Bool.{Bool, true, false}
-use mathlib.Core.List.{List, []}
-use mathlib.Core.Logic.{_⊎_, inl, inr, ⊎-elim}
+use mathlib.Core.Bool.{Bool, true, false, false≢true}
+use mathlib.Core.List.{List, [], _∷_}
+use mathlib.Core.Logic.{⊎-elim}
 use native.Mathlib.Omega.{arith}
-use lib.Dec.{leb, eqb}
-use lib.ListN.{length, drop, replicate, length-replicate}
-use borrow.Author.Tests.{leb-true, leb-false, eqb-false}
-use Rattle.units.specs.Words.{classes, hasPlan, worse}
-use Rattle.rules.specs.Sheet.{inForceAt}
-use Rattle.rules.specs.TwoInARow.{failsDesignated, unitFailsAt, unitFailsBefore, secondInARow}
+use lib.Dec.{leb, ltb, lit<}
+use lib.ListN.{length, drop, List·getD-eq-default}
+use borrow.Author.Tests.{leb-true, leb-false, ltb-true, ltb-false}
+use Rattle.encoding.specs.Bytes.{byte}
+use Rattle.units.specs.Conditions.{any, all}
+use Rattle.units.specs.Words.{upFrom}
+use Rattle.units.proofs.Lists.{all-each, in-none}
+use Rattle.rules.specs.TwoInARow.{secondInARow}
+use Rattle.rules.specs.Anchor.{classFailsAt, Anchor, restart, failure, Latest}
 use Rattle.layout.specs.Layout.{offset, mark}
-use Rattle.layout.specs.declared.Mark.the-variants.{UnitMark}
+use Rattle.layout.specs.declared.Mark.{Mark}
+use Rattle.layout.specs.declared.Mark.the-variants.{UnitMark, RedesignationMark, BreakMark, NoMark}
 use Rattle.layout.proofs.Offsets.{size-ge, offset-lt}
 use Rattle.results.specs.Record.{resultSize}
 use Rattle.tally.specs.declared.Answer.{Answer}
 use Rattle.tally.specs.Outcome.{Outcome, outcome, recordsIn}
-use Rattle.tally.specs.Accepted.{AcceptedAs, sheetIn, UnitAt, recordedPortionGrade, recordedCodeGrade}
-use Rattle.tally.proofs.Computing.{computing}
+use Rattle.tally.specs.Accepted.{AcceptedAs, sheetIn, UnitAt}
 use Rattle.demands.specs.Demand1.{StoppedAt, Listed}
-use Rattle.demands.specs.Demand2.{GradedByRules, codeOf}
-use Rattle.demands.specs.Demand3.{LargestOf, NeverWorse}
-use Rattle.computed.specs.WorkedCases.{peachPlan, peachUnits, peach}
-use Rattle.computed.specs.FurtherSheets.{breakBetweenUnits, grounds8And9, ground11ByLastRedesignation}
-use Rattle.demands.specs.Instances.{peachLeft, oneCriticalMore, fewerLeft, moreLeft, RefusedInstance, AcceptedInstance, GroundInstance, CourseInstance, CodeInstance, LargestInstance, FewerInstance, Instances}
+use Rattle.demands.specs.Demand3.{InCount, NeverWorse}
+use Rattle.computed.specs.WorkedCases.{peachPlan, peachUnits, peach, peachResults}
+use Rattle.computed.specs.FurtherSheets.{breakBetweenFailures, breakBetweenFailuresResults, everyKindOfRecord, everyKindOfRecordResults, oneMinorDefectFewer, oneMinorDefectFewerResults, oneSevereDefectFewer, oneSevereDefectFewerResults, grounds8And9, ground11ByLastRedesignation}
+use Rattle.demands.specs.Instances.{left, peachLeft, everyKindLeft, peachStandings, everyKindStandings, peachPlanned, everyKindPlanned, Each, standingByte, RefusedInstance, AcceptedInstance, GroundInstance, CourseInstance, CodeInstance, LargestInstance, LargestNumber, FewerInstance, FewerTwiceInstance, Instances}
+use Rattle.demands.proofs.Computing.{computing}
 use Rattle.demands.proofs.Listed.{demand1}
 use Rattle.demands.proofs.Grounds.{demand2-grounds}
-use Rattle.demands.proofs.Graded.{demand2-records}
-use Rattle.demands.proofs.LargestOf.{demand3-largest-form}
 use Rattle.demands.proofs.NeverWorse.{demand3-fewer-defects}
-use Rattle.computed.proofs.Computed.{and-next, before-the-first}
 use Rattle.computed.proofs.WorkedCases.{worked-cases}
 use Rattle.computed.proofs.FurtherSheets.{further-sheets}
-use Rattle.demands.proofs.AlikeExample.{threeAccepted, both-records, marks, an-example}
+use Rattle.demands.proofs.OneFewer.{one-fewer}
+use Rattle.demands.proofs.AtUnits.{course-recorded, code-graded, largest-recorded, number-recorded, none-higher, none-lower}
 
 -- ---- demand 1
 
@@ -83,7 +84,7 @@ refused =
           (λ none. omega (arith, ap (λ given. given .answer .number) answers));
     }
 
--- ---- the peach sheet
+-- ---- the accepted sheets
 
 abbrev peachAnswer : Answer
 peachAnswer = record { number = 0; units = 7; offset = 173 }
@@ -91,45 +92,25 @@ peachAnswer = record { number = 0; units = 7; offset = 173 }
 peach-accepted : (buffer : List ℕ) → resultSize * 7 ≤ length buffer → AcceptedAs peach buffer peachAnswer (peachLeft buffer)
 peach-accepted buffer holds = record { promise = sym (worked-cases .p10 buffer holds); accepted = refl }
 
-abbrev PlannedUnit : ℕ → Type 0
-PlannedUnit i = (mark peach i ≡ UnitMark) × (hasPlan (inForceAt (sheetIn peach) i) ≡ true)
+abbrev everyKindAnswer : Answer
+everyKindAnswer = record { number = 0; units = 6; offset = 167 }
 
-planned-units : (i : ℕ) → i < 7 → PlannedUnit i
-unfolding computing sheetIn peachPlan peachUnits peach
-planned-units =
-    and-next PlannedUnit 6 (and-next PlannedUnit 5 (and-next PlannedUnit 4 (and-next PlannedUnit 3 (and-next PlannedUnit 2
-    (and-next PlannedUnit 1 (and-next PlannedUnit 0 (before-the-first PlannedUnit)
-    (refl, refl)) (refl, refl)) (refl, refl)) (refl, refl)) (refl, refl)) (refl, refl)) (refl, refl)
+every-kind-accepted : (buffer : List ℕ) → resultSize * 6 ≤ length buffer
+    → AcceptedAs everyKindOfRecord buffer everyKindAnswer (everyKindLeft buffer)
+every-kind-accepted buffer holds = record { promise = sym (further-sheets .redesignations .every-kind-of-record buffer holds); accepted = refl }
 
-seven-records : recordsIn peach ≡ 7
-unfolding computing peachPlan peachUnits peach
-seven-records = refl
-
-peach-unit : (i : ℕ) → i < 7 → UnitAt peach i
-peach-unit i h = record { inside = omega (arith, seven-records); is-unit = planned-units i h .0 }
+-- behind the end of a sheet bytes are read as 0
+all-bytes : (bytes : List ℕ) → all (λ place. ltb (byte bytes place) 256) (upFrom 0 (length bytes)) ≡ true → (place : ℕ) → byte bytes place < 256
+all-bytes bytes small place = go (ltb place (length bytes)) refl
+  where
+    go : (inside : Bool) → ltb place (length bytes) ≡ inside → byte bytes place < 256
+    go true e = ltb-true _ _ (all-each (length bytes) (λ k. ltb (byte bytes k) 256) small place (ltb-true place (length bytes) e))
+    go false e = rw (List·getD-eq-default bytes 0 (ltb-false place (length bytes) e)) (lit< tt)
 
 accepted : AcceptedInstance
 accepted buffer holds =
     ap (λ (given : Outcome). drop (resultSize * 7) (given .buffer)) (worked-cases .p10 buffer holds)
     ∙ demand1 peach buffer peachAnswer (peachLeft buffer) (peach-accepted buffer holds .promise) .accepted-rest refl
-
--- records 4 and 5 have code 5, and no other
-abbrev OfCode : ℕ → Type 0
-OfCode i = codeOf peach i ≡ 5 → (i ≡ 4) ⊎ (i ≡ 5)
-
-of-code : (i : ℕ) → i < 7 → OfCode i
-unfolding computing peachPlan peachUnits peach
-of-code =
-    and-next OfCode 6 (and-next OfCode 5 (and-next OfCode 4 (and-next OfCode 3 (and-next OfCode 2
-    (and-next OfCode 1 (and-next OfCode 0 (before-the-first OfCode)
-    (other 1 refl)) (other 2 refl)) (other 3 refl)) (other 4 refl)) (λ same. inl refl)) (λ same. inr refl)) (other 7 refl)
-  where
-    other : {i : ℕ} (code : ℕ) → eqb code 5 ≡ false → code ≡ 5 → (i ≡ 4) ⊎ (i ≡ 5)
-    other code e same = absurd (eqb-false code 5 e same)
-
-have-code : (codeOf peach 4 ≡ 5) × (codeOf peach 5 ≡ 5)
-unfolding computing peachPlan peachUnits peach
-have-code = (refl, refl)
 
 -- ---- demand 2
 
@@ -143,100 +124,189 @@ grounds =
           demand2-grounds peach buffer peachAnswer (peachLeft buffer) (peach-accepted buffer holds .promise) .accepted refl;
     }
 
-module _ (buffer : List ℕ) (holds : resultSize * 7 ≤ length buffer) where
-  by-rules : GradedByRules peach (peachLeft buffer)
-  by-rules = demand2-records peach buffer peachAnswer (peachLeft buffer) (peach-accepted buffer holds)
+-- a unit, by its mark
+at : {bytes : List ℕ} {i : ℕ} → ltb i (recordsIn bytes) ≡ true → mark bytes i ≡ UnitMark → UnitAt bytes i
+at {bytes} {i} inside is-unit = record { inside = ltb-true i (recordsIn bytes) inside; is-unit = is-unit }
 
-  course-recorded : CourseInstance buffer
-  course-recorded =
-      record {
-        course = by-rules .course;
-        rules = by-rules .rules;
-        plan-grades = λ i h. by-rules .recorded i (peach-unit i h) .plan-grade;
-        cusums = λ i class h. by-rules .recorded i (peach-unit i h) .cusums class;
-        above = λ i class h in-range planned exceeds.
-            by-rules .rules .rule-two i class (peach-unit i h) in-range .fails (record { planned = planned; above = exceeds });
-        below = λ i class h in-range. by-rules .rules .rule-two i class (peach-unit i h) in-range .below;
-        between = λ i class h in-range. by-rules .rules .rule-two i class (peach-unit i h) in-range .between;
-      }
+peach-course : (buffer : List ℕ) → resultSize * 7 ≤ length buffer → CourseInstance peach (peachLeft buffer) peachStandings
+unfolding computing peachPlan peachUnits peach peachResults standingByte
+peach-course buffer holds =
+    course-recorded peach buffer peachAnswer (peachLeft buffer) (peach-accepted buffer holds) (all-bytes peach refl) peachStandings (
+      (at refl refl, refl),
+      (
+        (at refl refl, refl),
+        (
+          (at refl refl, refl),
+          (
+            (at refl refl, refl),
+            ((at refl refl, refl), ((at refl refl, refl), ((at refl refl, refl), tt))),
+          ),
+        ),
+      ),
+    )
 
-  worse-of-both : (i : ℕ) → i < 7 → codeOf peach i ≡ 5
-      → recordedCodeGrade peach (peachLeft buffer) i
-      ≡ worse (recordedPortionGrade peach (peachLeft buffer) 4) (recordedPortionGrade peach (peachLeft buffer) 5)
-  worse-of-both i h code =
-      let worst = by-rules .code-grades i (peach-unit i h) in
-      let it = worst .one-has-it in
-      let fourth = worst .none-worse 4 (peach-unit 4 (omega arith)) (have-code .0 ∙ sym code) in
-      let fifth = worst .none-worse 5 (peach-unit 5 (omega arith)) (have-code .1 ∙ sym code) in
-      ⊎-elim (λ at-fourth. omega (arith, ap (recordedPortionGrade peach (peachLeft buffer)) at-fourth, it .same-grade, fourth, fifth))
-      (λ at-fifth. omega (arith, ap (recordedPortionGrade peach (peachLeft buffer)) at-fifth, it .same-grade, fourth, fifth))
-      (of-code (it .index) (omega (arith, it .unit .inside, seven-records)) (it .same-code ∙ code))
+every-kind-course : (buffer : List ℕ) → resultSize * 6 ≤ length buffer
+    → CourseInstance everyKindOfRecord (everyKindLeft buffer) everyKindStandings
+unfolding computing peachPlan everyKindOfRecord everyKindOfRecordResults standingByte
+every-kind-course buffer holds =
+    course-recorded everyKindOfRecord buffer everyKindAnswer (everyKindLeft buffer) (every-kind-accepted buffer holds)
+    (all-bytes everyKindOfRecord refl) everyKindStandings (
+      (at refl refl, refl),
+      (
+        (at refl refl, refl),
+        (
+          (at refl refl, refl),
+          (
+            (at refl refl, refl),
+            ((at refl refl, refl), ((at refl refl, refl), tt)),
+          ),
+        ),
+      ),
+    )
 
-  code-graded : CodeInstance buffer
-  code-graded = record { first = worse-of-both 4 (omega arith) (have-code .0); second = worse-of-both 5 (omega arith) (have-code .1) }
+code-five : (buffer : List ℕ) → resultSize * 7 ≤ length buffer → CodeInstance peach (peachLeft buffer) 4 5
+unfolding computing peachPlan peachUnits peach
+code-five buffer holds =
+    code-graded peach buffer peachAnswer (peachLeft buffer) (peach-accepted buffer holds) 5 4 5 (at refl refl) (at refl refl) refl refl refl
 
-  -- demand 3's first half, at every unit and in every class
-  largest : (i class : ℕ) → i < 7 → class < length classes → LargestOf peach (peachLeft buffer) i class
-  largest i class h in-range =
-      demand3-largest-form peach buffer peachAnswer (peachLeft buffer) (peach-accepted buffer holds) i (peach-unit i h) (planned-units i h .1)
-      class (omega arith)
+code-met-again : (buffer : List ℕ) → resultSize * 6 ≤ length buffer → CodeInstance everyKindOfRecord (everyKindLeft buffer) 0 8
+unfolding computing peachPlan everyKindOfRecord
+code-met-again buffer holds =
+    code-graded everyKindOfRecord buffer everyKindAnswer (everyKindLeft buffer) (every-kind-accepted buffer holds)
+    300 0 8 (at refl refl) (at refl refl) refl refl refl
 
 -- ---- demand 3, the first half
 
--- a buffer with room
-abbrev emptyBuffer : List ℕ
-emptyBuffer = replicate (resultSize * 7) 0
+peach-largest : LargestInstance peach peachResults 7 peachPlanned
+unfolding computing peachPlan peachUnits peach
+peach-largest =
+    largest-recorded peach peachResults 7 peachAnswer peach-accepted peachPlanned (
+      (at refl refl, refl),
+      (
+        (at refl refl, refl),
+        (
+          (at refl refl, refl),
+          (
+            (at refl refl, refl),
+            ((at refl refl, refl), ((at refl refl, refl), ((at refl refl, refl), tt))),
+          ),
+        ),
+      ),
+    )
 
-room : resultSize * 7 ≤ length emptyBuffer
-room = omega (arith, length-replicate {A = ℕ} (resultSize * 7) 0)
+every-kind-largest : LargestInstance everyKindOfRecord everyKindOfRecordResults 6 everyKindPlanned
+unfolding computing peachPlan everyKindOfRecord
+every-kind-largest =
+    largest-recorded everyKindOfRecord everyKindOfRecordResults 6 everyKindAnswer every-kind-accepted everyKindPlanned (
+      (at refl refl, refl),
+      (
+        (at refl refl, refl),
+        (
+          (at refl refl, refl),
+          (
+            (at refl refl, refl),
+            ((at refl refl, refl), tt),
+          ),
+        ),
+      ),
+    )
 
-largest-form : LargestInstance
-largest-form =
+run-latest : Latest (sheetIn everyKindOfRecord) 2 6 5
+unfolding computing peachPlan everyKindOfRecord
+run-latest =
     record {
-      an-anchor = λ i class h in-range. largest emptyBuffer room i class h in-range .an-anchor;
-      largest-of = λ buffer holds i class h in-range from records at-failure to-this-unit is-anchor latest.
-          largest buffer holds i class h in-range .largest-of
-          (record { from = from; records = records; at-failure = at-failure; to-this-unit = to-this-unit; is-anchor = is-anchor; latest = latest });
+      no-failure = λ j from to. in-none 7 (classFailsAt (sheetIn everyKindOfRecord) 2) refl j (omega arith);
+      no-restart = λ j from before. let here : j ≡ 5 = omega arith in rw here;
     }
+
+largest-run : (buffer : List ℕ) → resultSize * 6 ≤ length buffer
+    → LargestNumber everyKindOfRecord (everyKindLeft buffer) 6 2 5 false (0 ∷ 9 ∷ []) 30
+unfolding computing peachPlan everyKindOfRecord
+largest-run =
+    number-recorded everyKindOfRecord everyKindOfRecordResults 6 everyKindAnswer every-kind-accepted 6 2 5 false (0 ∷ 9 ∷ []) 30
+    (at refl refl, refl) (lit< tt) refl (restart 4 (lit< tt) refl) run-latest refl refl
 
 -- ---- demand 3, the second half
 
-abbrev NotSecond : ℕ → Type 0
-NotSecond i = secondInARow (sheetIn oneCriticalMore) i ≡ false
+-- the accepted pairs
+abbrev threeAccepted : Answer
+threeAccepted = record { number = 0; units = 3; offset = 119 }
 
--- the sheet with one critical defect more has a failing unit, the last, and never two in a row
-never-two : (j : ℕ) → j < 4 → NotSecond j
-unfolding computing failsDesignated unitFailsAt unitFailsBefore secondInARow sheetIn peachPlan breakBetweenUnits oneCriticalMore
-never-two =
-    and-next NotSecond 3 (and-next NotSecond 2 (and-next NotSecond 1 (and-next NotSecond 0 (before-the-first NotSecond)
-    refl) refl) refl) refl
+minor-accepted : (buffer : List ℕ) → resultSize * 3 ≤ length buffer
+    → AcceptedAs oneMinorDefectFewer buffer threeAccepted (left oneMinorDefectFewerResults 3 buffer)
+minor-accepted buffer holds = record { promise = sym (further-sheets .fewer-defects .one-minor-defect-fewer buffer holds); accepted = refl }
 
-abbrev UnitButOne : ℕ → Type 0
-UnitButOne i = (i ≡ 1 → ⊥) → mark breakBetweenUnits i ≡ UnitMark
+break-accepted : (buffer : List ℕ) → resultSize * 3 ≤ length buffer
+    → AcceptedAs breakBetweenFailures buffer threeAccepted (left breakBetweenFailuresResults 3 buffer)
+break-accepted buffer holds = record { promise = sym (further-sheets .breaks .break-between-failures buffer holds); accepted = refl }
 
-unit-but-one : (i : ℕ) → i < 4 → (i ≡ 1 → ⊥) → UnitAt breakBetweenUnits i
-unit-but-one i h other = record { inside = omega (arith, both-records .0); is-unit = marked i h other }
-  where
-    marked : (i : ℕ) → i < 4 → UnitButOne i
-    marked =
-        and-next UnitButOne 3 (and-next UnitButOne 2 (and-next UnitButOne 1 (and-next UnitButOne 0 (before-the-first UnitButOne)
-        (λ other. marks .0)) (λ other. absurd (other refl))) (λ other. marks .2)) (λ other. marks .3)
+severe-accepted : (buffer : List ℕ) → resultSize * 7 ≤ length buffer
+    → AcceptedAs oneSevereDefectFewer buffer peachAnswer (left oneSevereDefectFewerResults 7 buffer)
+severe-accepted buffer holds = record { promise = sym (further-sheets .fewer-defects .one-severe-defect-fewer buffer holds); accepted = refl }
+
+-- none of their records is a redesignation
+abbrev isRedesignation : Mark → Bool
+isRedesignation UnitMark = false
+isRedesignation RedesignationMark = true
+isRedesignation BreakMark = false
+isRedesignation NoMark = false
+
+no-redesignation : (bytes : List ℕ) → any (λ i. isRedesignation (mark bytes i)) (upFrom 0 (recordsIn bytes)) ≡ false
+    → (i : ℕ) → i < recordsIn bytes → mark bytes i ≡ RedesignationMark → ⊥
+no-redesignation bytes none i h is =
+    false≢true (sym (in-none (recordsIn bytes) (λ j. isRedesignation (mark bytes j)) none i h) ∙ ap isRedesignation is)
+
+-- the minor count of record 3, and the severe count of record 1
+minor-compared : (buffer buffer' : List ℕ) → resultSize * 3 ≤ length buffer → resultSize * 3 ≤ length buffer'
+    → NeverWorse oneMinorDefectFewer breakBetweenFailures (left oneMinorDefectFewerResults 3 buffer) (left breakBetweenFailuresResults 3 buffer')
+unfolding computing peachPlan oneMinorDefectFewer breakBetweenFailures
+minor-compared buffer buffer' holds holds' =
+    demand3-fewer-defects oneMinorDefectFewer breakBetweenFailures buffer buffer' threeAccepted threeAccepted _ _
+    (one-fewer oneMinorDefectFewer breakBetweenFailures 116 2 refl (lit< tt) (lit< tt)
+    (record { i = 3; unit = at refl refl; from = lit< tt; to = lit< tt })
+    buffer buffer' threeAccepted threeAccepted _ _ (minor-accepted buffer holds) (break-accepted buffer' holds') (no-redesignation oneMinorDefectFewer refl))
+
+severe-compared : (buffer buffer' : List ℕ) → resultSize * 7 ≤ length buffer → resultSize * 7 ≤ length buffer'
+    → NeverWorse oneSevereDefectFewer peach (left oneSevereDefectFewerResults 7 buffer) (peachLeft buffer')
+unfolding computing peachPlan oneSevereDefectFewer peachUnits peach
+severe-compared buffer buffer' holds holds' =
+    demand3-fewer-defects oneSevereDefectFewer peach buffer buffer' peachAnswer peachAnswer _ _
+    (one-fewer oneSevereDefectFewer peach 96 1 refl (lit< tt) (lit< tt)
+    (record { i = 1; unit = at refl refl; from = lit< tt; to = lit< tt })
+    buffer buffer' peachAnswer peachAnswer _ _ (severe-accepted buffer holds) (peach-accepted buffer' holds') (no-redesignation oneSevereDefectFewer refl))
 
 fewer-defects : (buffer buffer' : List ℕ) → resultSize * 3 ≤ length buffer → resultSize * 3 ≤ length buffer' → FewerInstance buffer buffer'
+unfolding computing peachPlan oneMinorDefectFewer oneMinorDefectFewerResults breakBetweenFailures breakBetweenFailuresResults
 fewer-defects buffer buffer' holds holds' =
-    let compared : NeverWorse breakBetweenUnits oneCriticalMore (fewerLeft buffer) (moreLeft buffer') =
-    demand3-fewer-defects breakBetweenUnits oneCriticalMore buffer buffer' threeAccepted threeAccepted (fewerLeft buffer) (moreLeft buffer')
-    (an-example buffer buffer' holds holds') in
+    let compared = minor-compared buffer buffer' holds holds' in
+    let never = in-none 4 (secondInARow (sheetIn breakBetweenFailures)) refl in
     record {
-      cusums = λ i class h other.
-          compared .up-to-two-in-a-row i (unit-but-one i h other) (λ j before. never-two j (omega arith)) .cusums class;
-      failures = λ i class h other.
-          compared .up-to-two-in-a-row i (unit-but-one i h other) (λ j before. never-two j (omega arith)) .failures class;
-      portions = λ i h other.
-          compared .never-two-in-a-row (λ j inside. never-two j (omega (arith, both-records .1))) i (unit-but-one i h other) .portions;
-      codes = λ i h other.
-          compared .never-two-in-a-row (λ j inside. never-two j (omega (arith, both-records .1))) i (unit-but-one i h other) .codes;
+      no-higher = none-higher _ _ _ _ compared _ 4 never ((at refl refl, refl), ((at refl refl, refl), ((at refl refl, refl), tt)));
+      no-lower = none-lower _ _ _ _ compared _ never (at refl refl, (at refl refl, (at refl refl, tt)));
+      fails = (refl, refl);
+      smaller = lit< tt;
     }
+
+fewer-defects-twice : (buffer buffer' : List ℕ) → resultSize * 7 ≤ length buffer → resultSize * 7 ≤ length buffer' → FewerTwiceInstance buffer buffer'
+unfolding computing peachPlan oneSevereDefectFewer oneSevereDefectFewerResults peachUnits peach peachResults
+fewer-defects-twice buffer buffer' holds holds' =
+    record {
+      two-in-a-row = refl;
+      no-higher = none-higher _ _ _ _ (severe-compared buffer buffer' holds holds') _ 2 (in-none 2 (secondInARow (sheetIn peach)) refl)
+          ((at refl refl, refl), ((at refl refl, refl), ((at refl refl, refl), tt)));
+      fails = (refl, refl);
+      smaller = lit< tt;
+    }
+
+-- ---- and once more the first half
+
+largest-anchored : (buffer : List ℕ) → resultSize * 3 ≤ length buffer
+    → LargestNumber oneMinorDefectFewer (left oneMinorDefectFewerResults 3 buffer) 3 3 3 true (5 ∷ []) 30
+unfolding computing peachPlan oneMinorDefectFewer
+largest-anchored =
+    number-recorded oneMinorDefectFewer oneMinorDefectFewerResults 3 threeAccepted minor-accepted 3 3 3 true (5 ∷ []) 30
+    (at refl refl, refl) (lit< tt) refl (failure 2 (lit< tt) refl (λ before. refl))
+    (record { no-failure = λ j from to. let here : j ≡ 3 = omega arith in rw here; no-restart = λ j from before. absurd (omega arith) }) refl refl
 
 -- ---- together
 
@@ -246,8 +316,14 @@ instances =
       refused = refused;
       accepted = accepted;
       grounds = grounds;
-      course = course-recorded;
-      code-grades = code-graded;
-      largest-form = largest-form;
+      course = peach-course;
+      every-kind-course = every-kind-course;
+      code-grades = code-five;
+      code-met-again = code-met-again;
+      largest-form = peach-largest;
+      every-kind-largest = every-kind-largest;
+      largest-run = largest-run;
+      largest-anchored = largest-anchored;
       fewer-defects = fewer-defects;
+      fewer-defects-twice = fewer-defects-twice;
     }

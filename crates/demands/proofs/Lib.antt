@@ -11,6 +11,8 @@ pub mod Graded
 pub mod LargestOf
 pub mod AlikeSheets
 pub mod NeverWorse
-pub mod AlikeExample
+pub mod OneFewer
+pub mod AtUnits
+pub mod Computing
 pub mod Instances
 pub mod Demands

@@ -1,18 +1,25 @@
--- The demands on the grading as one theorem, `demands : Demands` in `proofs/Demands.antt`. Its first field is what the code promises: the
--- answer and the whole result buffer are the `outcome` of the sheet and the buffer, for every input. Every other field speaks of that, but for P1 to P8, which speak of
--- the rules alone.
+-- The demands on the grading as one theorem, `demands : Demands` in `proofs/Demands.antt`. Its first three fields are what the code promises,
+-- for every input: of `tally::grade`, and of `hatmuyon_grade`, through which C and Rust call it, that the answer and the whole result buffer
+-- are the `outcome` of the sheet and the buffer; of `lines::print_into` that the text is that of `printing`, with `printed` of the input in
+-- front. Demands 1 to 3, P9 and P10, the further sheets and the instances speak of `outcome`; the lines of P10 and the printed text of
+-- `printed`; P1 to P8 of the rules alone.
 use Rattle.tally.proofs.grade.Statement as grade
+use Rattle.hatmuyon.proofs.hatmuyon_grade.Statement as hatmuyon_grade
+use Rattle.lines.proofs.print_into.Statement as print_into
 use Rattle.demands.specs.Demand1.{Demand1}
 use Rattle.demands.specs.Grounds.{Demand2Grounds, NeverOverfull}
 use Rattle.demands.specs.Demand2.{Demand2Records}
 use Rattle.demands.specs.Demand3.{Demand3LargestForm, Demand3FewerDefects}
 use Rattle.computed.specs.Peach.{SmallSheets}
 use Rattle.computed.specs.FurtherSheets.{FurtherSheets}
+use Rattle.computed.specs.Printed.{PrintedText}
 use Rattle.demands.specs.Instances.{Instances}
 
 pub record Demands : Type 2 where
-  -- the contract of `tally::grade`, met by its code
+  -- the contracts of `tally::grade`, of `hatmuyon_grade` and of `lines::print_into`, each met by its code
   pub promise-of-grade : {M : Type 1} → grade.statement M
+  pub promise-of-hatmuyon-grade : {M : Type 1} → hatmuyon_grade.statement M
+  pub promise-of-print-into : {M : Type 1} → print_into.statement M
   -- any bytes at all are accepted, or refused by a listed number with the place; what happens to the result buffer
   pub demand1 : Demand1
   -- nothing is refused without a listed ground, and the first that applies is returned
@@ -27,7 +34,9 @@ pub record Demands : Type 2 where
   pub demand3-fewer-defects : Demand3FewerDefects
   -- P1 to P10, and the lines of P10
   pub small-sheets : SmallSheets
-  -- fifty further sheets in bytes, with the answers and result bytes of the independent grader
+  -- further sheets in bytes, with the answers and result bytes of the independent grader
   pub further-sheets : FurtherSheets
-  -- each demand on a sheet of several units in every class, as its theorem gives it
+  -- what is printed for any input, and texts of the independent grader
+  pub printed-text : PrintedText
+  -- each demand on sheets of several units in every class, as its theorem gives it
   pub instances : Instances

@@ -1,54 +1,62 @@
--- Each demand once more on a concrete sheet of several units and in every class, written out here and proved from the demand's own
+-- Each demand once more on concrete sheets of several units and in every class, written out here and proved from the demand's own
 -- theorem: a demand stated for fewer sheets, records, units or classes, or without one of the parts used here, would no longer give these.
 use Prim.Native.Nat.{ℕ, suc, _+_, _*_, _<_, _≤_}
 use mathlib.Core.Path.{_≡_}
-use mathlib.Core.Bool.{Bool, true}
+use mathlib.Core.Bool.{Bool, true, false}
 use mathlib.Core.List.{List, [], _∷_, _++_}
 use mathlib.Core.Logic.{_⊎_}
-use lib.ListN.{length, drop, set}
+use lib.ListN.{length, drop}
 use lib.IntN.{pos}
 use Rattle.cusum.specs.LargestForm.{largestForm}
 use Rattle.units.specs.Words.{substandard, classes, worse}
+use Rattle.rules.specs.TwoInARow.{secondInARow}
 use Rattle.rules.specs.Anchor.{classFailsAt, countsFrom, Anchor, Latest, anchorValue}
-use Rattle.layout.specs.Layout.{markSize, planSize, countsOffset, unitSize}
 use Rattle.sheet.specs.Refusals.{recordRefusal}
 use Rattle.results.specs.Record.{resultSize}
 use Rattle.tally.specs.Outcome.{outcome}
 use Rattle.tally.specs.Accepted.{sheetIn, recordedCusum, recordedPortionGrade, recordedCodeGrade, numbersInForce}
 use Rattle.demands.specs.Grounds.{toleranceIn, limitIn, Ground, row}
-use Rattle.demands.specs.Course.{Course, tenTimes, Rules}
-use Rattle.demands.specs.Demand2.{recordedPlanGrade}
+use Rattle.demands.specs.Course.{Course, tenTimes, prerequisite, UnitFails, Recovered, Rules}
+use Rattle.demands.specs.Demand2.{recordedMark, recordedCode, recordedPlanGrade, recordedStanding, codeOf}
 use Rattle.demands.specs.Demand3.{AnchorAt}
 use Rattle.computed.specs.WorkedCases.{peach, peachResults}
-use Rattle.computed.specs.FurtherSheets.{breakBetweenUnits, breakBetweenUnitsResults, grounds8And9, ground11ByLastRedesignation}
+use Rattle.computed.specs.FurtherSheets.{breakBetweenFailures, breakBetweenFailuresResults, everyKindOfRecord, everyKindOfRecordResults, oneMinorDefectFewer, oneMinorDefectFewerResults, oneSevereDefectFewer, oneSevereDefectFewerResults, grounds8And9, ground11ByLastRedesignation}
 
 -- ---- the sheets
 
--- what the peach sheet, whose seven records are units, leaves of a buffer
+-- what result records of so many units leave of a buffer
+abbrev pub left : List ℕ → ℕ → List ℕ → List ℕ
+left results units buffer = results ++ drop (resultSize * units) buffer
+
+-- the peach sheet, whose seven records are units, and the sheet with every kind of record: units are its records 0, 1, 3, 5, 6 and 8, of
+-- which the last has no plan; records 2 and 4 are redesignations, the first keeps step 3 and the second ends it; record 7 is a break
 abbrev pub peachLeft : List ℕ → List ℕ
-peachLeft buffer = peachResults ++ drop (resultSize * 7) buffer
+peachLeft buffer = left peachResults 7 buffer
 
--- the low byte of the critical count in the last unit of `breakBetweenUnits`: a unit, a break and a unit stand before that
-abbrev pub criticalLow : ℕ
-criticalLow = planSize + unitSize + markSize + unitSize + countsOffset + 1
+abbrev pub everyKindLeft : List ℕ → List ℕ
+everyKindLeft buffer = left everyKindOfRecordResults 6 buffer
 
--- that sheet with one critical defect there; the class total then fails, by one defect
-unfoldable pub oneCriticalMore : List ℕ
-oneCriticalMore = set breakBetweenUnits criticalLow 1
+-- their units, each with its standing
+pub data Standing : Type 0 where
+  met failed notRecovered recovered : Standing
 
-unfoldable pub oneCriticalMoreResults : List ℕ
-oneCriticalMoreResults =
-    0x47 ∷ 0x52 ∷ 0 ∷ 1 ∷ 0 ∷ 0 ∷ 0 ∷ 0 ∷ 0 ∷ 0 ∷ 0 ∷ 0 ∷ 0 ∷ 20 ∷ 0 ∷ 40  -- 1 1 A A m A 0.0 0.0 2.0 4.0
-    ∷ 0x47 ∷ 0x52 ∷ 0 ∷ 2 ∷ 0 ∷ 0 ∷ 0 ∷ 0 ∷ 0 ∷ 0 ∷ 0 ∷ 0 ∷ 0 ∷ 20 ∷ 0 ∷ 40  -- 2 2 A A m A 0.0 0.0 2.0 4.0
-    ∷ 0x47 ∷ 0x52 ∷ 0 ∷ 3 ∷ 1 ∷ 1 ∷ 0 ∷ 1 ∷ 0 ∷ 5 ∷ 0 ∷ 0 ∷ 0 ∷ 20 ∷ 0 ∷ 40  -- 3 3 B B f A 0.5 0.0 2.0 4.0
-    ∷ []
+abbrev pub peachStandings : List (ℕ × Standing)
+peachStandings = (0, met) ∷ (1, failed) ∷ (2, failed) ∷ (3, recovered) ∷ (4, recovered) ∷ (5, notRecovered) ∷ (6, met) ∷ []
 
--- what the two leave of a buffer
-abbrev pub fewerLeft : List ℕ → List ℕ
-fewerLeft buffer = breakBetweenUnitsResults ++ drop (resultSize * 3) buffer
+abbrev pub everyKindStandings : List (ℕ × Standing)
+everyKindStandings = (0, failed) ∷ (1, failed) ∷ (3, notRecovered) ∷ (5, failed) ∷ (6, failed) ∷ (8, notRecovered) ∷ []
 
-abbrev pub moreLeft : List ℕ → List ℕ
-moreLeft buffer = oneCriticalMoreResults ++ drop (resultSize * 3) buffer
+-- those with a plan in force
+abbrev pub peachPlanned : List ℕ
+peachPlanned = 0 ∷ 1 ∷ 2 ∷ 3 ∷ 4 ∷ 5 ∷ 6 ∷ []
+
+abbrev pub everyKindPlanned : List ℕ
+everyKindPlanned = 0 ∷ 1 ∷ 3 ∷ 5 ∷ 6 ∷ []
+
+-- a statement for each member of a list
+abbrev pub Each : {A : Type 0} → List A → (A → Type 0) → Type 0
+Each [] P = Unit
+Each (member ∷ members) P = P member × Each members P
 
 -- ---- demand 1
 
@@ -73,55 +81,110 @@ pub record GroundInstance : Type 0 where
   -- the peach sheet is accepted, and no ground applies
   pub none-accepted : (buffer : List ℕ) → resultSize * 7 ≤ length buffer → (number at : ℕ) → Ground peach buffer number at → ⊥
 
--- the peach sheet: a course by the rules, of which every unit's plan grade and every CuSum is recorded
-pub record CourseInstance (buffer : List ℕ) : Type 0 where
-  pub course : Course
-  pub rules : Rules peach course
-  pub plan-grades : (i : ℕ) → i < 7 → recordedPlanGrade peach (peachLeft buffer) i ≡ course .planGrade i
-  pub cusums : (i class : ℕ) → i < 7 → class < length classes → recordedCusum peach (peachLeft buffer) i class ≡ course .newCusum i class
-  -- rule 2 at every unit and in every class: above T+L the new CuSum is L, below T it is zero, between it is the raw value
-  pub above : (i class : ℕ) → i < 7 → class < length classes → course .planGrade i < substandard
-      → toleranceIn peach (course .planGrade i) class + limitIn peach (course .planGrade i) class < course .cusum i class + tenTimes peach i class
-      → course .newCusum i class ≡ limitIn peach (course .planGrade i) class
-  pub below : (i class : ℕ) → i < 7 → class < length classes → course .planGrade i < substandard
-      → course .cusum i class + tenTimes peach i class < toleranceIn peach (course .planGrade i) class → course .newCusum i class ≡ 0
-  pub between : (i class : ℕ) → i < 7 → class < length classes → course .planGrade i < substandard
-      → toleranceIn peach (course .planGrade i) class ≤ course .cusum i class + tenTimes peach i class
-      → course .cusum i class + tenTimes peach i class ≤ toleranceIn peach (course .planGrade i) class + limitIn peach (course .planGrade i) class
-      → course .newCusum i class + toleranceIn peach (course .planGrade i) class ≡ course .cusum i class + tenTimes peach i class
+-- how a standing is recorded: 0 met the designated plan, 1 failed it, 2 in step 3 and not recovered, 3 recovered
+unfoldable pub standingByte : Standing → ℕ
+standingByte met = 0
+standingByte failed = 1
+standingByte notRecovered = 2
+standingByte recovered = 3
 
--- its code 5, of records 4 and 5 and no other: the code grade of either is the worse of their portion grades
-pub record CodeInstance (buffer : List ℕ) : Type 0 where
-  pub first : recordedCodeGrade peach (peachLeft buffer) 4
-      ≡ worse (recordedPortionGrade peach (peachLeft buffer) 4) (recordedPortionGrade peach (peachLeft buffer) 5)
-  pub second : recordedCodeGrade peach (peachLeft buffer) 5
-      ≡ worse (recordedPortionGrade peach (peachLeft buffer) 4) (recordedPortionGrade peach (peachLeft buffer) 5)
+-- and what it says of the unit that is record i
+unfoldable pub StandingSays : List ℕ → Course → ℕ → Standing → Type 0
+StandingSays bytes course i met = (course .inStepThree i ≡ false) × (UnitFails bytes course i → ⊥)
+StandingSays bytes course i failed = (course .inStepThree i ≡ false) × ((UnitFails bytes course i → ⊥) → ⊥)
+StandingSays bytes course i notRecovered = (course .inStepThree i ≡ true) × (Recovered bytes course i → ⊥)
+StandingSays bytes course i recovered = (Recovered bytes course i → ⊥) → ⊥
+
+-- the portion grade is the worse of this and the prerequisite grade
+unfoldable pub gradeBy : Course → ℕ → Standing → ℕ
+gradeBy course i met = course .defectGrade i
+gradeBy course i failed = course .defectGrade i
+gradeBy course i notRecovered = course .defectGrade i
+gradeBy course i recovered = course .designated i
+
+-- what a course says of the unit that is record i, and what is recorded of it
+pub record UnitInstance (bytes results : List ℕ) (course : Course) (i : ℕ) (given : Standing) : Type 0 where
+  pub mark : recordedMark bytes results i ≡ 0x4752
+  pub code : recordedCode bytes results i ≡ codeOf bytes i
+  pub plan-grade : recordedPlanGrade bytes results i ≡ course .planGrade i
+  pub cusums : (class : ℕ) → class < length classes → recordedCusum bytes results i class ≡ course .newCusum i class
+  pub standing : recordedStanding bytes results i ≡ standingByte given
+  pub standing-says : StandingSays bytes course i given
+  pub portion : recordedPortionGrade bytes results i ≡ worse (gradeBy course i given) (prerequisite bytes i)
+  -- rule 2 in every class: above T+L the new CuSum is L, below T it is zero, between it is the raw value
+  pub above : (class : ℕ) → class < length classes → course .planGrade i < substandard
+      → toleranceIn bytes (course .planGrade i) class + limitIn bytes (course .planGrade i) class < course .cusum i class + tenTimes bytes i class
+      → course .newCusum i class ≡ limitIn bytes (course .planGrade i) class
+  pub below : (class : ℕ) → class < length classes → course .planGrade i < substandard
+      → course .cusum i class + tenTimes bytes i class < toleranceIn bytes (course .planGrade i) class → course .newCusum i class ≡ 0
+  pub between : (class : ℕ) → class < length classes → course .planGrade i < substandard
+      → toleranceIn bytes (course .planGrade i) class ≤ course .cusum i class + tenTimes bytes i class
+      → course .cusum i class + tenTimes bytes i class ≤ toleranceIn bytes (course .planGrade i) class + limitIn bytes (course .planGrade i) class
+      → course .newCusum i class + toleranceIn bytes (course .planGrade i) class ≡ course .cusum i class + tenTimes bytes i class
+
+-- an accepted sheet with the buffer as it is left: a course by the rules, which is what is recorded of each of its units
+pub record CourseInstance (bytes results : List ℕ) (standings : List (ℕ × Standing)) : Type 0 where
+  pub course : Course
+  pub rules : Rules bytes course
+  pub units : Each standings (λ (i, standing). UnitInstance bytes results course i standing)
+
+-- a code of records i and j and no other: the code grade of either is the worse of their portion grades
+pub record CodeInstance (bytes results : List ℕ) (i j : ℕ) : Type 0 where
+  pub first : recordedCodeGrade bytes results i ≡ worse (recordedPortionGrade bytes results i) (recordedPortionGrade bytes results j)
+  pub second : recordedCodeGrade bytes results j ≡ worse (recordedPortionGrade bytes results i) (recordedPortionGrade bytes results j)
 
 -- ---- demand 3
 
--- the peach sheet, at every unit and in every class
-pub record LargestInstance : Type 0 where
+-- a sheet at each of its units with a plan and in every class, in every buffer with room for its result records
+pub record LargestInstance (bytes results : List ℕ) (units : ℕ) (planned : List ℕ) : Type 0 where
   -- there is a latest anchor
-  pub an-anchor : (i class : ℕ) → i < 7 → class < length classes → AnchorAt peach i class
+  pub an-anchor : Each planned (λ i. (class : ℕ) → class < length classes → AnchorAt bytes i class)
   -- and from the latest anchor, wherever it lies, the recorded CuSum is the largest of its form
-  pub largest-of : (buffer : List ℕ) → resultSize * 7 ≤ length buffer → (i class : ℕ) → i < 7 → class < length classes
+  pub largest-of : (buffer : List ℕ) → resultSize * units ≤ length buffer
+      → Each planned (λ i. (class : ℕ) → class < length classes
       → (from records : ℕ) (at-failure : Bool) → from + records ≡ suc i
-      → Anchor (sheetIn peach) class i from at-failure → Latest (sheetIn peach) class i from
-      → pos (recordedCusum peach (peachLeft buffer) i class)
-      ≡ largestForm (numbersInForce peach i class) (anchorValue (numbersInForce peach i class) at-failure) (countsFrom (sheetIn peach) class from records)
+      → Anchor (sheetIn bytes) class i from at-failure → Latest (sheetIn bytes) class i from
+      → pos (recordedCusum bytes (left results units buffer) i class)
+      ≡ largestForm (numbersInForce bytes i class) (anchorValue (numbersInForce bytes i class) at-failure) (countsFrom (sheetIn bytes) class from records))
 
--- the sheet with a break and the same with one critical defect more, at records 0, 2 and 3, which are its units
+-- one unit and class in numbers: its latest anchor, the counts since it, their largest form, and so the CuSum that is recorded
+pub record LargestNumber (bytes results : List ℕ) (i class from : ℕ) (at-failure : Bool) (counts : List ℕ) (tenths : ℕ) : Type 0 where
+  pub is-anchor : Anchor (sheetIn bytes) class i from at-failure
+  pub latest : Latest (sheetIn bytes) class i from
+  pub since : countsFrom (sheetIn bytes) class from (length counts) ≡ counts
+  pub largest : largestForm (numbersInForce bytes i class) (anchorValue (numbersInForce bytes i class) at-failure) counts ≡ pos tenths
+  pub recorded : recordedCusum bytes results i class ≡ tenths
+
+-- two sheets alike except that the first has a defect fewer, at these units: no CuSum is higher, in any class, and no class fails anew
+pub record NoHigherInstance (bytes bytes' results results' : List ℕ) (units : List ℕ) : Type 0 where
+  pub cusums : Each units (λ i. (class : ℕ) → class < length classes → recordedCusum bytes results i class ≤ recordedCusum bytes' results' i class)
+  pub failures : Each units (λ i. (class : ℕ) → class < length classes
+      → classFailsAt (sheetIn bytes) class i ≡ true → classFailsAt (sheetIn bytes') class i ≡ true)
+
+-- no portion and no code grades lower
+pub record NoLowerInstance (bytes bytes' results results' : List ℕ) (units : List ℕ) : Type 0 where
+  pub portions : Each units (λ i. recordedPortionGrade bytes results i ≤ recordedPortionGrade bytes' results' i)
+  pub codes : Each units (λ i. recordedCodeGrade bytes results i ≤ recordedCodeGrade bytes' results' i)
+
+-- the sheet with a break between failures, and the same with one minor defect fewer in its last unit; units are records 0, 2 and 3
 pub record FewerInstance (buffer buffer' : List ℕ) : Type 0 where
-  -- no CuSum is higher, in any class, and no class fails anew
-  pub cusums : (i class : ℕ) → i < 4 → (i ≡ 1 → ⊥) → class < length classes
-      → recordedCusum breakBetweenUnits (fewerLeft buffer) i class ≤ recordedCusum oneCriticalMore (moreLeft buffer') i class
-  pub failures : (i class : ℕ) → i < 4 → (i ≡ 1 → ⊥) → class < length classes
-      → classFailsAt (sheetIn breakBetweenUnits) class i ≡ true → classFailsAt (sheetIn oneCriticalMore) class i ≡ true
-  -- no portion and no code grades lower
-  pub portions : (i : ℕ) → i < 4 → (i ≡ 1 → ⊥)
-      → recordedPortionGrade breakBetweenUnits (fewerLeft buffer) i ≤ recordedPortionGrade oneCriticalMore (moreLeft buffer') i
-  pub codes : (i : ℕ) → i < 4 → (i ≡ 1 → ⊥)
-      → recordedCodeGrade breakBetweenUnits (fewerLeft buffer) i ≤ recordedCodeGrade oneCriticalMore (moreLeft buffer') i
+  pub no-higher : NoHigherInstance oneMinorDefectFewer breakBetweenFailures
+      (left oneMinorDefectFewerResults 3 buffer) (left breakBetweenFailuresResults 3 buffer') (0 ∷ 2 ∷ 3 ∷ [])
+  pub no-lower : NoLowerInstance oneMinorDefectFewer breakBetweenFailures
+      (left oneMinorDefectFewerResults 3 buffer) (left breakBetweenFailuresResults 3 buffer') (0 ∷ 2 ∷ 3 ∷ [])
+  -- both fail in total at records 0 and 2; at record 3 the first has the smaller CuSum in total
+  pub fails : (classFailsAt (sheetIn oneMinorDefectFewer) 3 0 ≡ true) × (classFailsAt (sheetIn oneMinorDefectFewer) 3 2 ≡ true)
+  pub smaller : recordedCusum oneMinorDefectFewer (left oneMinorDefectFewerResults 3 buffer) 3 3
+      < recordedCusum breakBetweenFailures (left breakBetweenFailuresResults 3 buffer') 3 3
+
+-- the peach sheet, of which records 1 and 2 fail in a row, and the same with one severe defect fewer in its second unit: up to and
+-- including record 2
+pub record FewerTwiceInstance (buffer buffer' : List ℕ) : Type 0 where
+  pub two-in-a-row : secondInARow (sheetIn peach) 2 ≡ true
+  pub no-higher : NoHigherInstance oneSevereDefectFewer peach (left oneSevereDefectFewerResults 7 buffer) (peachLeft buffer') (0 ∷ 1 ∷ 2 ∷ [])
+  -- both fail in total at records 1 and 2; at record 1 the first has the smaller CuSum in severe
+  pub fails : (classFailsAt (sheetIn oneSevereDefectFewer) 3 1 ≡ true) × (classFailsAt (sheetIn oneSevereDefectFewer) 3 2 ≡ true)
+  pub smaller : recordedCusum oneSevereDefectFewer (left oneSevereDefectFewerResults 7 buffer) 1 1 < recordedCusum peach (peachLeft buffer') 1 1
 
 -- ---- together
 
@@ -131,10 +194,22 @@ pub record Instances : Type 0 where
   pub accepted : AcceptedInstance
   -- demand 2, the grounds
   pub grounds : GroundInstance
-  -- demand 2, the records, in every buffer with room
-  pub course : (buffer : List ℕ) → resultSize * 7 ≤ length buffer → CourseInstance buffer
-  pub code-grades : (buffer : List ℕ) → resultSize * 7 ≤ length buffer → CodeInstance buffer
+  -- demand 2, the records, in every buffer with room: the courses of both sheets; code 5 of the one, code 300, met again apart, of the other
+  pub course : (buffer : List ℕ) → resultSize * 7 ≤ length buffer → CourseInstance peach (peachLeft buffer) peachStandings
+  pub every-kind-course : (buffer : List ℕ) → resultSize * 6 ≤ length buffer
+      → CourseInstance everyKindOfRecord (everyKindLeft buffer) everyKindStandings
+  pub code-grades : (buffer : List ℕ) → resultSize * 7 ≤ length buffer → CodeInstance peach (peachLeft buffer) 4 5
+  pub code-met-again : (buffer : List ℕ) → resultSize * 6 ≤ length buffer → CodeInstance everyKindOfRecord (everyKindLeft buffer) 0 8
   -- demand 3, the largest form
-  pub largest-form : LargestInstance
+  pub largest-form : LargestInstance peach peachResults 7 peachPlanned
+  pub every-kind-largest : LargestInstance everyKindOfRecord everyKindOfRecordResults 6 everyKindPlanned
+  -- in major at record 6, from the S at record 4, a redesignation: of 1 + (0 - 6) + (9 - 6), (0 - 6) + (9 - 6) and 9 - 6 the last, a run
+  pub largest-run : (buffer : List ℕ) → resultSize * 6 ≤ length buffer
+      → LargestNumber everyKindOfRecord (everyKindLeft buffer) 6 2 5 false (0 ∷ 9 ∷ []) 30
+  -- in total at record 3, from the L at record 2, a failure: 4 + (5 - 6)
+  pub largest-anchored : (buffer : List ℕ) → resultSize * 3 ≤ length buffer
+      → LargestNumber oneMinorDefectFewer (left oneMinorDefectFewerResults 3 buffer) 3 3 3 true (5 ∷ []) 30
   -- demand 3, fewer defects, in every two buffers with room
   pub fewer-defects : (buffer buffer' : List ℕ) → resultSize * 3 ≤ length buffer → resultSize * 3 ≤ length buffer' → FewerInstance buffer buffer'
+  pub fewer-defects-twice : (buffer buffer' : List ℕ) → resultSize * 7 ≤ length buffer → resultSize * 7 ≤ length buffer'
+      → FewerTwiceInstance buffer buffer'

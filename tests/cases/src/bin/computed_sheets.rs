@@ -104,14 +104,19 @@ fn unit(code: u16, counts: [i64; 4]) -> Record {
     unit_as(code, counts, A, true)
 }
 
+/// With minor defects alone, which count in total alone.
+fn minor(code: u16, count: i64) -> Record {
+    unit(code, [0, 0, 0, count])
+}
+
 /// Fails A and grades B, from any CuSums, in total alone.
 fn fails(code: u16) -> Record {
-    unit(code, [0, 0, 0, 12])
+    minor(code, 12)
 }
 
 /// Fails A and grades C.
 fn fails_to_c(code: u16) -> Record {
-    unit(code, [0, 0, 0, 18])
+    minor(code, 18)
 }
 
 /// Fails A and grades Substandard, in critical alone.
@@ -229,6 +234,12 @@ fn groups() -> Vec<Group> {
             cases: step_three(),
         },
         Group {
+            name: "FewerDefectSheets",
+            field: "fewer-defects",
+            title: "sheets with a defect fewer than another",
+            cases: fewer(),
+        },
+        Group {
             name: "RefusedSheets",
             field: "refusals",
             title: "refusals, most of them where two rows of the table apply",
@@ -275,6 +286,23 @@ fn breaks() -> Vec<Case> {
             plan(),
             &[fails(1), fails(2), clean(3), clean(4), BREAK, clean(5), clean(6)],
             "BBfA BBfA BBuB BBuB BBuB BBuB",
+        ),
+        accepted(
+            "a break without a plan",
+            "Without a plan a break sets the run to none as well, else units 3 to 5 would be recovered; and\n\
+             it does not end step 3.",
+            plan(),
+            &[
+                fails_to_s(1),
+                fails_to_s(2),
+                clean(3),
+                clean(4),
+                BREAK,
+                clean(5),
+                clean(6),
+                clean(7),
+            ],
+            "SSfA SSfA SSuS SSuS AArS AArS AArS",
         ),
         accepted(
             "no unit",
@@ -358,6 +386,40 @@ fn redesignations() -> Vec<Case> {
                 unit(6, [2, 5, 6, 4]),
             ],
             "SSfA BBfA SSuS CCrS CCrS CCrS",
+        ),
+        accepted(
+            "a redesignation after step three",
+            "Unit 5 is the third that qualifies: units 3 to 5 get A, which is designated there, and not B.\n\
+             The redesignation is outside step 3 and starts B at S: from zero unit 6 would have lower CuSums.",
+            plan(),
+            &[
+                fails(1),
+                fails(2),
+                clean(3),
+                clean(4),
+                clean(5),
+                to(B),
+                unit(6, [0, 3, 5, 5]),
+            ],
+            "BBfA BBfA AArB AArB AArB BBmB",
+        ),
+        accepted(
+            "every kind of record",
+            "B is better than C, so that step 3 goes on at C; C is not, and ends it. Then C fails twice, and\n\
+             unit 6 has no plan. Code 300 is met again in unit 6, which grades lower than unit 1.",
+            plan(),
+            &[
+                fails_to_c(300),
+                fails(2),
+                to(B),
+                unit(3, [0, 6, 7, 5]),
+                to(C),
+                unit(4, [0, 8, 0, 0]),
+                unit(5, [0, 8, 9, 0]),
+                BREAK,
+                clean(300),
+            ],
+            "CSfA BBfA CCuC SSfC SSfC SSuS",
         ),
     ]
 }
@@ -459,6 +521,29 @@ fn units() -> Vec<Case> {
             &[unit(1, [0, 1, 3, 2]), unit(2, [0, 1, 4, 1])],
             "AAmA BBfA",
         ),
+        accepted(
+            "cusums of two bytes",
+            "S, CuSums and L above 25.5 have both bytes: 25.6, 59.6, and 60.0 at the failure.",
+            plan_with(&[
+                (A, TOTAL, [256, 60, 600]),
+                (B, TOTAL, [20, 120, 600]),
+                (C, TOTAL, [20, 170, 600]),
+            ]),
+            &[unit(1, [0, 0, 0, 6]), unit(2, [0, 0, 0, 40]), unit(3, [0, 0, 0, 7])],
+            "AAmA AAmA BBfA",
+        ),
+        accepted(
+            "P1 in bytes",
+            "P1 and P2 in the class total, with minor defects alone: 1/3/3, counts 8,3,2,1,12: CuSums 3\n\
+             (fails),3,2,0,3 (fails). T+L at B 10 and at C 13: the 8 grades B, the 12 C.",
+            plan_with(&[
+                (A, TOTAL, [10, 30, 30]),
+                (B, TOTAL, [20, 60, 40]),
+                (C, TOTAL, [20, 70, 60]),
+            ]),
+            &[minor(1, 8), minor(2, 3), minor(3, 2), minor(4, 1), minor(5, 12)],
+            "BBfA AAmA AAmA AAmA CCfA",
+        ),
     ]
 }
 
@@ -471,6 +556,14 @@ fn step_three() -> Vec<Case> {
             plan(),
             &[fails(1), fails(2), unit(3, [0, 9, 0, 0]), unit(4, [0, 3, 0, 0])],
             "BBfA BBfA SSuB BBuB",
+        ),
+        accepted(
+            "lower than the plan in force",
+            "Unit 4 fails B within the T+L of B. It grades lower than the plan in force, C, and not only\n\
+             lower than the designated A.",
+            plan(),
+            &[fails(1), fails(2), unit(3, [0, 5, 0, 0]), unit(4, [0, 5, 0, 0])],
+            "BBfA BBfA BBuB CCuB",
         ),
         accepted(
             "two failures in step three",
@@ -547,6 +640,52 @@ fn step_three() -> Vec<Case> {
                 unit(7, [0, 0, 3, 3]),
             ],
             "BBfA BBfA AArB AArB AArB BBfA AAmA",
+        ),
+        accepted(
+            "P7 and P8 in bytes",
+            "In the class total, with minor defects alone. P7: 1.5/1.5/3, counts 1,4,3: 1, 3 (fails), 3\n\
+             (fails). P8: then 2,2,1,1,1 at lower plan 1/3/3 are all zero; the last three qualify, since 2 is\n\
+             above 1.5.",
+            plan_with(&[(A, TOTAL, [15, 15, 30]), (B, TOTAL, [10, 30, 30])]),
+            &[
+                minor(1, 1),
+                minor(2, 4),
+                minor(3, 3),
+                minor(4, 2),
+                minor(5, 2),
+                minor(6, 1),
+                minor(7, 1),
+                minor(8, 1),
+            ],
+            "AAmA BBfA BBfA BBuB BBuB AArB AArB AArB",
+        ),
+    ]
+}
+
+/// Each the first of two sheets that are alike but for the count of one unit.
+fn fewer() -> Vec<Case> {
+    vec![
+        accepted(
+            "one minor defect fewer",
+            "`breakBetweenFailures` with 2 minor defects in its last unit, and not 3.",
+            plan(),
+            &[fails(1), BREAK, fails(2), unit(3, [0, 0, 3, 2])],
+            "BBfA BBfA AAmA",
+        ),
+        accepted(
+            "one severe defect fewer",
+            "The peach sheet with 1 severe defect in its second unit, and not 2.",
+            plan(),
+            &[
+                unit_as(1, [0, 1, 2, 4], A, false),
+                unit_as(2, [0, 1, 4, 6], A, false),
+                unit_as(3, [0, 1, 3, 3], A, false),
+                unit_as(4, [0, 0, 1, 5], A, true),
+                unit_as(5, [0, 1, 2, 2], A, true),
+                unit_as(5, [0, 1, 1, 2], A, false),
+                unit_as(7, [1, 0, 0, 0], B, false),
+            ],
+            "AAmA BBfA BBfA AArB ABrB BBuB BBmA",
         ),
     ]
 }
@@ -716,6 +855,46 @@ fn full() -> Vec<Case> {
     ]
 }
 
+// ---- what is printed
+
+/// The sheets whose text is held to what the grader prints, by their names.
+const PRINTED: [&str; 4] =
+    ["recovery without a plan", "cusums of two bytes", "grounds 8 and 9", "ground 12"];
+
+/// A sheet too long to be proved by computing; its result records and their lines are not.
+fn twelve_units() -> Case {
+    let in_every_grade =
+        |class, numbers| [(A, class, numbers), (B, class, numbers), (C, class, numbers)];
+    let mut cells = Vec::new();
+    cells.extend(in_every_grade(CRITICAL, [0, 0, 9_999]));
+    cells.extend(in_every_grade(SEVERE, [0, 5, 9_999]));
+    cells.extend([(A, MAJOR, [0, 10, 20]), (B, MAJOR, [0, 50, 50]), (C, MAJOR, [0, 60, 60])]);
+    cells.extend(in_every_grade(TOTAL, [0, 9_999, 9_999]));
+    accepted(
+        "twelve units",
+        "The result records of twelve units: unit numbers, codes and CuSums of one digit and of many,\n\
+         each grade in each place of a grade, each standing.",
+        plan_with(&cells),
+        &[
+            unit(65_535, [100, 11, 0, 0]),
+            unit_as(0, [0, 0, 0, 0], B, true),
+            unit_as(9, [0, 90, 0, 0], C, true),
+            unit_as(10, [0, 0, 1, 0], SUBSTANDARD, true),
+            unit(100, [2_000, 0, 0, 0]),
+            unit(256, [0, 2_000, 2, 0]),
+            unit(1_000, [1, 0, 0, 0]),
+            unit(9_999, [0, 0, 0, 0]),
+            unit_as(10_000, [0, 0, 1, 0], A, false),
+            unit_as(12_345, [0, 0, 0, 0], C, true),
+            to(C),
+            unit(40_960, [0, 1, 0, 0]),
+            to(B),
+            unit(65_535, [0, 0, 10, 0]),
+        ],
+        "ABmA BBmA CCmA SSmA SSfA SSfA SSuS AArS SSuS CCrS CCmC BBmB",
+    )
+}
+
 // ---- the file
 
 const HEAD: &str = "\
@@ -728,6 +907,8 @@ use mathlib.Core.List.{List, [], _∷_, _++_}
 use lib.ListN.{length, take, drop, set}
 use Rattle.results.specs.Record.{resultSize}
 use Rattle.tally.specs.Outcome.{outcome, refusal}
+use Rattle.lines.specs.Ascii.{ascii}
+use Rattle.lines.specs.Lines.{linesOf, printed}
 use Rattle.computed.specs.WorkedCases.{peachPlan}
 
 -- a sheet is accepted with so many units, at its length, and these result records are in every buffer that has room for them; bytes
@@ -757,7 +938,7 @@ repeated (suc times) bytes behind = bytes ++ repeated times bytes behind
 ";
 
 const FOOT: &str = "
--- all of them
+-- all of them; what is printed is part of `PrintedText` in `Printed`
 pub record FurtherSheets : Type 0 where
 ";
 
@@ -872,11 +1053,15 @@ fn plan_comment(bytes: &[u8]) -> String {
     format!("-- The peach plan, but {}.\n", said.join(", "))
 }
 
+/// The comment at a sheet.
+fn shows(case: &Case) -> String {
+    case.shows.lines().map(|line| format!("-- {line}\n")).collect()
+}
+
 /// A sheet's bytes and its result bytes.
 fn definitions(case: &Case, graded: &Graded) -> String {
     let name = case.definition();
-    let shows = case.shows.lines().map(|line| format!("-- {line}\n")).collect::<String>();
-    let comment = plan_comment(&case.plan);
+    let (shows, comment) = (shows(case), plan_comment(&case.plan));
     let mut text = format!("\n{shows}{comment}unfoldable pub {name} : List ℕ\n{name} =");
     if case.parts.is_empty() {
         text += &format!(" {}\n", plan_text(&case.plan));
@@ -890,12 +1075,52 @@ fn definitions(case: &Case, graded: &Graded) -> String {
         text += &format!("\n    {}\n    ++ ({})\n", plan_text(&case.plan), lines(parts));
     }
     if let Expected::Letters(_) = case.expected {
-        text += &format!("\nunfoldable pub {name}Results : List ℕ\n{name}Results =");
-        let records = graded.records.iter().map(|(bytes, line)| (&bytes[..], line.as_str()));
-        text += if graded.records.is_empty() { " " } else { "\n    " };
-        text += &format!("{}\n", lines(records));
+        text += &format!("\n{}", results(case, graded));
     }
     text
+}
+
+/// A sheet's result bytes.
+fn results(case: &Case, graded: &Graded) -> String {
+    let name = case.definition();
+    let records = graded.records.iter().map(|(bytes, line)| (&bytes[..], line.as_str()));
+    let gap = if graded.records.is_empty() { " " } else { "\n    " };
+    format!("unfoldable pub {name}Results : List ℕ\n{name}Results ={gap}{}\n", lines(records))
+}
+
+/// The lines that are printed for an accepted sheet.
+fn printed_lines(case: &Case) -> String {
+    let name = case.definition();
+    let printed = grader::print(&case.bytes());
+    let line = |line: &str| format!("ascii \"{line}\\n\"");
+    let texts = printed.lines().map(line).collect::<Vec<_>>().join("\n    ++ ");
+    format!("unfoldable pub {name}Lines : List ℕ\n{name}Lines =\n    {texts}\n")
+}
+
+/// What is printed for some of the sheets, and for the records of twelve units.
+fn printed(groups: &[Group]) -> String {
+    let mut text = "\n-- ---- what is printed\n".to_string();
+    let mut record = "\npub record PrintedSheets : Type 0 where\n".to_string();
+    let cases = || groups.iter().flat_map(|group| &group.cases);
+    for sheet in PRINTED {
+        let case = cases().find(|case| case.name == sheet).expect("a sheet of that name");
+        let (field, name) = (case.field(), case.definition());
+        record += &format!("  pub {field} : printed {name} ≡ ");
+        record += &match case.expected {
+            Expected::Letters(_) => {
+                text += &format!("\n{}", printed_lines(case));
+                format!("{name}Lines\n")
+            }
+            _ => format!("ascii {:?}\n", grader::print(&case.bytes())),
+        };
+    }
+    let case = twelve_units();
+    let (field, name, graded) = (case.field(), case.definition(), graded(&case));
+    text += &format!("\n{}{}", shows(&case), results(&case, &graded));
+    text += &format!("\n{}", printed_lines(&case));
+    record +=
+        &format!("  pub {field} : linesOf {name}Results {} ≡ {name}Lines\n", graded.answer.units);
+    text + &record
 }
 
 /// The field that says what a sheet comes to.
@@ -926,7 +1151,7 @@ fn file(groups: &[Group]) -> String {
         text += &record;
         foot += &format!("  pub {field} : {name}\n");
     }
-    text + &foot
+    text + &printed(groups) + &foot
 }
 
 fn main() {

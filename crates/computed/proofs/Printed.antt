@@ -1,0 +1,92 @@
+-- What is printed: for every input by the tests of its definition; for the sheets from their outcomes, and the lines of their records by
+-- computation. A number in decimal by induction, a digit at a time.
+use Prim.Native.Nat.{ℕ, zero, suc, _+_, _*_, _/_, _%_, _<_, _≤_}
+use mathlib.Core.Path.{_≡_, refl, sym, _∙_, subst}
+use mathlib.Core.Bool.{Bool, true, false}
+use mathlib.Core.List.{List, _++_, append-assoc}
+use native.Mathlib.Omega.{arith}
+use lib.Dec.{ltb, lit<}
+use lib.ListN.{length}
+use borrow.Author.Tests.{ltb-true, ltb-false, le-ltb}
+use Rattle.lines.specs.Ascii.{ascii}
+use Rattle.lines.specs.Lines.{digits, decimal, oneDecimal, restOfLine, lineWith, lineOf, linesOf, refusedLine, emptyResults, printed}
+use Rattle.lines.proofs.Decimals as decimals
+use Rattle.lines.proofs.Printed.{too-much, lines-printed, refusal-printed}
+use Rattle.computed.specs.WorkedCases.{peachPlan}
+use Rattle.computed.specs.FurtherSheets.{PrintedSheets, repeated, recoveryWithoutPlan, recoveryWithoutPlanResults, recoveryWithoutPlanLines, cusumsOfTwoBytes, cusumsOfTwoBytesResults, cusumsOfTwoBytesLines, grounds8And9, ground12, twelveUnitsResults, twelveUnitsLines}
+use Rattle.computed.specs.Printed.{emptyBuffer, InDecimal, PrintedText}
+use Rattle.computed.proofs.FurtherSheets.{further-sheets}
+use Rattle.computed.proofs.Peach.{room}
+
+-- ---- numbers
+
+in-decimal : (most value : ℕ) → value < most → InDecimal (decimal value) value
+in-decimal zero value below = absurd (omega arith)
+in-decimal (suc most) value below = go (ltb value 10) refl (in-decimal most (value / 10))
+  where
+    go : (one : Bool) → ltb value 10 ≡ one → (value / 10 < most → InDecimal (decimal (value / 10)) (value / 10)) → InDecimal (decimal value) value
+    go true test shorter =
+        let one = ltb-true value 10 test in
+        rw (decimals.one-digit value one) (InDecimal.one-digit value one)
+    go false test shorter =
+        let more = ltb-false value 10 test in
+        let whole : 10 * (value / 10) + value % 10 ≡ value = omega arith in
+        subst (InDecimal (decimal value)) whole
+        (rw (decimals.more-digits value more)
+        (InDecimal.more-digits (decimal (value / 10)) (value / 10) (value % 10) (omega arith) (omega arith) (shorter (omega arith))))
+
+-- ---- sheets
+
+without-plan-lines : (rest : List ℕ) → linesOf (recoveryWithoutPlanResults ++ rest) 7 ≡ recoveryWithoutPlanLines
+unfolding recoveryWithoutPlanResults recoveryWithoutPlanLines digits decimal oneDecimal restOfLine lineWith lineOf linesOf
+without-plan-lines rest = refl
+
+two-bytes-lines : (rest : List ℕ) → linesOf (cusumsOfTwoBytesResults ++ rest) 3 ≡ cusumsOfTwoBytesLines
+unfolding cusumsOfTwoBytesResults cusumsOfTwoBytesLines digits decimal oneDecimal restOfLine lineWith lineOf linesOf
+two-bytes-lines rest = refl
+
+twelve-lines : linesOf twelveUnitsResults 12 ≡ twelveUnitsLines
+unfolding twelveUnitsResults twelveUnitsLines digits decimal oneDecimal restOfLine lineWith lineOf linesOf
+twelve-lines = refl
+
+three-refusals : (refusedLine 8 89 ≡ ascii "refused 8 89\n") × (refusedLine 12 14075 ≡ ascii "refused 12 14075\n")
+    × (refusedLine 15 65536 ≡ ascii "refused 15 65536\n")
+unfolding digits decimal restOfLine lineWith refusedLine
+three-refusals = (refl, refl, refl)
+
+printed-sheets : PrintedSheets
+unfolding peachPlan recoveryWithoutPlan cusumsOfTwoBytes grounds8And9 repeated ground12
+printed-sheets =
+    record {
+      recovery-without-plan =
+          lines-printed recoveryWithoutPlan _ _ (sym (further-sheets .step-three .recovery-without-plan emptyResults (room 7 (lit< tt)))) (lit< tt) refl
+          ∙ without-plan-lines _;
+      cusums-of-two-bytes =
+          lines-printed cusumsOfTwoBytes _ _ (sym (further-sheets .units .cusums-of-two-bytes emptyResults (room 3 (lit< tt)))) (lit< tt) refl
+          ∙ two-bytes-lines _;
+      grounds-8-and-9 =
+          refusal-printed grounds8And9 _ _ (sym (further-sheets .refusals .grounds-8-and-9 emptyResults)) (lit< tt) (λ none. omega arith)
+          ∙ three-refusals .0;
+      ground-12 =
+          refusal-printed ground12 _ _ (sym (further-sheets .full .ground-12 emptyResults)) (lit< tt) (λ none. omega arith) ∙ three-refusals .1;
+      twelve-units = twelve-lines;
+    }
+
+-- ---- every input
+
+refused-line : (number offset : ℕ) → refusedLine number offset ≡ ascii "refused " ++ decimal number ++ ascii " " ++ decimal offset ++ ascii "\n"
+unfolding restOfLine lineWith refusedLine
+refused-line number offset = simp append-assoc
+
+pub printed-text : PrintedText
+unfolding emptyBuffer emptyResults printed
+printed-text =
+    record {
+      too-much = λ input above. too-much input above ∙ three-refusals .2;
+      any-other = λ input within. rw (le-ltb 65536 (length input) within);
+      refused = λ input number offset within some promise.
+          refusal-printed input _ _ (sym promise) within (λ none. omega arith) ∙ refused-line number offset;
+      accepted = λ input results units offset within promise. lines-printed input _ _ (sym promise) within refl;
+      decimals = λ value. in-decimal (suc value) value (omega arith);
+      sheets = printed-sheets;
+    }
