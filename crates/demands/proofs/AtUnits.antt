@@ -2,36 +2,75 @@
 -- reading of the course would have another standing recorded.
 use Prim.Native.Nat.{ℕ, suc, _+_, _*_, _<_, _≤_}
 use mathlib.Core.Path.{_≡_, refl, sym, _∙_, ap}
-use mathlib.Core.Bool.{Bool, true, false, not, _||_, false≢true}
+use mathlib.Core.Bool.{Bool, true, false, not, _&&_, _||_, false≢true}
 use mathlib.Core.List.{List, [], _∷_}
 use mathlib.Core.Logic.{_⊎_, inl, inr, ⊎-elim}
 use native.Mathlib.Omega.{arith}
-use lib.Dec.{leb, eqb}
+use lib.Dec.{leb, ltb, eqb, lit<}
 use lib.IntN.{pos}
-use lib.ListN.{length, replicate, length-replicate}
-use borrow.Author.Tests.{leb-true, eqb-true, eqb-false, eq-eqb}
+use lib.ListN.{length, replicate, length-replicate, List·getD-eq-default}
+use borrow.Author.Tests.{ltb-true, ltb-false, leb-true, eqb-true, eqb-false, eq-eqb}
 use Rattle.cusum.specs.LargestForm.{largestForm}
 use Rattle.encoding.specs.Bytes.{byte}
 use Rattle.units.specs.Conditions.{all}
 use Rattle.units.specs.Words.{classes, hasPlan, worse, upFrom}
 use Rattle.units.proofs.Lists.{all-each}
+use Rattle.units.proofs.Tests.{and-both}
 use Rattle.rules.specs.Sheet.{inForceAt}
 use Rattle.rules.specs.TwoInARow.{secondInARow}
 use Rattle.rules.specs.Anchor.{countsFrom, Anchor, Latest, anchorValue}
+use Rattle.layout.specs.Layout.{unitsIn, mark}
+use Rattle.layout.specs.declared.Mark.{Mark}
+use Rattle.layout.specs.declared.Mark.the-variants.{UnitMark, RedesignationMark, BreakMark, NoMark}
 use Rattle.results.specs.Record.{resultSize}
 use Rattle.tally.specs.declared.Answer.{Answer}
 use Rattle.tally.specs.Outcome.{recordsIn}
 use Rattle.tally.specs.Accepted.{AcceptedAs, sheetIn, UnitAt, recordedPortionGrade, recordedCodeGrade, numbersInForce}
 use Rattle.demands.specs.Course.{Course, prerequisite, RuleTwo}
 use Rattle.demands.specs.Demand2.{GradedByRules, UnitRecorded, recordedStanding, codeOf}
-use Rattle.demands.specs.Demand3.{LargestOf, NeverWorse}
+use Rattle.demands.specs.Demand3.{LargestOf, NoHigherAt, NeverWorse}
 use Rattle.demands.specs.Instances.{left, Each, Standing, met, failed, notRecovered, recovered, standingByte, StandingSays, gradeBy, UnitInstance, CourseInstance, CodeInstance, LargestInstance, LargestNumber, NoHigherInstance, NoLowerInstance}
 use Rattle.demands.proofs.Graded.{demand2-records}
 use Rattle.demands.proofs.LargestOf.{demand3-largest-form}
 
-pub each : {A : Type 0} {P Q : A → Type 0} (members : List A) → ((member : A) → P member → Q member) → Each members P → Each members Q
-each [] so all = tt
-each (member ∷ members) so (here, others) = (so member here, each members so others)
+-- ---- what is computed of each member of a list
+
+each : {A : Type 0} {P : A → Type 0} (test : A → Bool) → ((member : A) → test member ≡ true → P member)
+    → (members : List A) → all test members ≡ true → Each members P
+unfolding all
+each test so [] e = tt
+each test so (member ∷ members) e =
+    let (here, others) = and-both (test member) (all test members) e in
+    (so member here, each test so members others)
+
+-- record i of so many is a unit, by its mark
+abbrev unitTest : List ℕ → ℕ → ℕ → Bool
+unitTest bytes records i = ltb i records && eqb (unitsIn (mark bytes i)) 1
+
+module _ (bytes : List ℕ) (records : ℕ) (counted : recordsIn bytes ≡ records) (i : ℕ) where
+  unit-at : unitTest bytes records i ≡ true → UnitAt bytes i
+  unfolding unitsIn
+  unit-at e =
+      let (inside, one) = and-both (ltb i records) (eqb (unitsIn (mark bytes i)) 1) e in
+      record { inside = omega (arith, ltb-true i records inside); is-unit = by-mark (mark bytes i) one }
+    where
+      by-mark : (m : Mark) → eqb (unitsIn m) 1 ≡ true → m ≡ UnitMark
+      by-mark UnitMark e = refl
+      by-mark RedesignationMark e = absurd (false≢true e)
+      by-mark BreakMark e = absurd (false≢true e)
+      by-mark NoMark e = absurd (false≢true e)
+
+  -- a unit of which something more is computed
+  unit-and : (more : Bool) → (unitTest bytes records i && more) ≡ true → UnitAt bytes i × (more ≡ true)
+  unit-and more e = let (unit, so) = and-both (unitTest bytes records i) more e in (unit-at unit, so)
+
+-- every byte is below 256; behind the end of a sheet they are read as 0
+all-bytes : (bytes : List ℕ) → all (λ place. ltb (byte bytes place) 256) (upFrom 0 (length bytes)) ≡ true → (place : ℕ) → byte bytes place < 256
+all-bytes bytes small place = go (ltb place (length bytes)) refl
+  where
+    go : (inside : Bool) → ltb place (length bytes) ≡ inside → byte bytes place < 256
+    go true e = ltb-true _ _ (all-each (length bytes) (λ k. ltb (byte bytes k) 256) small place (ltb-true place (length bytes) e))
+    go false e = rw (List·getD-eq-default bytes 0 (ltb-false place (length bytes) e)) (lit< tt)
 
 -- ---- demand 2
 
@@ -72,11 +111,12 @@ module _ (bytes results : List ℕ) (course : Course) (i : ℕ) (unit : UnitReco
       go x y true same other = eqb-true x y same
       go x y false same other = absurd (other (eqb-false x y same))
 
-module _ (bytes buffer : List ℕ) (answer : Answer) (results : List ℕ) (accepted : AcceptedAs bytes buffer answer results) where
+module _ (bytes buffer : List ℕ) (answer : Answer) (results : List ℕ) (accepted : AcceptedAs bytes buffer answer results)
+    (records : ℕ) (counted : recordsIn bytes ≡ records) where
   by-rules : GradedByRules bytes results
   by-rules = demand2-records bytes buffer answer results accepted
 
-  module _ (in-bytes : (place : ℕ) → byte bytes place < 256) where
+  module _ (small : all (λ place. ltb (byte bytes place) 256) (upFrom 0 (length bytes)) ≡ true) where
     -- a unit with the standing that is recorded of it
     unit-recorded : (i : ℕ) (given : Standing) → UnitAt bytes i → recordedStanding bytes results i ≡ standingByte given
         → UnitInstance bytes results (by-rules .course) i given
@@ -85,7 +125,7 @@ module _ (bytes buffer : List ℕ) (answer : Answer) (results : List ℕ) (accep
         let rule : (class : ℕ) → class < length classes → RuleTwo bytes (by-rules .course) i class = λ class. by-rules .rules .rule-two i class at in
         record {
           mark = unit .mark;
-          code = unit .code in-bytes;
+          code = unit .code (all-bytes bytes small);
           plan-grade = unit .plan-grade;
           cusums = unit .cusums;
           standing = standing;
@@ -97,21 +137,26 @@ module _ (bytes buffer : List ℕ) (answer : Answer) (results : List ℕ) (accep
         }
 
     pub course-recorded : (standings : List (ℕ × Standing))
-        → Each standings (λ (i, given). UnitAt bytes i × (recordedStanding bytes results i ≡ standingByte given))
+        → all (λ (i, given). unitTest bytes records i && eqb (recordedStanding bytes results i) (standingByte given)) standings ≡ true
         → CourseInstance bytes results standings
     course-recorded standings units =
         record {
           course = by-rules .course;
           rules = by-rules .rules;
-          units = each standings (λ (i, given) (at, standing). unit-recorded i given at standing) units;
+          units = each _ (λ (i, given) e. recorded-by i given (unit-and bytes records counted i _ e)) standings units;
         }
+      where
+        recorded-by : (i : ℕ) (given : Standing) → UnitAt bytes i × (eqb (recordedStanding bytes results i) (standingByte given) ≡ true)
+            → UnitInstance bytes results (by-rules .course) i given
+        recorded-by i given (at, same) = unit-recorded i given at (eqb-true _ _ same)
 
   -- a code that records i and j have and no other record has
-  module _ (code i j : ℕ) (at-i : UnitAt bytes i) (at-j : UnitAt bytes j) (code-i : codeOf bytes i ≡ code) (code-j : codeOf bytes j ≡ code)
-      (no-other : all (λ k. not (eqb (codeOf bytes k) code) || (eqb k i || eqb k j)) (upFrom 0 (recordsIn bytes)) ≡ true) where
-    one-of-both : (k : ℕ) → k < recordsIn bytes → codeOf bytes k ≡ code → (k ≡ i) ⊎ (k ≡ j)
+  module _ (code i j : ℕ) (unit-i : unitTest bytes records i ≡ true) (unit-j : unitTest bytes records j ≡ true)
+      (code-i : codeOf bytes i ≡ code) (code-j : codeOf bytes j ≡ code)
+      (no-other : all (λ k. not (eqb (codeOf bytes k) code) || (eqb k i || eqb k j)) (upFrom 0 records) ≡ true) where
+    one-of-both : (k : ℕ) → k < records → codeOf bytes k ≡ code → (k ≡ i) ⊎ (k ≡ j)
     one-of-both k h same =
-        go (eqb k i) refl (eqb k j) refl (rw (eq-eqb (codeOf bytes k) code same) at (all-each (recordsIn bytes) _ no-other k h))
+        go (eqb k i) refl (eqb k j) refl (rw (eq-eqb (codeOf bytes k) code same) at (all-each records _ no-other k h))
       where
         go : (first : Bool) → eqb k i ≡ first → (second : Bool) → eqb k j ≡ second → (eqb k i || eqb k j) ≡ true → (k ≡ i) ⊎ (k ≡ j)
         go true e second f either = inl (eqb-true k i e)
@@ -123,34 +168,37 @@ module _ (bytes buffer : List ℕ) (answer : Answer) (results : List ℕ) (accep
     worse-of-both k at same =
         let worst = by-rules .code-grades k at in
         let it = worst .one-has-it in
-        let first = worst .none-worse i at-i (code-i ∙ sym same) in
-        let second = worst .none-worse j at-j (code-j ∙ sym same) in
+        let first = worst .none-worse i (unit-at bytes records counted i unit-i) (code-i ∙ sym same) in
+        let second = worst .none-worse j (unit-at bytes records counted j unit-j) (code-j ∙ sym same) in
         ⊎-elim (λ at-first. omega (arith, ap (recordedPortionGrade bytes results) at-first, it .same-grade, first, second))
         (λ at-second. omega (arith, ap (recordedPortionGrade bytes results) at-second, it .same-grade, first, second))
-        (one-of-both (it .index) (it .unit .inside) (it .same-code ∙ same))
+        (one-of-both (it .index) (omega (arith, it .unit .inside, counted)) (it .same-code ∙ same))
 
     pub code-graded : CodeInstance bytes results i j
-    code-graded = record { first = worse-of-both i at-i code-i; second = worse-of-both j at-j code-j }
+    code-graded =
+        record { first = worse-of-both i (unit-at bytes records counted i unit-i) code-i; second = worse-of-both j (unit-at bytes records counted j unit-j) code-j }
 
 -- ---- demand 3, the first half
 
 module _ (bytes results : List ℕ) (units : ℕ) (answer : Answer)
-    (accepted : (buffer : List ℕ) → resultSize * units ≤ length buffer → AcceptedAs bytes buffer answer (left results units buffer)) where
-  abbrev Planned : ℕ → Type 0
-  Planned i = UnitAt bytes i × (hasPlan (inForceAt (sheetIn bytes) i) ≡ true)
+    (accepted : (buffer : List ℕ) → resultSize * units ≤ length buffer → AcceptedAs bytes buffer answer (left results units buffer))
+    (records : ℕ) (counted : recordsIn bytes ≡ records) where
+  abbrev plannedTest : ℕ → Bool
+  plannedTest i = unitTest bytes records i && hasPlan (inForceAt (sheetIn bytes) i)
 
-  largest : (buffer : List ℕ) → resultSize * units ≤ length buffer → (i : ℕ) → Planned i → (class : ℕ) → class < length classes
+  largest : (buffer : List ℕ) → resultSize * units ≤ length buffer → (i : ℕ) → plannedTest i ≡ true → (class : ℕ) → class < length classes
       → LargestOf bytes (left results units buffer) i class
-  largest buffer holds i (at, plan) class in-range =
+  largest buffer holds i e class in-range =
+      let (at, plan) = unit-and bytes records counted i _ e in
       demand3-largest-form bytes buffer answer (left results units buffer) (accepted buffer holds) i at plan class in-range
 
-  pub largest-recorded : (planned : List ℕ) → Each planned Planned → LargestInstance bytes results units planned
-  largest-recorded planned all =
+  pub largest-recorded : (planned : List ℕ) → all plannedTest planned ≡ true → LargestInstance bytes results units planned
+  largest-recorded planned so =
       let size = resultSize * units in
       record {
-        an-anchor = each planned (λ i at class in-range.
-            largest (replicate size 0) (omega (arith, length-replicate {A = ℕ} size 0)) i at class in-range .an-anchor) all;
-        largest-of = λ buffer holds. each planned (λ i at class in-range from records at-failure to-this-unit is-anchor latest.
+        an-anchor = each plannedTest (λ i at class in-range.
+            largest (replicate size 0) (omega (arith, length-replicate {A = ℕ} size 0)) i at class in-range .an-anchor) planned so;
+        largest-of = λ buffer holds. each plannedTest (λ i at class in-range from records at-failure to-this-unit is-anchor latest.
             largest buffer holds i at class in-range .largest-of
             (record {
               from = from;
@@ -159,11 +207,11 @@ module _ (bytes results : List ℕ) (units : ℕ) (answer : Answer)
               to-this-unit = to-this-unit;
               is-anchor = is-anchor;
               latest = latest;
-            })) all;
+            })) planned so;
       }
 
   pub number-recorded : (i class from : ℕ) (at-failure : Bool) (counts : List ℕ) (tenths : ℕ)
-      → Planned i → class < length classes → from + length counts ≡ suc i
+      → plannedTest i ≡ true → class < length classes → from + length counts ≡ suc i
       → Anchor (sheetIn bytes) class i from at-failure → Latest (sheetIn bytes) class i from
       → countsFrom (sheetIn bytes) class from (length counts) ≡ counts
       → largestForm (numbersInForce bytes i class) (anchorValue (numbersInForce bytes i class) at-failure) counts ≡ pos tenths
@@ -183,20 +231,24 @@ module _ (bytes results : List ℕ) (units : ℕ) (answer : Answer)
 
 -- ---- demand 3, the second half
 
-module _ (bytes bytes' results results' : List ℕ) (compared : NeverWorse bytes bytes' results results') (units : List ℕ) where
+module _ (bytes bytes' results results' : List ℕ) (compared : NeverWorse bytes bytes' results results')
+    (records : ℕ) (counted : recordsIn bytes ≡ records) (units : List ℕ) where
   -- up to a record before which the second sheet never fails two in a row
   pub none-higher : (last : ℕ) → ((j : ℕ) → j < last → secondInARow (sheetIn bytes') j ≡ false)
-      → Each units (λ i. UnitAt bytes i × (leb i last ≡ true)) → NoHigherInstance bytes bytes' results results' units
-  none-higher last never all =
+      → all (λ i. unitTest bytes records i && leb i last) units ≡ true → NoHigherInstance bytes bytes' results results' units
+  none-higher last never so =
       record {
-        cusums = each units (λ i (at, within). compared .up-to-two-in-a-row i at (λ j before. never j (omega (arith, leb-true i last within))) .cusums) all;
-        failures = each units (λ i (at, within). compared .up-to-two-in-a-row i at (λ j before. never j (omega (arith, leb-true i last within))) .failures) all;
+        cusums = each _ (λ i e. at i (unit-and bytes records counted i _ e) .cusums) units so;
+        failures = each _ (λ i e. at i (unit-and bytes records counted i _ e) .failures) units so;
       }
+    where
+      at : (i : ℕ) → UnitAt bytes i × (leb i last ≡ true) → NoHigherAt bytes bytes' results results' i
+      at i (unit, within) = compared .up-to-two-in-a-row i unit (λ j before. never j (omega (arith, leb-true i last within)))
 
   pub none-lower : ((j : ℕ) → j < recordsIn bytes' → secondInARow (sheetIn bytes') j ≡ false)
-      → Each units (UnitAt bytes) → NoLowerInstance bytes bytes' results results' units
-  none-lower never all =
+      → all (unitTest bytes records) units ≡ true → NoLowerInstance bytes bytes' results results' units
+  none-lower never so =
       record {
-        portions = each units (λ i at. compared .never-two-in-a-row never i at .portions) all;
-        codes = each units (λ i at. compared .never-two-in-a-row never i at .codes) all;
+        portions = each _ (λ i e. compared .never-two-in-a-row never i (unit-at bytes records counted i e) .portions) units so;
+        codes = each _ (λ i e. compared .never-two-in-a-row never i (unit-at bytes records counted i e) .codes) units so;
       }

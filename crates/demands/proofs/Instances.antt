@@ -99,14 +99,6 @@ every-kind-accepted : (buffer : List ℕ) → resultSize * 6 ≤ length buffer
     → AcceptedAs everyKindOfRecord buffer everyKindAnswer (everyKindLeft buffer)
 every-kind-accepted buffer holds = record { promise = sym (further-sheets .redesignations .every-kind-of-record buffer holds); accepted = refl }
 
--- behind the end of a sheet bytes are read as 0
-all-bytes : (bytes : List ℕ) → all (λ place. ltb (byte bytes place) 256) (upFrom 0 (length bytes)) ≡ true → (place : ℕ) → byte bytes place < 256
-all-bytes bytes small place = go (ltb place (length bytes)) refl
-  where
-    go : (inside : Bool) → ltb place (length bytes) ≡ inside → byte bytes place < 256
-    go true e = ltb-true _ _ (all-each (length bytes) (λ k. ltb (byte bytes k) 256) small place (ltb-true place (length bytes) e))
-    go false e = rw (List·getD-eq-default bytes 0 (ltb-false place (length bytes) e)) (lit< tt)
-
 accepted : AcceptedInstance
 accepted buffer holds =
     ap (λ (given : Outcome). drop (resultSize * 7) (given .buffer)) (worked-cases .p10 buffer holds)
@@ -124,92 +116,37 @@ grounds =
           demand2-grounds peach buffer peachAnswer (peachLeft buffer) (peach-accepted buffer holds .promise) .accepted refl;
     }
 
--- a unit, by its mark
-at : {bytes : List ℕ} {i : ℕ} → ltb i (recordsIn bytes) ≡ true → mark bytes i ≡ UnitMark → UnitAt bytes i
-at {bytes} {i} inside is-unit = record { inside = ltb-true i (recordsIn bytes) inside; is-unit = is-unit }
-
 peach-course : (buffer : List ℕ) → resultSize * 7 ≤ length buffer → CourseInstance peach (peachLeft buffer) peachStandings
 unfolding computing peachPlan peachUnits peach peachResults standingByte
 peach-course buffer holds =
-    course-recorded peach buffer peachAnswer (peachLeft buffer) (peach-accepted buffer holds) (all-bytes peach refl) peachStandings (
-      (at refl refl, refl),
-      (
-        (at refl refl, refl),
-        (
-          (at refl refl, refl),
-          (
-            (at refl refl, refl),
-            ((at refl refl, refl), ((at refl refl, refl), ((at refl refl, refl), tt))),
-          ),
-        ),
-      ),
-    )
+    course-recorded peach buffer peachAnswer (peachLeft buffer) (peach-accepted buffer holds) 7 refl refl peachStandings refl
 
 every-kind-course : (buffer : List ℕ) → resultSize * 6 ≤ length buffer
     → CourseInstance everyKindOfRecord (everyKindLeft buffer) everyKindStandings
 unfolding computing peachPlan everyKindOfRecord everyKindOfRecordResults standingByte
 every-kind-course buffer holds =
-    course-recorded everyKindOfRecord buffer everyKindAnswer (everyKindLeft buffer) (every-kind-accepted buffer holds)
-    (all-bytes everyKindOfRecord refl) everyKindStandings (
-      (at refl refl, refl),
-      (
-        (at refl refl, refl),
-        (
-          (at refl refl, refl),
-          (
-            (at refl refl, refl),
-            ((at refl refl, refl), ((at refl refl, refl), tt)),
-          ),
-        ),
-      ),
-    )
+    course-recorded everyKindOfRecord buffer everyKindAnswer (everyKindLeft buffer) (every-kind-accepted buffer holds) 9 refl refl everyKindStandings refl
 
 code-five : (buffer : List ℕ) → resultSize * 7 ≤ length buffer → CodeInstance peach (peachLeft buffer) 4 5
 unfolding computing peachPlan peachUnits peach
 code-five buffer holds =
-    code-graded peach buffer peachAnswer (peachLeft buffer) (peach-accepted buffer holds) 5 4 5 (at refl refl) (at refl refl) refl refl refl
+    code-graded peach buffer peachAnswer (peachLeft buffer) (peach-accepted buffer holds) 7 refl 5 4 5 refl refl refl refl refl
 
 code-met-again : (buffer : List ℕ) → resultSize * 6 ≤ length buffer → CodeInstance everyKindOfRecord (everyKindLeft buffer) 0 8
 unfolding computing peachPlan everyKindOfRecord
 code-met-again buffer holds =
     code-graded everyKindOfRecord buffer everyKindAnswer (everyKindLeft buffer) (every-kind-accepted buffer holds)
-    300 0 8 (at refl refl) (at refl refl) refl refl refl
+    9 refl 300 0 8 refl refl refl refl refl
 
 -- ---- demand 3, the first half
 
 peach-largest : LargestInstance peach peachResults 7 peachPlanned
 unfolding computing peachPlan peachUnits peach
-peach-largest =
-    largest-recorded peach peachResults 7 peachAnswer peach-accepted peachPlanned (
-      (at refl refl, refl),
-      (
-        (at refl refl, refl),
-        (
-          (at refl refl, refl),
-          (
-            (at refl refl, refl),
-            ((at refl refl, refl), ((at refl refl, refl), ((at refl refl, refl), tt))),
-          ),
-        ),
-      ),
-    )
+peach-largest = largest-recorded peach peachResults 7 peachAnswer peach-accepted 7 refl peachPlanned refl
 
 every-kind-largest : LargestInstance everyKindOfRecord everyKindOfRecordResults 6 everyKindPlanned
 unfolding computing peachPlan everyKindOfRecord
-every-kind-largest =
-    largest-recorded everyKindOfRecord everyKindOfRecordResults 6 everyKindAnswer every-kind-accepted everyKindPlanned (
-      (at refl refl, refl),
-      (
-        (at refl refl, refl),
-        (
-          (at refl refl, refl),
-          (
-            (at refl refl, refl),
-            ((at refl refl, refl), tt),
-          ),
-        ),
-      ),
-    )
+every-kind-largest = largest-recorded everyKindOfRecord everyKindOfRecordResults 6 everyKindAnswer every-kind-accepted 9 refl everyKindPlanned refl
 
 run-latest : Latest (sheetIn everyKindOfRecord) 2 6 5
 unfolding computing peachPlan everyKindOfRecord
@@ -223,8 +160,8 @@ largest-run : (buffer : List ℕ) → resultSize * 6 ≤ length buffer
     → LargestNumber everyKindOfRecord (everyKindLeft buffer) 6 2 5 false (0 ∷ 9 ∷ []) 30
 unfolding computing peachPlan everyKindOfRecord
 largest-run =
-    number-recorded everyKindOfRecord everyKindOfRecordResults 6 everyKindAnswer every-kind-accepted 6 2 5 false (0 ∷ 9 ∷ []) 30
-    (at refl refl, refl) (lit< tt) refl (restart 4 (lit< tt) refl) run-latest refl refl
+    number-recorded everyKindOfRecord everyKindOfRecordResults 6 everyKindAnswer every-kind-accepted 9 refl 6 2 5 false (0 ∷ 9 ∷ []) 30
+    refl (lit< tt) refl (restart 4 (lit< tt) refl) run-latest refl refl
 
 -- ---- demand 3, the second half
 
@@ -244,18 +181,6 @@ severe-accepted : (buffer : List ℕ) → resultSize * 7 ≤ length buffer
     → AcceptedAs oneSevereDefectFewer buffer peachAnswer (left oneSevereDefectFewerResults 7 buffer)
 severe-accepted buffer holds = record { promise = sym (further-sheets .fewer-defects .one-severe-defect-fewer buffer holds); accepted = refl }
 
--- none of their records is a redesignation
-abbrev isRedesignation : Mark → Bool
-isRedesignation UnitMark = false
-isRedesignation RedesignationMark = true
-isRedesignation BreakMark = false
-isRedesignation NoMark = false
-
-no-redesignation : (bytes : List ℕ) → any (λ i. isRedesignation (mark bytes i)) (upFrom 0 (recordsIn bytes)) ≡ false
-    → (i : ℕ) → i < recordsIn bytes → mark bytes i ≡ RedesignationMark → ⊥
-no-redesignation bytes none i h is =
-    false≢true (sym (in-none (recordsIn bytes) (λ j. isRedesignation (mark bytes j)) none i h) ∙ ap isRedesignation is)
-
 -- the minor count of record 3, and the severe count of record 1
 minor-compared : (buffer buffer' : List ℕ) → resultSize * 3 ≤ length buffer → resultSize * 3 ≤ length buffer'
     → NeverWorse oneMinorDefectFewer breakBetweenFailures (left oneMinorDefectFewerResults 3 buffer) (left breakBetweenFailuresResults 3 buffer')
@@ -263,8 +188,8 @@ unfolding computing peachPlan oneMinorDefectFewer breakBetweenFailures
 minor-compared buffer buffer' holds holds' =
     demand3-fewer-defects oneMinorDefectFewer breakBetweenFailures buffer buffer' threeAccepted threeAccepted _ _
     (one-fewer oneMinorDefectFewer breakBetweenFailures 116 2 refl (lit< tt) (lit< tt)
-    (record { i = 3; unit = at refl refl; from = lit< tt; to = lit< tt })
-    buffer buffer' threeAccepted threeAccepted _ _ (minor-accepted buffer holds) (break-accepted buffer' holds') (no-redesignation oneMinorDefectFewer refl))
+    (record { i = 3; unit = record { inside = lit< tt; is-unit = refl }; from = lit< tt; to = lit< tt })
+    buffer buffer' threeAccepted threeAccepted _ _ (minor-accepted buffer holds) (break-accepted buffer' holds') refl)
 
 severe-compared : (buffer buffer' : List ℕ) → resultSize * 7 ≤ length buffer → resultSize * 7 ≤ length buffer'
     → NeverWorse oneSevereDefectFewer peach (left oneSevereDefectFewerResults 7 buffer) (peachLeft buffer')
@@ -272,8 +197,8 @@ unfolding computing peachPlan oneSevereDefectFewer peachUnits peach
 severe-compared buffer buffer' holds holds' =
     demand3-fewer-defects oneSevereDefectFewer peach buffer buffer' peachAnswer peachAnswer _ _
     (one-fewer oneSevereDefectFewer peach 96 1 refl (lit< tt) (lit< tt)
-    (record { i = 1; unit = at refl refl; from = lit< tt; to = lit< tt })
-    buffer buffer' peachAnswer peachAnswer _ _ (severe-accepted buffer holds) (peach-accepted buffer' holds') (no-redesignation oneSevereDefectFewer refl))
+    (record { i = 1; unit = record { inside = lit< tt; is-unit = refl }; from = lit< tt; to = lit< tt })
+    buffer buffer' peachAnswer peachAnswer _ _ (severe-accepted buffer holds) (peach-accepted buffer' holds') refl)
 
 fewer-defects : (buffer buffer' : List ℕ) → resultSize * 3 ≤ length buffer → resultSize * 3 ≤ length buffer' → FewerInstance buffer buffer'
 unfolding computing peachPlan oneMinorDefectFewer oneMinorDefectFewerResults breakBetweenFailures breakBetweenFailuresResults
@@ -281,8 +206,8 @@ fewer-defects buffer buffer' holds holds' =
     let compared = minor-compared buffer buffer' holds holds' in
     let never = in-none 4 (secondInARow (sheetIn breakBetweenFailures)) refl in
     record {
-      no-higher = none-higher _ _ _ _ compared _ 4 never ((at refl refl, refl), ((at refl refl, refl), ((at refl refl, refl), tt)));
-      no-lower = none-lower _ _ _ _ compared _ never (at refl refl, (at refl refl, (at refl refl, tt)));
+      no-higher = none-higher _ _ _ _ compared 4 refl _ 4 never refl;
+      no-lower = none-lower _ _ _ _ compared 4 refl _ never refl;
       fails = (refl, refl);
       smaller = lit< tt;
     }
@@ -292,8 +217,7 @@ unfolding computing peachPlan oneSevereDefectFewer oneSevereDefectFewerResults p
 fewer-defects-twice buffer buffer' holds holds' =
     record {
       two-in-a-row = refl;
-      no-higher = none-higher _ _ _ _ (severe-compared buffer buffer' holds holds') _ 2 (in-none 2 (secondInARow (sheetIn peach)) refl)
-          ((at refl refl, refl), ((at refl refl, refl), ((at refl refl, refl), tt)));
+      no-higher = none-higher _ _ _ _ (severe-compared buffer buffer' holds holds') 7 refl _ 2 (in-none 2 (secondInARow (sheetIn peach)) refl) refl;
       fails = (refl, refl);
       smaller = lit< tt;
     }
@@ -304,8 +228,8 @@ largest-anchored : (buffer : List ℕ) → resultSize * 3 ≤ length buffer
     → LargestNumber oneMinorDefectFewer (left oneMinorDefectFewerResults 3 buffer) 3 3 3 true (5 ∷ []) 30
 unfolding computing peachPlan oneMinorDefectFewer
 largest-anchored =
-    number-recorded oneMinorDefectFewer oneMinorDefectFewerResults 3 threeAccepted minor-accepted 3 3 3 true (5 ∷ []) 30
-    (at refl refl, refl) (lit< tt) refl (failure 2 (lit< tt) refl (λ before. refl))
+    number-recorded oneMinorDefectFewer oneMinorDefectFewerResults 3 threeAccepted minor-accepted 4 refl 3 3 3 true (5 ∷ []) 30
+    refl (lit< tt) refl (failure 2 (lit< tt) refl (λ before. refl))
     (record { no-failure = λ j from to. let here : j ≡ 3 = omega arith in rw here; no-restart = λ j from before. absurd (omega arith) }) refl refl
 
 -- ---- together

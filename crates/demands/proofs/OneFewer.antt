@@ -10,8 +10,10 @@ use lib.ListN.{length, set, length-set}
 use lib.Seq.{getD-set-same, getD-set-other}
 use borrow.Author.Tests.{eqb-true, eqb-false}
 use Rattle.encoding.specs.Bytes.{byte}
-use Rattle.layout.specs.Layout.{countsOffset, offset, mark}
-use Rattle.layout.specs.declared.Mark.the-variants.{RedesignationMark}
+use Rattle.units.specs.Conditions.{any}
+use Rattle.units.specs.Words.{upFrom}
+use Rattle.units.proofs.Lists.{in-none}
+use Rattle.layout.specs.Layout.{countsOffset, redesignationSize, sizeOf, offset, mark}
 use Rattle.tally.specs.declared.Answer.{Answer}
 use Rattle.tally.specs.Outcome.{recordsIn}
 use Rattle.tally.specs.Accepted.{AcceptedAs}
@@ -41,9 +43,10 @@ module _ (bytes bytes' : List ℕ) (place fewer : ℕ) (stored : bytes ≡ set b
 
   pub one-fewer : (buffer buffer' : List ℕ) (answer answer' : Answer) (results results' : List ℕ)
       → AcceptedAs bytes buffer answer results → AcceptedAs bytes' buffer' answer' results'
-      → ((i : ℕ) → i < recordsIn bytes → mark bytes i ≡ RedesignationMark → ⊥)
+      → any (λ i. eqb (sizeOf (mark bytes i)) redesignationSize) (upFrom 0 (recordsIn bytes)) ≡ false
       → FewerDefects bytes bytes' buffer buffer' answer answer' results results'
-  one-fewer buffer buffer' answer answer' results results' first second no-redesignation =
+  unfolding sizeOf
+  one-fewer buffer buffer' answer answer' results results' first second none =
       record {
         first = first;
         second = second;
@@ -51,5 +54,7 @@ module _ (bytes bytes' : List ℕ) (place fewer : ℕ) (stored : bytes ≡ set b
         no-more = λ i kind at h.
             let count = offset bytes i + (countsOffset + 2 * kind) in
             omega (arith, no-larger count, no-larger (count + 1));
-        no-redesignation = no-redesignation;
+        no-redesignation = λ i h is.
+            eqb-false (sizeOf (mark bytes i)) redesignationSize
+            (in-none (recordsIn bytes) (λ j. eqb (sizeOf (mark bytes j)) redesignationSize) none i h) (ap sizeOf is);
       }
