@@ -1,9 +1,7 @@
 -- Step 3, redesignations and breaks: the state of the grading before a record, and what the record makes of it.
 use Prim.Native.Nat.{ℕ, _+_}
 use mathlib.Core.Bool.{Bool, true, false, cond, _&&_}
-use mathlib.Core.List.{List}
 use lib.Dec.{ltb, leb}
-use Rattle.cusum.specs.declared.PlanNumbers.{PlanNumbers}
 use Rattle.units.specs.Conditions.{pick}
 use Rattle.units.specs.Words.{worse, Table, rowOf, countsOf}
 use Rattle.units.specs.Unit.{starting, gradingOf, qualifies}
@@ -75,14 +73,11 @@ keepsStepThree (StepThree lower run) new = ltb new lower
 
 -- ---- the state before a record, and what the record makes of it
 
--- every class of a plan at its S, and a failure just before forgotten
-abbrev pub atStart : List PlanNumbers → ℕ → Phase → State
-atStart row designated phase = record { designated = designated; previous = NoFailure; phase = phase; cusums = starting row }
-
 module _ (table : Table) where
-  -- the same for the plan then in force
+  -- every class of the plan then in force at its S, and a failure just before forgotten
   unfoldable pub restarted : ℕ → Phase → State
-  restarted designated phase = atStart (rowOf table (inForceIn designated phase)) designated phase
+  restarted designated phase =
+      record { designated = designated; previous = NoFailure; phase = phase; cusums = starting (rowOf table (inForceIn designated phase)) }
 
   -- at the opening of the sheet the designated plan is in force, every class at its S
   abbrev pub opening : ℕ → State

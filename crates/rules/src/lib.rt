@@ -1,11 +1,10 @@
 // The rules of grading over the records of a sheet: step 3, redesignations, breaks.
 ghost use mathlib.Core.Path.{_≡_};
 ghost use mathlib.Core.Bool.{false};
-ghost use Rattle.rules.specs.StepThree.{inForceIn, inForce, twoInARow, worseOfTwo, failureAfter, endsStepThree, withUnit, withoutRun, keepsStepThree, atStart, restarted, opening, afterUnit, afterRedesignation, afterBreak};
+ghost use Rattle.rules.specs.StepThree.{inForceIn, inForce, twoInARow, worseOfTwo, failureAfter, endsStepThree, withUnit, withoutRun, keepsStepThree, restarted, opening, afterUnit, afterRedesignation, afterBreak};
 ghost use Rattle.rules.specs.Sheet.{standingOf};
 use units::Cusums;
 use units::Grading;
-use units::Row;
 use units::Table;
 use units::row_of;
 use units::starts;
@@ -157,24 +156,17 @@ impl Phase {
 }
 
 impl State {
-    // Every class of a plan at its S, and a failure just before forgotten.
-    pub fn at_start(row: Row, designated: u8, phase: Phase) -> State
-        ensures { λ r. ⌜ r ≡ atStart row designated phase ⌝ }
+    // Every class of the plan then in force at its S, and a failure just before forgotten.
+    fn restarting(table: Table, designated: u8, phase: Phase) -> State
+        ensures { λ r. ⌜ r ≡ restarted table designated phase ⌝ }
     {
-        let started = starts(row);
+        let started = starts(row_of(table, phase.in_force(designated)));
         State {
             designated: designated,
             previous: Previous::NoFailure,
             phase: phase,
             cusums: started,
         }
-    }
-
-    // The same for the plan then in force.
-    fn restarting(table: Table, designated: u8, phase: Phase) -> State
-        ensures { λ r. ⌜ r ≡ restarted table designated phase ⌝ }
-    {
-        State::at_start(row_of(table, phase.in_force(designated)), designated, phase)
     }
 
     // The designated plan in force, every class at its S.

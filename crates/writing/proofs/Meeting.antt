@@ -13,7 +13,7 @@ use Rattle.units.specs.Records.{unitsOf}
 use Rattle.units.specs.declared.SampleUnit.{SampleUnit}
 use Rattle.units.specs.declared.SteppedClasses.{SteppedClasses}
 use Rattle.units.specs.declared.Entry.the-variants.{UnitRecord, Break}
-use Rattle.rules.specs.StepThree.{inForceIn, withoutRun, atStart, restarted, afterBreak, next}
+use Rattle.rules.specs.StepThree.{inForceIn, withoutRun, restarted, afterBreak, next}
 use Rattle.rules.specs.declared.Phase.{Phase}
 use Rattle.rules.specs.declared.Phase.the-variants.{Designated}
 use Rattle.rules.specs.declared.State.{State}
@@ -26,7 +26,7 @@ use Rattle.layout.specs.declared.Mark.the-variants.{UnitMark, BreakMark}
 use Rattle.layout.specs.declared.Place.{Place}
 use Rattle.writing.specs.declared.Position.{Position}
 use Rattle.writing.specs.Sheet.{sheetOf}
-use Rattle.writing.specs.Writing.{UnitHere, RecordHere, OneMore, Underway, Further}
+use Rattle.writing.specs.Writing.{UnitHere, RecordHere, OneMore, Underway, Further, restartedIn}
 use Rattle.writing.proofs.Passing.{markFor, mark-inside, record-inside, unit-here, room-past-it, position-past-it, nothing-written, further-none, further-one, underway-on, record-here}
 
 -- what a record is by its mark
@@ -107,13 +107,13 @@ module _ {bytes : List ℕ} {n : ℕ} {table : Table} {row : List PlanNumbers} {
         unfolding markFor
         room-past-break fits = room-past-it at-record is-mark refl (break-by-mark bytes (place .at) is-break) fits
 
-        pub past-break : {after : State} → after ≡ atStart row (state .designated) Designated
+        pub past-break : {after : State} → after ≡ restartedIn row (state .designated)
             → {past : Place} → past ≡ placeAfter place BreakMark → Meeting bytes n table row place₀ results₀ past after results
         unfolding markFor next afterBreak restarted withoutRun inForceIn unitsOf
         past-break {after} is-after is-past =
             let restarts : after ≡ next table state Break =
             is-after
-            ∙ ap (λ (r : List PlanNumbers). atStart r (state .designated) Designated) (here .is-row)
+            ∙ ap (λ (r : List PlanNumbers). restartedIn r (state .designated)) (here .is-row)
             ∙ ap (λ (phase : Phase). restarted table (state .designated) (withoutRun phase)) (sym (here .outside)) in
             record {
               further =

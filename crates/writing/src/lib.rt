@@ -15,7 +15,7 @@ ghost use Rattle.results.specs.Record.{resultSize, resultBytes};
 ghost use Rattle.results.specs.Written.{written};
 ghost use Rattle.codes.specs.Codes.{ungraded};
 ghost use Rattle.writing.specs.Sheet.{sheetOf, resultWith, resultOf};
-ghost use Rattle.writing.specs.Writing.{recoveredIn, ThreeHere, threeRecovered, UnitHere, RecordHere, positionAt, OneMore, Underway, Further};
+ghost use Rattle.writing.specs.Writing.{recoveredIn, ThreeHere, threeRecovered, UnitHere, RecordHere, positionAt, OneMore, Underway, Further, restartedIn};
 ghost use Rattle.writing.specs.Writable.{Writable};
 use codes::UNGRADED;
 use layout::Mark;
@@ -29,16 +29,19 @@ use results::RESULT_SIZE;
 use results::ResultRecord;
 use results::STANDING_OFFSET;
 use rules::Phase;
+use rules::Previous;
 use rules::RECOVERED;
 use rules::State;
 use units::Cusums;
 use units::Entry;
 use units::Grading;
+use units::Row;
 use units::SampleUnit;
 use units::Table;
 use units::best_lower;
 use units::qualifies_with;
 use units::row_of;
+use units::starts;
 use units::step_classes;
 use units::step_in_force;
 use units::worse_of;
@@ -284,6 +287,19 @@ fn write_met(
     state.after_unit(table, met, false)
 }
 
+// Behind a break under the designated plan, whose row this is.
+fn behind_break(row: Row, designated: u8) -> State
+    ensures { λ r. ⌜ r ≡ restartedIn row designated ⌝ }
+{
+    let started = starts(row);
+    State {
+        designated: designated,
+        previous: Previous::NoFailure,
+        phase: Phase::Designated,
+        cusums: started,
+    }
+}
+
 // Writes what units that meet the designated plan write, and goes past them and past breaks: up to a unit that fails, a redesignation
 // or the end. Most records of most sheets are such; this loop picks the row of their plan once.
 fn write_meeting(
@@ -316,7 +332,7 @@ fn write_meeting(
                 place = place.past(Mark::UnitMark);
             }
             Mark::BreakMark => {
-                state = State::at_start(row, state.designated, Phase::Designated);
+                state = behind_break(row, state.designated);
                 place = place.past(Mark::BreakMark);
             }
             _ => {
@@ -333,7 +349,8 @@ fn write_meeting(
     }
 }
 
-// Goes past such records if the designated plan is in force; in step 3 none is past.
+// Goes past such records if the designated plan is in force and no unit just before failed: where one did, the next may well fail, too,
+// and would be stepped twice.
 fn past_meeting(
     bytes: &[u8],
     records: usize,
@@ -346,8 +363,12 @@ fn past_meeting(
 {
     let state = position.state;
     let phase = state.phase;
+    let previous = state.previous;
     match phase {
-        Phase::Designated => write_meeting(bytes, records, table, position, results),
+        Phase::Designated => match previous {
+            Previous::NoFailure => write_meeting(bytes, records, table, position, results),
+            Previous::Failure(_) => position,
+        },
         Phase::StepThree { lower: _, run: _ } => position,
     }
 }
@@ -365,10 +386,10 @@ pub fn write_records(bytes: &[u8], records: usize, table: Table, designated: u8,
     while done < records {
         position = past_meeting(bytes, records, table, position, results);
         let place = position.place;
-        if records <= place.index {
-            return;
+        done = place.index;
+        if done < records {
+            position = write_here(bytes, records, table, position, results);
+            done += 1;
         }
-        position = write_here(bytes, records, table, position, results);
-        done = place.index + 1;
     }
 }

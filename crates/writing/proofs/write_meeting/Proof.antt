@@ -97,8 +97,8 @@ loop-again c =
 enum-told-2 : tie.Need-enum-told-2 Inv-loop μ-loop
 enum-told-2 c = search needs
 
-at-start-requires : tie.Need-at-start-requires Inv-loop μ-loop
-at-start-requires c κs = search needs
+behind-break-requires : tie.Need-behind-break-requires Inv-loop μ-loop
+behind-break-requires c κs = search needs
 
 past-requires-2 : tie.Need-past-requires-2 Inv-loop μ-loop
 past-requires-2 c κs =
@@ -121,7 +121,7 @@ loop-again-2 c =
     let loop = mark .before .before .before in
     let start = loop .before .before .before .before .before .before in
     past-break (start .pre .0) (loop .loop .inv) (omega arith) (mark .mark-at .ensures) (told .enum-told2 .given .1)
-    (restarted .at-start .ensures) (c .past2 .ensures)
+    (restarted .behind-break .ensures) (c .past2 .ensures)
 
 same-length-2 : tie.Need-same-length-2 Inv-loop μ-loop
 same-length-2 c =
@@ -162,7 +162,7 @@ write-meeting-spec =
     loop-less
     loop-again
     enum-told-2
-    at-start-requires
+    behind-break-requires
     past-requires-2
     loop-less-2
     loop-again-2

@@ -1,6 +1,6 @@
 -- The loop's invariant: the writing has gone on from the first record to the position, which is before the record `done`.
 use Prim.Native.Nat.{_-_}
-use mathlib.Core.Path.{_≡_}
+use mathlib.Core.Path.{_≡_, refl}
 use native.Mathlib.Omega.{arith}
 use Rattle.writing.specs.Writing.{Further}
 use Rattle.writing.proofs.Passing.{index-at, further-one, further-on, underway-first, underway-on, record-here, further-first, all-done}
@@ -33,19 +33,9 @@ past-meeting-requires c κs =
     let start = opening .before .before .before .before in
     underway-on (loop .loop .inv .0) (underway-first (start .pre) (opening .before .first .ensures) (opening .opening .ensures))
 
-same-length : tie.Need-same-length Inv-loop μ-loop
-same-length c = search needs
-
-returns : tie.Need-returns Inv-loop μ-loop
-returns c =
-    let gone = c .before .before .before .before .before in
-    let loop = gone .before .before .before in
-    let start = loop .before .before .before .before .before in
-    all-done (start .pre) (further-on (loop .loop .inv .0) (gone .past-meeting .ensures)) (omega arith)
-
 write-here-requires : tie.Need-write-here-requires Inv-loop μ-loop
 write-here-requires c κs =
-    let gone = c .before .before .before .before .before .before in
+    let gone = c .before .before .before .before .before in
     let loop = gone .before .before .before in
     let opening = loop .before in
     let start = opening .before .before .before .before in
@@ -56,33 +46,40 @@ write-here-requires c κs =
 
 add-done : tie.Need-add-done Inv-loop μ-loop
 add-done c =
-    let tested = c .before .before .before .before .before in
-    let start = tested .before .before .before .before .before .before .before .before .before .before .before .before .before in
-    omega (arith, tested .if1 .left, start .fits)
+    let tested = c .before .before .before .before in
+    let start = tested .before .before .before .before .before .before .before .before .before .before .before .before in
+    omega (arith, tested .if1 .taken, start .fits)
 
 loop-less : tie.Need-loop-less Inv-loop μ-loop
 loop-less c =
-    let gone = c .before .before .before .before .before .before .before .before .before .before in
+    let gone = c .before .before .before .before .before .before .before .before in
     let on = gone .past-meeting .ensures .not-back in
-    let loop = gone .before .before .before in
-    let is-done = loop .loop .inv .1 in
+    let is-done = gone .before .before .before .loop .inv .1 in
     omega arith
 
 loop-again : tie.Need-loop-again Inv-loop μ-loop
 loop-again c =
-    let written = c .before .before .before .write-here .ensures in
-    let gone = c .before .before .before .before .before .before .before .before .before .before in
+    let written = c .before .before .write-here .ensures in
+    let gone = c .before .before .before .before .before .before .before .before in
+    let loop = gone .before .before .before in (
+      further-one (further-on (loop .loop .inv .0) (gone .past-meeting .ensures)) (omega arith) (written .0) (written .1) (omega arith),
+      omega (arith, index-at _ _ (written .0)),
+    )
+
+loop-less-2 : tie.Need-loop-less-2 Inv-loop μ-loop
+loop-less-2 c = search needs
+
+loop-again-2 : tie.Need-loop-again-2 Inv-loop μ-loop
+loop-again-2 c =
+    let gone = c .before .before .before .before in
     let loop = gone .before .before .before in
-    let further = further-one (further-on (loop .loop .inv .0) (gone .past-meeting .ensures)) (omega arith) (written .0) (written .1) (omega arith) in
-    (further, omega (arith, index-at _ _ (written .0)))
+    (further-on (loop .loop .inv .0) (gone .past-meeting .ensures), refl)
 
-same-length-2 : tie.Need-same-length-2 Inv-loop μ-loop
-same-length-2 c =
-    let loop = c .before in
-    loop .loop .inv .0 .same-length
+same-length : tie.Need-same-length Inv-loop μ-loop
+same-length c = c .before .loop .inv .0 .same-length
 
-returns-2 : tie.Need-returns-2 Inv-loop μ-loop
-returns-2 c =
+returns : tie.Need-returns Inv-loop μ-loop
+returns c =
     let loop = c .before in
     let is-done = loop .loop .inv .1 in
     all-done (loop .before .before .before .before .before .pre) (loop .loop .inv .0) (omega arith)
@@ -97,11 +94,11 @@ write-records-spec =
     opening-requires
     loop-holds
     past-meeting-requires
-    same-length
-    returns
     write-here-requires
     add-done
     loop-less
     loop-again
-    same-length-2
-    returns-2)
+    loop-less-2
+    loop-again-2
+    same-length
+    returns)
