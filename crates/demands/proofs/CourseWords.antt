@@ -2,7 +2,7 @@
 -- Each by cases on the record there; a test over the classes tells what holds of one, or of every, class.
 use Prim.Native.Nat.{ℕ, zero, suc, _+_, _<_, _≤_}
 use mathlib.Core.Path.{_≡_, refl, sym, _∙_, ap, subst, subst⁻¹}
-use mathlib.Core.Bool.{Bool, true, false, not, _&&_, _||_, true≢false, false≢true}
+use mathlib.Core.Bool.{Bool, true, false, not, _&&_, true≢false, false≢true}
 use mathlib.Core.List.{List, [], _∷_}
 use mathlib.Core.Logic.{_⊎_, inl, inr, ⊎-elim, _↔_}
 use native.Mathlib.Omega.{arith}
@@ -13,7 +13,7 @@ use Rattle.cusum.specs.Step.{tenthsOf, fails}
 use Rattle.cusum.specs.declared.Cusum.{Cusum}
 use Rattle.cusum.proofs.Laws.{fails-true, fails-false}
 use Rattle.encoding.specs.Bytes.{number}
-use Rattle.units.specs.Words.{substandard, classes, hasPlan, Table, numbersOf, tableOf, countsOf, countIn, tenthsIn}
+use Rattle.units.specs.Words.{substandard, classes, hasPlan, numbersOf, countsOf, countIn, tenthsIn}
 use Rattle.units.specs.Unit.{classFails, classCusum, unitFails, allZero, noneAbove, withinTolerance, qualifies}
 use Rattle.units.specs.declared.SampleUnit.{SampleUnit}
 use Rattle.units.specs.declared.Entry.{Entry}
@@ -39,9 +39,9 @@ use Rattle.tally.specs.Accepted.{sheetIn, UnitAt}
 use Rattle.tally.proofs.Entries.{unit-is, designated-before, designated-planned}
 use Rattle.tally.proofs.Overfull.{cusum-graded}
 use Rattle.demands.specs.Tells.{Tells}
-use Rattle.demands.specs.Grounds.{numbersOffset, toleranceIn, limitIn, startIn, IsUnit, IsRedesignation, IsBreak, newGrade}
+use Rattle.demands.specs.Grounds.{toleranceIn, limitIn, startIn, IsUnit, IsRedesignation, IsBreak, newGrade}
 use Rattle.demands.specs.Course.{Course, classCounts, tenTimes, ClassFails, UnitFails, FailsDesignated, SecondFails, Qualifies, ThreeQualify, ThirdQualifies, KeepsStepThree, Restart, at-break, step-three-begins, step-three-ends, at-redesignation}
-use Rattle.demands.proofs.Tells.{told, not-told, tells-true, tells-false, tells-lt, tells-le, tells-eq, tells-as, tells-not, tells-and, tells-or, tells-any, tells-all}
+use Rattle.demands.proofs.Tells.{told, tells-true, tells-false, tells-lt, tells-le, tells-eq, tells-as, tells-not, tells-and, tells-or, tells-any, tells-all}
 use Rattle.demands.proofs.Rows.{numbers-there, Marked, as-unit, as-redesignation, as-break, as-none, marked, is-unit-mark, is-redesignation-mark, is-break-mark, unit-mark-is}
 
 -- the unit that is record i

@@ -1,30 +1,29 @@
 -- Demand 2 for accepted sheets: the course of the definitions follows the rules by place, and the result records hold what it says.
 -- Each rule is a law of the definitions, read through what their tests tell; the code grade is by induction on the records.
-use Prim.Native.Nat.{ℕ, zero, suc, _+_, _-_, _<_, _≤_, min}
-use mathlib.Core.Path.{_≡_, refl, sym, _∙_, ap, subst, subst⁻¹}
+use Prim.Native.Nat.{ℕ, suc, _+_, _-_, _<_, _≤_, min}
+use mathlib.Core.Path.{_≡_, refl, sym, _∙_, ap}
 use mathlib.Core.Bool.{Bool, true, false, cond, not, _&&_, true≢false, false≢true}
 use mathlib.Core.List.{List}
 use native.Mathlib.Omega.{arith}
 use lib.Dec.{eqb, ltb}
 use lib.ListN.{length}
 use borrow.Author.Tests.{lt-ltb, le-ltb, eqb-true, eqb-false, eq-eqb}
-use Rattle.cusum.specs.Step.{tenthsOf, newCusum}
+use Rattle.cusum.specs.Step.{newCusum}
 use Rattle.cusum.proofs.Laws.{new-cusum-is}
 use Rattle.encoding.specs.Bytes.{byte}
 use Rattle.units.specs.Words.{substandard, hasPlan, classes, worse, rowOf, inClass, numbersOf, countsOf, countIn, tenthsIn}
-use Rattle.units.specs.Unit.{starting, classCusum, unitFails, bestLower, defectGrade, portionGradeOf}
+use Rattle.units.specs.Unit.{starting, classCusum, unitFails, defectGrade, portionGradeOf}
 use Rattle.units.specs.BestLower.{BestLower}
 use Rattle.units.specs.Records.{worstBefore}
 use Rattle.units.specs.declared.SampleUnit.{SampleUnit}
-use Rattle.units.specs.declared.Entry.the-variants.{UnitRecord, Redesignation, Break}
+use Rattle.units.specs.declared.Entry.the-variants.{Redesignation, Break}
 use Rattle.units.proofs.BestLower.{best-lower-is}
 use Rattle.units.proofs.Classes.{at-class}
-use Rattle.units.proofs.CodeGrade.{UnitWith, none-worse, Attained, attained}
+use Rattle.units.proofs.CodeGrade.{UnitWith, none-worse, attained}
 use Rattle.units.proofs.Tests.{and-both}
 use Rattle.rules.specs.StepThree.{inStepThree, inForceIn, restarted, graded}
-use Rattle.rules.specs.Sheet.{Sheet, before, designatedAt, inForceAt, gradedAt, inFinishedRun, recovered, portionGrade, standingOf, standing, codeGrade}
+use Rattle.rules.specs.Sheet.{Sheet, before, designatedAt, inForceAt, inFinishedRun, recovered, portionGrade, standingOf, standing, codeGrade}
 use Rattle.rules.specs.TwoInARow.{unitFailsAt, unitFailsBefore, secondInARow}
-use Rattle.rules.specs.ThreeInARow.{unitQualifiesAt}
 use Rattle.rules.specs.Anchor.{countsFrom}
 use Rattle.rules.specs.declared.Phase.{Phase}
 use Rattle.rules.specs.declared.Phase.the-variants.{Designated, StepThree}
@@ -36,8 +35,6 @@ use Rattle.rules.proofs.ThreeQualify.{qualifies-at, third-ends}
 use Rattle.rules.proofs.Restarts.{cusumsBehind, restart-starts, no-restart-keeps}
 use Rattle.rules.proofs.StepThreeStands as stands
 use Rattle.layout.specs.Layout.{recoverableOffset, sampleUnitAt, offset}
-use Rattle.layout.proofs.Units.{unit-mark}
-use Rattle.sheet.specs.Refusals.{designatedBefore}
 use Rattle.sheet.proofs.Accepted.{Facts}
 use Rattle.sheet.proofs.Ranges.{designated-le}
 use Rattle.writing.specs.Sheet.{sheetOf}
@@ -48,8 +45,8 @@ use Rattle.tally.proofs.AcceptedSheet.{accepted-sheet}
 use Rattle.tally.proofs.Entries.{unit-is, new-grades}
 use Rattle.tally.proofs.Overfull.{cusum-graded}
 use Rattle.demands.specs.Grounds.{startIn, toleranceIn, limitIn, newGrade, IsBreak, IsRedesignation}
-use Rattle.demands.specs.Course.{Course, tenTimes, prerequisite, ClassFails, UnitFails, FailsDesignated, SecondFails, Qualifies, ThreeQualify, ThirdQualifies, AmongThree, Recovered, KeepsStepThree, Restart, RuleTwo, BestLowerGrade, RuleThree, Rules, SameBefore, SameAt}
-use Rattle.demands.specs.Demand2.{recordedStanding, UnitRecorded, HasCodeGrade, WorstOfCode, SameRecords, SameWords, GradedByRules, Demand2Records}
+use Rattle.demands.specs.Course.{Course, tenTimes, prerequisite, SecondFails, Qualifies, AmongThree, Recovered, Restart, RuleTwo, BestLowerGrade, RuleThree, Rules, SameBefore, SameAt}
+use Rattle.demands.specs.Demand2.{recordedStanding, UnitRecorded, WorstOfCode, SameRecords, SameWords, Demand2Records}
 use Rattle.demands.proofs.Tells.{told, not-told}
 use Rattle.demands.proofs.Rows.{designated-just-before, is-redesignation-mark, redesignation-mark-is}
 use Rattle.demands.proofs.CourseWords as words

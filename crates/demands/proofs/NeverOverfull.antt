@@ -1,7 +1,7 @@
 -- Number 14 never applies: the check's refusals go to 12, and no CuSum of a sheet that passes it is above its L.
 -- By cases on the verdict, then on the tests of numbers 13 and 14. So where no row to 13 is met the sheet is accepted, and no row is met.
 use Prim.Native.Nat.{ℕ, _*_, _≤_}
-use mathlib.Core.Path.{_≡_, refl, sym, _∙_}
+use mathlib.Core.Path.{_≡_, refl}
 use mathlib.Core.Bool.{Bool, true, false, true≢false}
 use mathlib.Core.List.{List}
 use mathlib.Core.Logic.{⊎-elim}

@@ -17,7 +17,7 @@ use Rattle.units.specs.Words.{substandard, classes, noNumbers, cellOf, numbersO
 use Rattle.units.specs.Records.{designatedBy}
 use Rattle.units.proofs.Lists.{map-at}
 use Rattle.units.proofs.Classes.{cell-at}
-use Rattle.layout.specs.Layout.{tableOffset, planNumbersSize, tableSize, planSize, kinds, countOffset, planNumbersAt, cells, planOf, sampleUnitAt, markOf, markAt, offset, mark, entryOf, entryAt}
+use Rattle.layout.specs.Layout.{tableOffset, planNumbersSize, tableSize, planSize, kinds, countOffset, planNumbersAt, planOf, sampleUnitAt, markOf, markAt, offset, mark, entryOf, entryAt}
 use Rattle.layout.specs.declared.Mark.{Mark}
 use Rattle.layout.specs.declared.Mark.the-variants.{UnitMark, RedesignationMark, BreakMark, NoMark}
 use Rattle.sheet.specs.Refusals.{noPlanRecord, anyNumbers, tooLarge, startAboveLimit, smaller, smallerInClass, countTooLarge, designatedBefore}
