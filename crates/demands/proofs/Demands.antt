@@ -1,6 +1,7 @@
 -- The demands, each from its own file; the promise is the theorem of `tally::grade`.
 use Rattle.tally.proofs.grade.Met.{met}
 use Rattle.demands.specs.Demands.{Demands}
+use Rattle.demands.proofs.Bytes.{paper-layout}
 use Rattle.demands.proofs.Listed.{demand1}
 use Rattle.demands.proofs.Grounds.{demand2-grounds}
 use Rattle.demands.proofs.NeverOverfull.{never-overfull}
@@ -15,6 +16,7 @@ pub demands : Demands
 demands =
     record {
       promise-of-grade = met;
+      paper-layout = paper-layout;
       demand1 = demand1;
       demand2-grounds = demand2-grounds;
       never-overfull = never-overfull;

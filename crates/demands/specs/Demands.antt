@@ -1,7 +1,8 @@
 -- The demands on the grading as one theorem, `demands : Demands` in `proofs/Demands.antt`. Its first field is what the code promises: the
--- answer and the whole result buffer are the `outcome` of the sheet and the buffer, for every input. Every other field speaks of that, but for P1 to P8, which speak of
--- the rules alone.
+-- answer and the whole result buffer are the `outcome` of the sheet and the buffer, for every input. Every other field speaks of that, but
+-- for the layout, which speaks of the bytes alone, and P1 to P8, which speak of the rules alone.
 use Rattle.tally.proofs.grade.Statement as grade
+use Rattle.demands.specs.Bytes.{PaperLayout}
 use Rattle.demands.specs.Demand1.{Demand1}
 use Rattle.demands.specs.Grounds.{Demand2Grounds, NeverOverfull}
 use Rattle.demands.specs.Demand2.{Demand2Records}
@@ -13,11 +14,13 @@ use Rattle.demands.specs.Instances.{Instances}
 pub record Demands : Type 2 where
   -- the contract of `tally::grade`, met by its code
   pub promise-of-grade : {M : Type 1} → grade.statement M
+  -- sizes, offsets and fields, as all the others name them, in the paper's numbers
+  pub paper-layout : PaperLayout
   -- any bytes at all are accepted, or refused by a listed number with the place; what happens to the result buffer
   pub demand1 : Demand1
   -- nothing is refused without a listed ground, and the first that applies is returned
   pub demand2-grounds : Demand2Grounds
-  -- and 14 is never among them
+  -- number 14 never applies
   pub never-overfull : NeverOverfull
   -- an accepted sheet gets exactly the CuSums, grades and recoveries of the rules
   pub demand2-records : Demand2Records
