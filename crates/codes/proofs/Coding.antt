@@ -2,13 +2,11 @@
 -- portion grades, and what it leaves is what the records write with the worst recorded portion grade of each code.
 -- By induction on the records, each result record read back where it stands.
 use Prim.Native.Nat.{ℕ, zero, suc, _+_, _*_, _≤_, _<_}
-use mathlib.Core.Path.{_≡_, refl, sym, _∙_, ap, ap₂, subst}
-use mathlib.Core.Bool.{cond}
+use mathlib.Core.Path.{_≡_, refl, _∙_, ap, subst}
 use mathlib.Core.List.{List, [], _++_, append-assoc, append-nil}
 use native.Mathlib.Nat.{add-zero}
 use native.Mathlib.Numerals.{add-one}
 use native.Mathlib.Omega.{arith}
-use lib.Dec.{eqb}
 use lib.ListN.{length, set}
 use Rattle.units.specs.Words.{worse, substandard}
 use Rattle.units.specs.Records.{unitsOf, unitsAmong, portionGradeWith, worstBefore}

@@ -1,6 +1,6 @@
 -- What is printed: for every input by the tests of its definition; for the sheets from their outcomes, and the lines of their records by
 -- computation. A number in decimal by induction, a digit at a time.
-use Prim.Native.Nat.{ℕ, zero, suc, _+_, _*_, _/_, _%_, _<_, _≤_}
+use Prim.Native.Nat.{ℕ, zero, suc, _+_, _*_, _/_, _%_, _<_}
 use mathlib.Core.Path.{_≡_, refl, sym, _∙_, subst}
 use mathlib.Core.Bool.{Bool, true, false}
 use mathlib.Core.List.{List, _++_, append-assoc}

@@ -2,18 +2,18 @@
 -- Each by cases on the record there; a test over the classes tells what holds of one, or of every, class.
 use Prim.Native.Nat.{ℕ, zero, suc, _+_, _<_, _≤_}
 use mathlib.Core.Path.{_≡_, refl, sym, _∙_, ap, subst, subst⁻¹}
-use mathlib.Core.Bool.{Bool, true, false, not, _&&_, _||_, true≢false, false≢true}
-use mathlib.Core.List.{List}
-use mathlib.Core.Logic.{_⊎_, inl, inr, ⊎-elim}
+use mathlib.Core.Bool.{Bool, true, false, not, _&&_, true≢false, false≢true}
+use mathlib.Core.List.{List, [], _∷_}
+use mathlib.Core.Logic.{_⊎_, inl, inr, ⊎-elim, _↔_}
 use native.Mathlib.Omega.{arith}
 use lib.Dec.{ltb, leb, eqb}
-use lib.ListN.{length}
+use lib.ListN.{length, getD}
 use borrow.Author.Tests.{ltb-true, ltb-false}
 use Rattle.cusum.specs.Step.{tenthsOf, fails}
 use Rattle.cusum.specs.declared.Cusum.{Cusum}
 use Rattle.cusum.proofs.Laws.{fails-true, fails-false}
 use Rattle.encoding.specs.Bytes.{number}
-use Rattle.units.specs.Words.{substandard, classes, hasPlan, Table, numbersOf, tableOf, countsOf, countIn, tenthsIn}
+use Rattle.units.specs.Words.{substandard, classes, hasPlan, numbersOf, countsOf, countIn, tenthsIn}
 use Rattle.units.specs.Unit.{classFails, classCusum, unitFails, allZero, noneAbove, withinTolerance, qualifies}
 use Rattle.units.specs.declared.SampleUnit.{SampleUnit}
 use Rattle.units.specs.declared.Entry.{Entry}
@@ -22,27 +22,27 @@ use Rattle.rules.specs.StepThree.{inStepThree, inForceIn, qualifiesWith}
 use Rattle.rules.specs.Sheet.{Sheet, before, designatedAt, inForceAt, gradedAt}
 use Rattle.rules.specs.TwoInARow.{failsDesignated, unitFailsAt, unitFailsBefore, secondInARow}
 use Rattle.rules.specs.ThreeInARow.{recordQualifies, unitQualifiesAt, thirdInARow}
-use Rattle.rules.specs.Anchor.{failsAt, classFailsAt, restartBy, restartAt}
+use Rattle.rules.specs.Anchor.{failsAt, countAt, classFailsAt, restartBy, restartAt, countsFrom}
+use Rattle.rules.proofs.Anchors.{counts-of-one}
 use Rattle.rules.specs.declared.Phase.{Phase}
 use Rattle.rules.specs.declared.Phase.the-variants.{Designated, StepThree}
-use Rattle.layout.specs.Layout.{markSize, planOf, sampleUnitAt, offset, markOf, markAt, mark, entryOf, entryAt, unitsBefore}
+use Rattle.layout.specs.Layout.{markSize, sampleUnitAt, offset, mark, entryOf, entryAt, unitsBefore}
 use Rattle.layout.specs.declared.Mark.{Mark}
 use Rattle.layout.specs.declared.Mark.the-variants.{UnitMark, RedesignationMark, BreakMark, NoMark}
 use Rattle.layout.proofs.Units.{entry-unit, unit-mark}
-use Rattle.layout.proofs.Offsets.{inside-unit}
+use Rattle.layout.proofs.Offsets.{offset-order, inside-unit}
 use Rattle.sheet.specs.Refusals.{designatedBefore, refusedIf, refusalBy, refusalAt, recordRefusal}
 use Rattle.sheet.proofs.Accepted.{Facts}
-use Rattle.units.specs.Conditions.{pick}
 use Rattle.writing.specs.Sheet.{sheetOf}
 use Rattle.tally.specs.Outcome.{recordsIn}
 use Rattle.tally.specs.Accepted.{sheetIn, UnitAt}
 use Rattle.tally.proofs.Entries.{unit-is, designated-before, designated-planned}
 use Rattle.tally.proofs.Overfull.{cusum-graded}
 use Rattle.demands.specs.Tells.{Tells}
-use Rattle.demands.specs.Grounds.{numbersOffset, toleranceIn, limitIn, startIn, IsUnit, IsRedesignation, IsBreak, newGrade}
-use Rattle.demands.specs.Course.{Course, tenTimes, ClassFails, UnitFails, FailsDesignated, SecondFails, Qualifies, ThreeQualify, ThirdQualifies, KeepsStepThree, Restart, at-break, step-three-begins, step-three-ends, at-redesignation}
-use Rattle.demands.proofs.Tells.{told, not-told, tells-true, tells-false, tells-lt, tells-le, tells-eq, tells-as, tells-not, tells-and, tells-or, tells-any, tells-all}
-use Rattle.demands.proofs.Rows.{numbers-there, Marked, as-unit, as-redesignation, as-break, as-none, marked}
+use Rattle.demands.specs.Grounds.{toleranceIn, limitIn, startIn, IsUnit, IsRedesignation, IsBreak, newGrade}
+use Rattle.demands.specs.Course.{Course, classCounts, tenTimes, ClassFails, UnitFails, FailsDesignated, SecondFails, Qualifies, ThreeQualify, ThirdQualifies, KeepsStepThree, Restart, at-break, step-three-begins, step-three-ends, at-redesignation}
+use Rattle.demands.proofs.Tells.{told, tells-true, tells-false, tells-lt, tells-le, tells-eq, tells-as, tells-not, tells-and, tells-or, tells-any, tells-all}
+use Rattle.demands.proofs.Rows.{numbers-there, Marked, as-unit, as-redesignation, as-break, as-none, marked, is-unit-mark, is-redesignation-mark, is-break-mark, unit-mark-is}
 
 -- the unit that is record i
 abbrev pub unitIn : List ℕ → ℕ → SampleUnit
@@ -61,24 +61,16 @@ courseOf bytes =
       defectGrade = λ i. gradedAt (sheetIn bytes) i (unitIn bytes i) .grade;
     }
 
--- ---- marks
+-- ---- records by their marks
 
 module _ (bytes : List ℕ) (i : ℕ) where
-  pub break-mark : IsBreak bytes i → mark bytes i ≡ BreakMark
-  unfolding markAt markOf pick
-  break-mark is-break = ap markOf is-break
-
-  pub redesignation-mark : IsRedesignation bytes i → mark bytes i ≡ RedesignationMark
-  unfolding markAt markOf pick
-  redesignation-mark is-redesignation = ap markOf is-redesignation
-
-  pub break-entry : mark bytes i ≡ BreakMark → entryAt bytes i ≡ Break
+  pub break-entry : IsBreak bytes i → entryAt bytes i ≡ Break
   unfolding entryAt entryOf
-  break-entry is-break = rw is-break
+  break-entry is-break = rw (is-break-mark bytes i is-break)
 
-  pub redesignation-entry : mark bytes i ≡ RedesignationMark → entryAt bytes i ≡ Redesignation (newGrade bytes i)
+  pub redesignation-entry : IsRedesignation bytes i → entryAt bytes i ≡ Redesignation (newGrade bytes i)
   unfolding entryAt entryOf
-  redesignation-entry is-redesignation = rw is-redesignation
+  redesignation-entry is-redesignation = rw (is-redesignation-mark bytes i is-redesignation)
 
 -- ---- an accepted sheet
 
@@ -111,6 +103,15 @@ module _ (bytes : List ℕ) (facts : Facts bytes (recordsIn bytes)) where
   not-break i e at =
       let both : Break ≡ UnitRecord (unitIn bytes i) = sym e ∙ unit-here i at in
       let differ : _≡_ {A = ℕ} 0 1 = cc in omega arith
+
+  -- a record that is no unit
+  other-entry : (i : ℕ) → (UnitAt bytes i → ⊥) → (Holds : Entry → Type 0) → ((new : ℕ) → Holds (Redesignation new)) → Holds Break → Holds (sheet .entry i)
+  other-entry i none Holds new break = go (sheet .entry i) refl
+    where
+      go : (entry : Entry) → sheet .entry i ≡ entry → Holds entry
+      go (UnitRecord unit) e = absurd (none (unit-there i unit e))
+      go (Redesignation grade) e = new grade
+      go Break e = break
 
   pub designated-is : (i : ℕ) → designatedAt sheet i ≡ designatedBefore bytes i
   unfolding sheetIn
@@ -162,6 +163,10 @@ module _ (bytes : List ℕ) (facts : Facts bytes (recordsIn bytes)) where
       subst⁻¹ (λ (entry : Entry). Tells (failsAt (sheet .table) class (before sheet i) entry) (ClassFails bytes course i class))
       (unit-here i at) (unfold failsAt in tells-class i class known)
 
+  pub only-units-fail : (i class : ℕ) → (UnitAt bytes i → ⊥) → classFailsAt sheet class i ≡ false
+  unfolding classFailsAt failsAt
+  only-units-fail i class none = other-entry i none (λ entry. failsAt (sheet .table) class (before sheet i) entry ≡ false) (λ new. refl) refl
+
   -- a unit fails in one of its classes
   pub tells-unit : (i : ℕ) → Tells (unitFails (sheet .table) (inForceAt sheet i) (before sheet i .cusums) (countsOf (unitIn bytes i))) (UnitFails bytes course i)
   unfolding unitFails
@@ -208,6 +213,16 @@ module _ (bytes : List ℕ) (facts : Facts bytes (recordsIn bytes)) where
       let same : here .first ≡ i = omega (arith, here .next) in
       (subst (FailsDesignated bytes course) same (here .first-fails), here .second-fails))
       (tells-and (tells-designated i) (tells-designated (suc i)))
+
+  -- ---- counts
+
+  pub counts-of-unit : (i class : ℕ) → UnitAt bytes i → countsFrom sheet class i 1 ≡ getD (classCounts bytes i) class 0 ∷ []
+  unfolding countAt sampleUnitAt
+  counts-of-unit i class at = counts-of-one sheet class i ∙ ap (countAt class) (unit-here i at)
+
+  pub counts-of-other : (i class : ℕ) → (UnitAt bytes i → ⊥) → countsFrom sheet class i 1 ≡ []
+  unfolding countAt
+  counts-of-other i class none = counts-of-one sheet class i ∙ other-entry i none (λ entry. countAt class entry ≡ []) (λ new. refl) refl
 
   -- ---- qualifying
 
@@ -270,11 +285,11 @@ module _ (bytes : List ℕ) (facts : Facts bytes (recordsIn bytes)) where
   inside-third i here = subst⁻¹ (λ (j : ℕ). course .inStepThree j ≡ true) (here .last) (here .in-a-row .three .in-step-three)
 
   unit-no-break : (i : ℕ) → UnitAt bytes i → IsBreak bytes i → ⊥
-  unit-no-break i at is-break = not-break i (entry-is i ∙ break-entry bytes i (break-mark bytes i is-break)) at
+  unit-no-break i at is-break = not-break i (entry-is i ∙ break-entry bytes i is-break) at
 
   unit-no-redesignation : (i : ℕ) → UnitAt bytes i → IsRedesignation bytes i → ⊥
   unit-no-redesignation i at is-redesignation =
-      not-redesignation i (newGrade bytes i) (entry-is i ∙ redesignation-entry bytes i (redesignation-mark bytes i is-redesignation)) at
+      not-redesignation i (newGrade bytes i) (entry-is i ∙ redesignation-entry bytes i is-redesignation) at
 
   pub tells-restart-unit : (i : ℕ) → UnitAt bytes i → Tells (restartAt sheet i) (Restart bytes course i)
   unfolding restartAt restartBy
@@ -292,7 +307,7 @@ module _ (bytes : List ℕ) (facts : Facts bytes (recordsIn bytes)) where
   unfolding restartAt restartBy
   tells-restart-redesignation i is-redesignation =
       subst⁻¹ (λ (entry : Entry). Tells (restartBy sheet i entry) (Restart bytes course i))
-      (entry-is i ∙ redesignation-entry bytes i (redesignation-mark bytes i is-redesignation))
+      (entry-is i ∙ redesignation-entry bytes i is-redesignation)
       (unfold restartBy in tells-as (at-redesignation is-redesignation) from (tells-not (tells-keeps i)))
     where
       from : Restart bytes course i → KeepsStepThree bytes course i → ⊥
@@ -304,7 +319,7 @@ module _ (bytes : List ℕ) (facts : Facts bytes (recordsIn bytes)) where
   pub tells-restart-break : (i : ℕ) → IsBreak bytes i → Tells (restartAt sheet i) (Restart bytes course i)
   unfolding restartAt restartBy
   tells-restart-break i is-break =
-      subst⁻¹ (λ (entry : Entry). Tells (restartBy sheet i entry) (Restart bytes course i)) (entry-is i ∙ break-entry bytes i (break-mark bytes i is-break))
+      subst⁻¹ (λ (entry : Entry). Tells (restartBy sheet i entry) (Restart bytes course i)) (entry-is i ∙ break-entry bytes i is-break)
       (unfold restartBy in record { so = λ _. at-break is-break; not-so = λ never. absurd (true≢false never) })
 
   -- a restart is told at every record
@@ -334,6 +349,16 @@ module _ (bytes : List ℕ) (facts : Facts bytes (recordsIn bytes)) where
       go RedesignationMark e (as-redesignation is-redesignation) = inr (inl is-redesignation)
       go BreakMark e (as-break is-break) = inr (inr is-break)
       go NoMark e (as-none _ _ _) = absurd (has-mark i inside e)
+
+  -- the records of the sheet, and the units among them, by the bytes
+  pub inside-iff : (i : ℕ) → (i < recordsIn bytes) ↔ (offset bytes i < length bytes)
+  inside-iff i = (λ inside. facts .within i inside .0, λ before-end. offset-order bytes i (recordsIn bytes) (omega (arith, facts .end)))
+
+  pub unit-iff : (i : ℕ) → UnitAt bytes i ↔ ((offset bytes i < length bytes) × IsUnit bytes i)
+  unit-iff i = (
+    λ at. (inside-iff i .0 (at .inside), unit-mark-is bytes i (at .is-unit)),
+    λ (before-end, is-unit). record { inside = inside-iff i .1 before-end; is-unit = is-unit-mark bytes i is-unit },
+  )
 
   pub tells-restart : (i : ℕ) → i < recordsIn bytes → Tells (restartAt sheet i) (Restart bytes course i)
   tells-restart i inside = ⊎-elim (tells-restart-unit i) (⊎-elim (tells-restart-redesignation i) (tells-restart-break i)) (kind i inside)

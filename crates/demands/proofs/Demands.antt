@@ -3,6 +3,7 @@ use Rattle.tally.proofs.grade.Met as grade
 use Rattle.hatmuyon.proofs.hatmuyon_grade.Met as hatmuyon_grade
 use Rattle.lines.proofs.print_into.Met as print_into
 use Rattle.demands.specs.Demands.{Demands}
+use Rattle.demands.proofs.Bytes.{paper-layout}
 use Rattle.demands.proofs.Listed.{demand1}
 use Rattle.demands.proofs.Grounds.{demand2-grounds}
 use Rattle.demands.proofs.NeverOverfull.{never-overfull}
@@ -20,6 +21,7 @@ demands =
       promise-of-grade = grade.met;
       promise-of-hatmuyon-grade = hatmuyon_grade.met;
       promise-of-print-into = print_into.met;
+      paper-layout = paper-layout;
       demand1 = demand1;
       demand2-grounds = demand2-grounds;
       never-overfull = never-overfull;

@@ -1,32 +1,33 @@
 -- Demand 2 for accepted sheets: the course of the definitions follows the rules by place, and the result records hold what it says.
 -- Each rule is a law of the definitions, read through what their tests tell; the code grade is by induction on the records.
-use Prim.Native.Nat.{ℕ, zero, suc, _+_, _-_, _<_, _≤_, min}
-use mathlib.Core.Path.{_≡_, refl, sym, _∙_, ap, subst, subst⁻¹}
+use Prim.Native.Nat.{ℕ, suc, _+_, _-_, _<_, _≤_, min}
+use mathlib.Core.Path.{_≡_, refl, sym, _∙_, ap}
 use mathlib.Core.Bool.{Bool, true, false, cond, not, _&&_, true≢false, false≢true}
 use mathlib.Core.List.{List}
 use native.Mathlib.Omega.{arith}
 use lib.Dec.{eqb, ltb}
 use lib.ListN.{length}
 use borrow.Author.Tests.{lt-ltb, le-ltb, eqb-true, eqb-false, eq-eqb}
-use Rattle.cusum.specs.Step.{tenthsOf, newCusum}
+use Rattle.cusum.specs.Step.{newCusum}
 use Rattle.cusum.proofs.Laws.{new-cusum-is}
 use Rattle.encoding.specs.Bytes.{byte}
 use Rattle.units.specs.Words.{substandard, hasPlan, classes, worse, rowOf, inClass, numbersOf, countsOf, countIn, tenthsIn}
-use Rattle.units.specs.Unit.{starting, classCusum, unitFails, bestLower, defectGrade, portionGradeOf}
+use Rattle.units.specs.Unit.{starting, classCusum, unitFails, defectGrade, portionGradeOf}
 use Rattle.units.specs.BestLower.{BestLower}
 use Rattle.units.specs.Records.{worstBefore}
 use Rattle.units.specs.declared.SampleUnit.{SampleUnit}
-use Rattle.units.specs.declared.Entry.the-variants.{UnitRecord, Redesignation, Break}
+use Rattle.units.specs.declared.Entry.the-variants.{Redesignation, Break}
 use Rattle.units.proofs.BestLower.{best-lower-is}
 use Rattle.units.proofs.Classes.{at-class}
-use Rattle.units.proofs.CodeGrade.{UnitWith, none-worse, Attained, attained}
+use Rattle.units.proofs.CodeGrade.{UnitWith, none-worse, attained}
 use Rattle.units.proofs.Tests.{and-both}
 use Rattle.rules.specs.StepThree.{inStepThree, inForceIn, restarted, graded}
-use Rattle.rules.specs.Sheet.{Sheet, before, designatedAt, inForceAt, gradedAt, inFinishedRun, recovered, portionGrade, standingOf, standing, codeGrade}
+use Rattle.rules.specs.Sheet.{Sheet, before, designatedAt, inForceAt, inFinishedRun, recovered, portionGrade, standingOf, standing, codeGrade}
 use Rattle.rules.specs.TwoInARow.{unitFailsAt, unitFailsBefore, secondInARow}
-use Rattle.rules.specs.ThreeInARow.{unitQualifiesAt}
+use Rattle.rules.specs.Anchor.{countsFrom}
 use Rattle.rules.specs.declared.Phase.{Phase}
 use Rattle.rules.specs.declared.Phase.the-variants.{Designated, StepThree}
+use Rattle.rules.proofs.Anchors.{counts-go-on}
 use Rattle.rules.proofs.Grades.{in-force-at-most}
 use Rattle.rules.proofs.FinishedRun.{finished-run, in-run, run-in}
 use Rattle.rules.proofs.TwoFailures.{begins-at-second, lower-is-worse}
@@ -34,8 +35,6 @@ use Rattle.rules.proofs.ThreeQualify.{qualifies-at, third-ends}
 use Rattle.rules.proofs.Restarts.{cusumsBehind, restart-starts, no-restart-keeps}
 use Rattle.rules.proofs.StepThreeStands as stands
 use Rattle.layout.specs.Layout.{recoverableOffset, sampleUnitAt, offset}
-use Rattle.layout.proofs.Units.{unit-mark}
-use Rattle.sheet.specs.Refusals.{designatedBefore}
 use Rattle.sheet.proofs.Accepted.{Facts}
 use Rattle.sheet.proofs.Ranges.{designated-le}
 use Rattle.writing.specs.Sheet.{sheetOf}
@@ -46,12 +45,12 @@ use Rattle.tally.proofs.AcceptedSheet.{accepted-sheet}
 use Rattle.tally.proofs.Entries.{unit-is, new-grades}
 use Rattle.tally.proofs.Overfull.{cusum-graded}
 use Rattle.demands.specs.Grounds.{startIn, toleranceIn, limitIn, newGrade, IsBreak, IsRedesignation}
-use Rattle.demands.specs.Course.{Course, tenTimes, prerequisite, ClassFails, UnitFails, FailsDesignated, SecondFails, Qualifies, ThreeQualify, ThirdQualifies, AmongThree, Recovered, KeepsStepThree, Restart, RuleTwo, BestLowerGrade, RuleThree, Rules, SameAt}
-use Rattle.demands.specs.Demand2.{recordedStanding, UnitRecorded, HasCodeGrade, WorstOfCode, SameWords, GradedByRules, Demand2Records}
+use Rattle.demands.specs.Course.{Course, tenTimes, prerequisite, SecondFails, Qualifies, AmongThree, Recovered, Restart, RuleTwo, BestLowerGrade, RuleThree, Rules, SameBefore, SameAt}
+use Rattle.demands.specs.Demand2.{recordedStanding, UnitRecorded, WorstOfCode, SameRecords, SameWords, Demand2Records}
 use Rattle.demands.proofs.Tells.{told, not-told}
-use Rattle.demands.proofs.Rows.{designated-just-before}
+use Rattle.demands.proofs.Rows.{designated-just-before, is-redesignation-mark, redesignation-mark-is}
 use Rattle.demands.proofs.CourseWords as words
-use Rattle.demands.proofs.CourseWords.{unitIn, courseOf, break-mark, break-entry, redesignation-mark, redesignation-entry}
+use Rattle.demands.proofs.CourseWords.{unitIn, courseOf, break-entry, redesignation-entry}
 use Rattle.demands.proofs.OneCourse.{settled, one-course}
 use Rattle.demands.proofs.Recorded.{recorded-portion, recorded-code-grade, recorded-plan, recorded-standing, recorded-code, recorded-cusum, recorded-mark}
 
@@ -172,10 +171,10 @@ module _ (bytes : List ℕ) (facts : Facts bytes (recordsIn bytes)) where
       in-force-lower {lower} same = unfold inForceIn in ap (inForceIn (before sheet (suc (suc i)) .designated)) same
 
   break-here : (i : ℕ) → IsBreak bytes i → sheet .entry i ≡ Break
-  break-here i is-break = words.entry-is bytes facts i ∙ break-entry bytes i (break-mark bytes i is-break)
+  break-here i is-break = words.entry-is bytes facts i ∙ break-entry bytes i is-break
 
   redesignation-here : (i : ℕ) → IsRedesignation bytes i → sheet .entry i ≡ Redesignation (newGrade bytes i)
-  redesignation-here i is-redesignation = words.entry-is bytes facts i ∙ redesignation-entry bytes i (redesignation-mark bytes i is-redesignation)
+  redesignation-here i is-redesignation = words.entry-is bytes facts i ∙ redesignation-entry bytes i is-redesignation
 
   after-redesignation : (i : ℕ) → IsRedesignation bytes i
       → course .inStepThree (suc i) ≡ (course .inStepThree i && ltb (newGrade bytes i) (inForceAt sheet i))
@@ -230,13 +229,27 @@ module _ (bytes : List ℕ) (facts : Facts bytes (recordsIn bytes)) where
       }
 
   pub same-words : SameWords bytes course
+  unfolding countsFrom
   same-words =
       record {
         class-fails = words.tells-class-at bytes facts;
+        only-units-fail = words.only-units-fail bytes facts;
         second-fails = words.tells-second bytes facts;
         restart = words.tells-restart bytes facts;
         plan-grade = λ i. refl;
         numbers = λ i class planned known. words.numbers-in bytes facts (inForceAt sheet i) class planned known;
+        counts-of-unit = words.counts-of-unit bytes facts;
+        counts-of-other = words.counts-of-other bytes facts;
+        counts-of-none = λ class from. refl;
+        counts-go-on = counts-go-on sheet;
+      }
+
+  pub same-records : SameRecords bytes
+  same-records =
+      record {
+        inside = words.inside-iff bytes facts;
+        unit = words.unit-iff bytes facts;
+        redesignation = λ i. (redesignation-mark-is bytes i, is-redesignation-mark bytes i);
       }
 
   -- ---- no other course
@@ -245,11 +258,18 @@ module _ (bytes : List ℕ) (facts : Facts bytes (recordsIn bytes)) where
   unfolding sheetIn sheetOf
   bounded = in-force-at-most sheet (designated-le bytes (recordsIn bytes) facts) (new-grades bytes (recordsIn bytes) facts)
 
-  pub only-course : (other : Course) → Rules bytes other → (i : ℕ) → UnitAt bytes i → SameAt course other i
-  only-course other others i at =
+  same-course : (other : Course) → Rules bytes other
+      → ((i : ℕ) → i ≤ recordsIn bytes → SameBefore course other i) × ((i : ℕ) → UnitAt bytes i → i < recordsIn bytes → SameAt course other i)
+  same-course other others =
       one-course bytes (recordsIn bytes) course other rules others bounded
       (λ j. settled (words.tells-unit bytes facts j)) (λ j. settled (words.tells-second bytes facts j)) (λ j. settled (words.tells-third bytes facts j))
-      (λ j. settled (words.tells-keeps bytes facts j)) (λ j inside. settled (words.tells-restart bytes facts j inside)) (words.kind bytes facts) i (at .inside) at
+      (λ j. settled (words.tells-keeps bytes facts j)) (λ j inside. settled (words.tells-restart bytes facts j inside)) (words.kind bytes facts)
+
+  pub only-course : (other : Course) → Rules bytes other → (i : ℕ) → UnitAt bytes i → SameAt course other i
+  only-course other others i at = same-course other others .1 i at (at .inside)
+
+  pub only-course-before : (other : Course) → Rules bytes other → (i : ℕ) → i ≤ recordsIn bytes → SameBefore course other i
+  only-course-before other others = same-course other others .0
 
   -- ---- recovery
 
@@ -425,7 +445,9 @@ demand2-records bytes buffer answer results accepted =
       course = courseOf bytes;
       rules = rules bytes facts;
       only-course = only-course bytes facts;
+      only-course-before = only-course-before bytes facts;
       recorded = unit-recorded bytes buffer answer results accepted;
       code-grades = worst-of-code bytes buffer answer results accepted;
+      same-records = same-records bytes facts;
       same-words = same-words bytes facts;
     }

@@ -12,8 +12,8 @@ use borrow.Author.Tests.{ltb-true, ltb-false}
 use Rattle.units.specs.Conditions.{pick}
 use Rattle.units.specs.Words.{tenthsIn}
 use Rattle.rules.specs.Sheet.{gradedAt}
-use Rattle.layout.specs.Layout.{sampleUnitAt, markOf, markAt, offset, mark, unitsBefore}
-use Rattle.layout.proofs.Offsets.{size-ge, offset-lt, offset-ge}
+use Rattle.layout.specs.Layout.{sampleUnitAt, offset, unitsBefore}
+use Rattle.layout.proofs.Offsets.{offset-order, offset-same, offset-ge}
 use Rattle.layout.proofs.Units.{entry-unit}
 use Rattle.sheet.specs.Refusals.{planRefusal, recordRefusal, verdict}
 use Rattle.sheet.specs.declared.Verdict.{Verdict}
@@ -25,29 +25,12 @@ use Rattle.tally.specs.declared.Answer.{Answer}
 use Rattle.tally.specs.Outcome.{overfullBefore, Outcome, refusal, acceptance, outcomeBy, outcome}
 use Rattle.tally.proofs.Overfull.{none-overfull, cusum-fits}
 use Rattle.demands.specs.Grounds.{PlanRow, RecordRow, BufferRow, row13, row14, Ground, of-plan, of-record, of-buffer, rowsAbove, row, Earlier, FirstRowMet, WholeSheet, RefusedByGround, Demand2Grounds}
+use Rattle.demands.proofs.Rows.{is-unit-mark}
 use Rattle.demands.proofs.FirstRow.{InRows, own-row, first-none, first-met, First, plan-in-rows, plan-rows, plan-first, record-in-rows, record-rows, record-first}
 
 -- ---- the places in order
 
 module _ (bytes : List ℕ) where
-  -- a record at a smaller offset is an earlier one, and one at the same offset the same
-  offset-order : (i j : ℕ) → offset bytes i < offset bytes j → i < j
-  offset-order i j h = go (ltb i j) refl (ltb j i) refl
-    where
-      go : (t : Bool) → ltb i j ≡ t → (t' : Bool) → ltb j i ≡ t' → i < j
-      go true e t' e' = ltb-true i j e
-      go false e true e' = absurd (omega (arith, offset-lt bytes j i (ltb-true j i e')))
-      go false e false e' =
-          let same : i ≡ j = omega (arith, ltb-false i j e, ltb-false j i e') in absurd (omega (arith, ap (offset bytes) same))
-
-  offset-same : (i j : ℕ) → offset bytes i ≡ offset bytes j → i ≡ j
-  offset-same i j h = go (ltb i j) refl (ltb j i) refl
-    where
-      go : (t : Bool) → ltb i j ≡ t → (t' : Bool) → ltb j i ≡ t' → i ≡ j
-      go true e t' e' = absurd (omega (arith, offset-lt bytes i j (ltb-true i j e), size-ge (mark bytes i)))
-      go false e true e' = absurd (omega (arith, offset-lt bytes j i (ltb-true j i e'), size-ge (mark bytes j)))
-      go false e false e' = omega (arith, ltb-false i j e, ltb-false j i e')
-
   no-plan-row : planRefusal bytes ≡ 0 → (n : ℕ) → PlanRow bytes n → ⊥
   no-plan-row passed n applies =
       first-none (plan-in-rows bytes) 0 (planRefusal bytes) (plan-first bytes) passed n (omega arith) applies
@@ -129,7 +112,7 @@ module _ (bytes buffer : List ℕ) where
 
     -- accepted
     none-applies : resultSize * unitsBefore bytes records ≤ length buffer → (n at : ℕ) → Ground bytes buffer n at → ⊥
-    unfolding sheetOf markAt markOf pick
+    unfolding sheetOf
     none-applies room n at (of-plan h) = no-plan-row bytes (facts .plan) n h
     none-applies room n at (of-record i inside h) = passed-record i inside n h
     none-applies room n at (of-buffer (row13 h)) =
@@ -139,7 +122,7 @@ module _ (bytes buffer : List ℕ) where
         let same : h .records ≡ records = offset-same bytes (h .records) records (h .filled ∙ sym (facts .end)) in
         let unit = sampleUnitAt bytes (offset bytes (h .i)) in
         let fits = cusum-fits (sheetOf bytes records) records (none-overfull bytes records facts records) (h .i) (omega (arith, h .inside)) unit
-        (entry-unit bytes (h .i) (ap markOf (h .is-unit))) (h .class) (h .a-class) in
+        (entry-unit bytes (h .i) (is-unit-mark bytes (h .i) (h .is-unit))) (h .class) (h .a-class) in
         omega (arith, fits, h .above, ap (λ (k : ℕ). tenthsIn (gradedAt (sheetOf bytes k) (h .i) unit .cusums) (h .class)) same)
 
   -- ---- the answer

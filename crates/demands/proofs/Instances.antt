@@ -2,32 +2,27 @@
 -- are units, of which standing and with which code, that a plan is in force, where two units in a row fail.
 use Prim.Native.Nat.{ℕ, _*_, _<_, _≤_}
 use mathlib.Core.Path.{_≡_, refl, sym, _∙_, ap}
-use mathlib.Core.Bool.{Bool, true, false, false≢true}
+use mathlib.Core.Bool.{Bool, true, false}
 use mathlib.Core.List.{List, [], _∷_}
 use mathlib.Core.Logic.{⊎-elim}
 use native.Mathlib.Omega.{arith}
-use lib.Dec.{leb, ltb, lit<}
-use lib.ListN.{length, drop, List·getD-eq-default}
-use borrow.Author.Tests.{leb-true, leb-false, ltb-true, ltb-false}
-use Rattle.encoding.specs.Bytes.{byte}
-use Rattle.units.specs.Conditions.{any, all}
-use Rattle.units.specs.Words.{upFrom}
-use Rattle.units.proofs.Lists.{all-each, in-none}
+use lib.Dec.{leb, lit<}
+use lib.ListN.{length, drop}
+use borrow.Author.Tests.{leb-true, leb-false}
+use Rattle.units.proofs.Lists.{in-none}
 use Rattle.rules.specs.TwoInARow.{secondInARow}
-use Rattle.rules.specs.Anchor.{classFailsAt, Anchor, restart, failure, Latest}
+use Rattle.rules.specs.Anchor.{classFailsAt, restart, failure, Latest}
 use Rattle.layout.specs.Layout.{offset, mark}
-use Rattle.layout.specs.declared.Mark.{Mark}
-use Rattle.layout.specs.declared.Mark.the-variants.{UnitMark, RedesignationMark, BreakMark, NoMark}
 use Rattle.layout.proofs.Offsets.{size-ge, offset-lt}
 use Rattle.results.specs.Record.{resultSize}
 use Rattle.tally.specs.declared.Answer.{Answer}
-use Rattle.tally.specs.Outcome.{Outcome, outcome, recordsIn}
-use Rattle.tally.specs.Accepted.{AcceptedAs, sheetIn, UnitAt}
+use Rattle.tally.specs.Outcome.{Outcome, outcome}
+use Rattle.tally.specs.Accepted.{AcceptedAs, sheetIn}
 use Rattle.demands.specs.Demand1.{StoppedAt, Listed}
-use Rattle.demands.specs.Demand3.{InCount, NeverWorse}
+use Rattle.demands.specs.Demand3.{NeverWorse}
 use Rattle.computed.specs.WorkedCases.{peachPlan, peachUnits, peach, peachResults}
 use Rattle.computed.specs.FurtherSheets.{breakBetweenFailures, breakBetweenFailuresResults, everyKindOfRecord, everyKindOfRecordResults, oneMinorDefectFewer, oneMinorDefectFewerResults, oneSevereDefectFewer, oneSevereDefectFewerResults, grounds8And9, ground11ByLastRedesignation}
-use Rattle.demands.specs.Instances.{left, peachLeft, everyKindLeft, peachStandings, everyKindStandings, peachPlanned, everyKindPlanned, Each, standingByte, RefusedInstance, AcceptedInstance, GroundInstance, CourseInstance, CodeInstance, LargestInstance, LargestNumber, FewerInstance, FewerTwiceInstance, Instances}
+use Rattle.demands.specs.Instances.{left, peachLeft, everyKindLeft, peachStandings, everyKindStandings, peachPlanned, everyKindPlanned, standingByte, RefusedInstance, AcceptedInstance, GroundInstance, CourseInstance, CodeInstance, LargestInstance, LargestNumber, FewerInstance, FewerTwiceInstance, Instances}
 use Rattle.demands.proofs.Computing.{computing}
 use Rattle.demands.proofs.Listed.{demand1}
 use Rattle.demands.proofs.Grounds.{demand2-grounds}

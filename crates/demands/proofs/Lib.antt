@@ -2,6 +2,7 @@ pub mod Recorded
 pub mod Listed
 pub mod Tells
 pub mod Rows
+pub mod Bytes
 pub mod FirstRow
 pub mod Grounds
 pub mod NeverOverfull

@@ -2,7 +2,7 @@
 -- course that agrees up to a record has the same failures, qualifying units and restarts there, and so agrees behind it.
 use Prim.Native.Nat.{ℕ, zero, suc, _+_, _<_, _≤_}
 use mathlib.Core.Path.{_≡_, refl, sym, _∙_, ap, ap₂, subst, subst⁻¹}
-use mathlib.Core.Bool.{Bool, true, false, true≢false, false≢true}
+use mathlib.Core.Bool.{Bool, true, false, true≢false}
 use mathlib.Core.List.{List}
 use mathlib.Core.Logic.{_⊎_, inl, inr, ⊎-elim}
 use native.Mathlib.Nat.{eq-or-lt-of-le}
@@ -14,7 +14,7 @@ use Rattle.units.specs.Words.{substandard, classes, worse}
 use Rattle.tally.specs.Accepted.{UnitAt}
 use Rattle.demands.specs.Tells.{Tells}
 use Rattle.demands.specs.Grounds.{startIn, toleranceIn, limitIn, IsBreak, IsRedesignation}
-use Rattle.demands.specs.Course.{Course, tenTimes, ClassFails, UnitFails, FailsDesignated, SecondFails, Qualifies, ThreeQualify, ThirdQualifies, KeepsStepThree, Restart, at-break, step-three-begins, step-three-ends, at-redesignation, BestLowerGrade, Rules, SameAt}
+use Rattle.demands.specs.Course.{Course, tenTimes, ClassFails, UnitFails, FailsDesignated, SecondFails, Qualifies, ThirdQualifies, KeepsStepThree, Restart, at-break, step-three-begins, step-three-ends, at-redesignation, BestLowerGrade, Rules, SameBefore, SameAt}
 use Rattle.demands.proofs.Rows.{one-designated}
 
 -- a test settles what it tells
@@ -25,51 +25,44 @@ settled {test} {P} = go test
     go true tells = inl (tells .so refl)
     go false tells = inr (tells .not-so refl)
 
--- before a record
-record Same (bytes : List ℕ) (course other : Course) (i : ℕ) : Type 0 where
-  step : course .inStepThree i ≡ other .inStepThree i
-  grade : course .designated i ≡ other .designated i
-  plan : course .planGrade i ≡ other .planGrade i
-  cusum : course .planGrade i < substandard → (class : ℕ) → class < length classes → course .cusum i class ≡ other .cusum i class
-
-turned : {bytes : List ℕ} {course other : Course} {i : ℕ} → Same bytes course other i → Same bytes other course i
+turned : {course other : Course} {i : ℕ} → SameBefore course other i → SameBefore other course i
 turned same =
     record {
-      step = sym (same .step);
-      grade = sym (same .grade);
-      plan = sym (same .plan);
-      cusum = λ planned class known. sym (same .cusum (omega (arith, same .plan, planned)) class known);
+      step-three = sym (same .step-three);
+      designated = sym (same .designated);
+      plan-grade = sym (same .plan-grade);
+      cusums = λ planned class known. sym (same .cusums (omega (arith, same .plan-grade, planned)) class known);
     }
 
 -- before each record up to this one
-abbrev Upto : List ℕ → Course → Course → ℕ → Type 0
-Upto bytes course other i = (j : ℕ) → j ≤ i → Same bytes course other j × (course .planGrade j ≤ substandard)
+abbrev Upto : Course → Course → ℕ → Type 0
+Upto course other i = (j : ℕ) → j ≤ i → SameBefore course other j × (course .planGrade j ≤ substandard)
 
-upto-turned : {bytes : List ℕ} {course other : Course} {i : ℕ} → Upto bytes course other i → Upto bytes other course i
-upto-turned upto j inside = let (same, bound) = upto j inside in (turned same, omega (arith, same .plan, bound))
+upto-turned : {course other : Course} {i : ℕ} → Upto course other i → Upto other course i
+upto-turned upto j inside = let (same, bound) = upto j inside in (turned same, omega (arith, same .plan-grade, bound))
 
 -- ---- at a record, from one course to the other
 
 module _ (bytes : List ℕ) (course other : Course) (rules : Rules bytes course) (others : Rules bytes other) where
-  module _ (i : ℕ) (same : Same bytes course other i) (bounded : course .planGrade i ≤ substandard) where
+  module _ (i : ℕ) (same : SameBefore course other i) (bounded : course .planGrade i ≤ substandard) where
     tolerance-same : (class : ℕ) → toleranceIn bytes (course .planGrade i) class ≡ toleranceIn bytes (other .planGrade i) class
-    tolerance-same class = ap (λ (grade : ℕ). toleranceIn bytes grade class) (same .plan)
+    tolerance-same class = ap (λ (grade : ℕ). toleranceIn bytes grade class) (same .plan-grade)
 
     limit-same : (class : ℕ) → limitIn bytes (course .planGrade i) class ≡ limitIn bytes (other .planGrade i) class
-    limit-same class = ap (λ (grade : ℕ). limitIn bytes grade class) (same .plan)
+    limit-same class = ap (λ (grade : ℕ). limitIn bytes grade class) (same .plan-grade)
 
     class-to : (class : ℕ) → class < length classes → ClassFails bytes course i class → ClassFails bytes other i class
     class-to class known here =
         record {
-          planned = omega (arith, same .plan, here .planned);
-          above = omega (arith, tolerance-same class, limit-same class, same .cusum (here .planned) class known, here .above);
+          planned = omega (arith, same .plan-grade, here .planned);
+          above = omega (arith, tolerance-same class, limit-same class, same .cusums (here .planned) class known, here .above);
         }
 
     unit-to : UnitFails bytes course i → UnitFails bytes other i
     unit-to here = record { class = here .class; a-class = here .a-class; fails = class-to (here .class) (here .a-class) (here .fails) }
 
     designated-to : FailsDesignated bytes course i → FailsDesignated bytes other i
-    designated-to here = record { unit = here .unit; outside-step-three = sym (same .step) ∙ here .outside-step-three; fails = unit-to (here .fails) }
+    designated-to here = record { unit = here .unit; outside-step-three = sym (same .step-three) ∙ here .outside-step-three; fails = unit-to (here .fails) }
 
     new-same : (class : ℕ) → UnitAt bytes i → class < length classes → course .newCusum i class ≡ other .newCusum i class
     new-same class at known = go (ltb (course .planGrade i) substandard) refl
@@ -82,8 +75,8 @@ module _ (bytes : List ℕ) (course other : Course) (rules : Rules bytes course)
         under planned true e high f =
             let small = ltb-true (course .cusum i class + tenTimes bytes i class) (toleranceIn bytes (course .planGrade i) class) e in
             rules .rule-two i class at known .below planned small
-            ∙ sym (others .rule-two i class at known .below (omega (arith, same .plan, planned))
-            (omega (arith, small, tolerance-same class, same .cusum planned class known)))
+            ∙ sym (others .rule-two i class at known .below (omega (arith, same .plan-grade, planned))
+            (omega (arith, small, tolerance-same class, same .cusums planned class known)))
         under planned false e true f =
             let large = ltb-true (toleranceIn bytes (course .planGrade i) class + limitIn bytes (course .planGrade i) class)
             (course .cusum i class + tenTimes bytes i class) f in
@@ -93,9 +86,9 @@ module _ (bytes : List ℕ) (course other : Course) (rules : Rules bytes course)
             let from = ltb-false (course .cusum i class + tenTimes bytes i class) (toleranceIn bytes (course .planGrade i) class) e in
             let to = ltb-false (toleranceIn bytes (course .planGrade i) class + limitIn bytes (course .planGrade i) class)
             (course .cusum i class + tenTimes bytes i class) f in
-            let old = same .cusum planned class known in
+            let old = same .cusums planned class known in
             let one = rules .rule-two i class at known .between planned from to in
-            let two = others .rule-two i class at known .between (omega (arith, same .plan, planned))
+            let two = others .rule-two i class at known .between (omega (arith, same .plan-grade, planned))
             (omega (arith, from, tolerance-same class, old)) (omega (arith, to, tolerance-same class, limit-same class, old)) in
             omega (arith, one, two, tolerance-same class, old)
 
@@ -103,19 +96,19 @@ module _ (bytes : List ℕ) (course other : Course) (rules : Rules bytes course)
         go true e = under (ltb-true (course .planGrade i) substandard e) _ refl _ refl
         go false e =
             let none : course .planGrade i ≡ substandard = omega (arith, ltb-false (course .planGrade i) substandard e, bounded) in
-            rules .rule-two i class at known .no-plan none ∙ sym (others .rule-two i class at known .no-plan (sym (same .plan) ∙ none))
+            rules .rule-two i class at known .no-plan none ∙ sym (others .rule-two i class at known .no-plan (sym (same .plan-grade) ∙ none))
 
     qualifies-to : Qualifies bytes course i → Qualifies bytes other i
     qualifies-to here =
         record {
           unit = here .unit;
-          in-step-three = sym (same .step) ∙ here .in-step-three;
+          in-step-three = sym (same .step-three) ∙ here .in-step-three;
           zero = λ class known. sym (new-same class (here .unit) known) ∙ here .zero class known;
-          within = λ class known. subst (λ (grade : ℕ). tenTimes bytes i class ≤ toleranceIn bytes grade class) (same .grade) (here .within class known);
+          within = λ class known. subst (λ (grade : ℕ). tenTimes bytes i class ≤ toleranceIn bytes grade class) (same .designated) (here .within class known);
         }
 
     keeps-to : KeepsStepThree bytes course i → KeepsStepThree bytes other i
-    keeps-to (inside, better) = (sym (same .step) ∙ inside, omega (arith, better, same .plan))
+    keeps-to (inside, better) = (sym (same .step-three) ∙ inside, omega (arith, better, same .plan-grade))
 
     best-same : (one two : ℕ) → BestLowerGrade bytes course i one → BestLowerGrade bytes other i two → one ≡ two
     best-same one two best best' = go (ltb one two) refl (ltb two one) refl
@@ -123,13 +116,13 @@ module _ (bytes : List ℕ) (course other : Course) (rules : Rules bytes course)
         go : (less : Bool) → ltb one two ≡ less → (more : Bool) → ltb two one ≡ more → one ≡ two
         go true e more f =
             let less = ltb-true one two e in
-            absurd (best' .none-better one (omega (arith, best .lower, same .plan)) less (best .admits (omega (arith, less, best' .a-grade))))
+            absurd (best' .none-better one (omega (arith, best .lower, same .plan-grade)) less (best .admits (omega (arith, less, best' .a-grade))))
         go false e true f =
             let more = ltb-true two one f in
-            absurd (best .none-better two (omega (arith, best' .lower, same .plan)) more (best' .admits (omega (arith, more, best .a-grade))))
+            absurd (best .none-better two (omega (arith, best' .lower, same .plan-grade)) more (best' .admits (omega (arith, more, best .a-grade))))
         go false e false f = omega (arith, ltb-false one two e, ltb-false two one f)
 
-  second-to : (i : ℕ) → Upto bytes course other i → SecondFails bytes course i → SecondFails bytes other i
+  second-to : (i : ℕ) → Upto course other i → SecondFails bytes course i → SecondFails bytes other i
   second-to i upto here =
       let (before, bound) = upto (here .first) (omega (arith, here .next)) in
       let (now, bound-now) = upto i (omega arith) in
@@ -140,7 +133,7 @@ module _ (bytes : List ℕ) (course other : Course) (rules : Rules bytes course)
         second-fails = designated-to i now bound-now (here .second-fails);
       }
 
-  third-to : (i : ℕ) → Upto bytes course other i → ThirdQualifies bytes course i → ThirdQualifies bytes other i
+  third-to : (i : ℕ) → Upto course other i → ThirdQualifies bytes course i → ThirdQualifies bytes other i
   third-to i upto here =
       let (one, bound-one) = upto (here .first) (omega (arith, here .last)) in
       let (two, bound-two) = upto (suc (here .first)) (omega (arith, here .last)) in
@@ -167,11 +160,11 @@ module _ (bytes : List ℕ) (size : ℕ) (course other : Course) (rules : Rules 
     (keeps-settled : (i : ℕ) → KeepsStepThree bytes course i ⊎ (KeepsStepThree bytes course i → ⊥))
     (restart-settled : (i : ℕ) → i < size → Restart bytes course i ⊎ (Restart bytes course i → ⊥))
     (kind : (i : ℕ) → i < size → UnitAt bytes i ⊎ (IsRedesignation bytes i ⊎ IsBreak bytes i)) where
-  defect-same : (i : ℕ) → Same bytes course other i → UnitAt bytes i → course .defectGrade i ≡ other .defectGrade i
+  defect-same : (i : ℕ) → SameBefore course other i → UnitAt bytes i → course .defectGrade i ≡ other .defectGrade i
   defect-same i same at = go (unit-settled i)
     where
       bound : other .planGrade i ≤ substandard
-      bound = omega (arith, same .plan, bounded i)
+      bound = omega (arith, same .plan-grade, bounded i)
 
       go : UnitFails bytes course i ⊎ (UnitFails bytes course i → ⊥) → course .defectGrade i ≡ other .defectGrade i
       go (inl fails) =
@@ -180,14 +173,14 @@ module _ (bytes : List ℕ) (size : ℕ) (course other : Course) (rules : Rules 
           (others .rule-three i at .fails (unit-to bytes course other rules others i same (bounded i) fails))
       go (inr meets) =
           rules .rule-three i at .meets meets
-          ∙ same .plan
+          ∙ same .plan-grade
           ∙ sym (others .rule-three i at .meets (λ fails. meets (unit-to bytes other course others rules i (turned same) bound fails)))
 
-  module _ (i : ℕ) (inside : i < size) (upto : Upto bytes course other i) where
-    here : Same bytes course other i
+  module _ (i : ℕ) (inside : i < size) (upto : Upto course other i) where
+    here : SameBefore course other i
     here = upto i (omega arith) .0
 
-    back : Upto bytes other course i
+    back : Upto other course i
     back = upto-turned upto
 
     step-next : course .inStepThree (suc i) ≡ other .inStepThree (suc i)
@@ -198,14 +191,14 @@ module _ (bytes : List ℕ) (size : ℕ) (course other : Course) (rules : Rules 
         out e (inl second) = rules .begins i second ∙ sym (others .begins i (second-to bytes course other rules others i upto second))
         out e (inr none) =
             rules .not-begun i e none
-            ∙ sym (others .not-begun i (sym (here .step) ∙ e) (λ second. none (second-to bytes other course others rules i back second)))
+            ∙ sym (others .not-begun i (sym (here .step-three) ∙ e) (λ second. none (second-to bytes other course others rules i back second)))
 
         at-unit : course .inStepThree i ≡ true → UnitAt bytes i → ThirdQualifies bytes course i ⊎ (ThirdQualifies bytes course i → ⊥)
             → course .inStepThree (suc i) ≡ other .inStepThree (suc i)
         at-unit e at (inl third) = rules .ends i third ∙ sym (others .ends i (third-to bytes course other rules others i upto third))
         at-unit e at (inr none) =
             rules .unit-stays i at e none
-            ∙ sym (others .unit-stays i at (sym (here .step) ∙ e) (λ third. none (third-to bytes other course others rules i back third)))
+            ∙ sym (others .unit-stays i at (sym (here .step-three) ∙ e) (λ third. none (third-to bytes other course others rules i back third)))
 
         at-new : course .inStepThree i ≡ true → IsRedesignation bytes i → KeepsStepThree bytes course i ⊎ (KeepsStepThree bytes course i → ⊥)
             → course .inStepThree (suc i) ≡ other .inStepThree (suc i)
@@ -222,7 +215,7 @@ module _ (bytes : List ℕ) (size : ℕ) (course other : Course) (rules : Rules 
         go true e =
             ⊎-elim (λ at. at-unit e at (third-settled i))
             (⊎-elim (λ new. at-new e new (keeps-settled i))
-            (λ is-break. rules .break-stays i is-break e ∙ sym (others .break-stays i is-break (sym (here .step) ∙ e))))
+            (λ is-break. rules .break-stays i is-break e ∙ sym (others .break-stays i is-break (sym (here .step-three) ∙ e))))
             (kind i inside)
 
     grade-next : course .designated (suc i) ≡ other .designated (suc i)
@@ -234,7 +227,7 @@ module _ (bytes : List ℕ) (size : ℕ) (course other : Course) (rules : Rules 
     lower-next (suc k) e second =
         let first-same = upto k (omega (arith, e)) .0 in
         let second-same = upto (suc k) (omega (arith, e)) .0 in
-        let row : Upto bytes course other (suc k) = λ j inside-row. upto j (omega (arith, e, inside-row)) in
+        let row : Upto course other (suc k) = λ j inside-row. upto j (omega (arith, e, inside-row)) in
         let first-is : second .first ≡ k = omega (arith, second .next) in
         rules .lower-plan k second
         ∙ ap₂ worse
@@ -250,7 +243,7 @@ module _ (bytes : List ℕ) (size : ℕ) (course other : Course) (rules : Rules 
         go false e stood f second =
             rules .designated-plan (suc i) e ∙ grade-next ∙ sym (others .designated-plan (suc i) (sym step-next ∙ e))
         go true e true f second =
-            rules .lower-stays i f e ∙ here .plan ∙ sym (others .lower-stays i (sym (here .step) ∙ f) (sym step-next ∙ e))
+            rules .lower-stays i f e ∙ here .plan-grade ∙ sym (others .lower-stays i (sym (here .step-three) ∙ f) (sym step-next ∙ e))
         go true e false f (inl second) = lower-next i refl second
         go true e false f (inr none) = absurd (true≢false (sym e ∙ rules .not-begun i f none))
 
@@ -285,7 +278,7 @@ module _ (bytes : List ℕ) (size : ℕ) (course other : Course) (rules : Rules 
             kept (inl keeps) =
                 let same-plan = rules .lower-stays i (keeps .0) (rules .redesignation-stays i new keeps) in
                 rules .redesignation-goes-on i class new none known
-                ∙ here .cusum (omega (arith, planned, same-plan)) class known
+                ∙ here .cusums (omega (arith, planned, same-plan)) class known
                 ∙ sym (others .redesignation-goes-on i class new (λ restart. none (restart-from restart)) known)
             kept (inr ends) = absurd (none (at-redesignation new ends))
         goes-on none (inr (inr is-break)) = absurd (none (at-break is-break))
@@ -297,41 +290,48 @@ module _ (bytes : List ℕ) (size : ℕ) (course other : Course) (rules : Rules 
             ∙ sym (others .restarts i class (restart-to restart) (omega (arith, planned, plan-next)) known)
         go (inr none) = goes-on none (kind i inside)
 
-    same-next : Same bytes course other (suc i)
-    same-next = record { step = step-next; grade = grade-next; plan = plan-next; cusum = cusum-next }
+    same-next : SameBefore course other (suc i)
+    same-next = record { step-three = step-next; designated = grade-next; plan-grade = plan-next; cusums = cusum-next }
 
   -- ---- the whole sheet
 
-  same-first : Same bytes course other 0
+  same-first : SameBefore course other 0
   same-first =
       let grade = one-designated bytes (rules .designated 0) (others .designated 0) in
       record {
-        step = rules .opening ∙ sym (others .opening);
-        grade = grade;
-        plan = rules .designated-plan 0 (rules .opening) ∙ grade ∙ sym (others .designated-plan 0 (others .opening));
-        cusum = λ planned class known.
+        step-three = rules .opening ∙ sym (others .opening);
+        designated = grade;
+        plan-grade = rules .designated-plan 0 (rules .opening) ∙ grade ∙ sym (others .designated-plan 0 (others .opening));
+        cusums = λ planned class known.
             rules .opening-cusums class known ∙ ap (λ (designated : ℕ). startIn bytes designated class) grade ∙ sym (others .opening-cusums class known);
       }
 
   abbrev Agreed : ℕ → Type 0
-  Agreed j = Same bytes course other j × (course .planGrade j ≤ substandard)
+  Agreed j = SameBefore course other j × (course .planGrade j ≤ substandard)
 
-  all-same : (i : ℕ) → i ≤ size → Upto bytes course other i
+  all-same : (i : ℕ) → i ≤ size → Upto course other i
   all-same zero inside j below = let first : j ≡ 0 = omega arith in subst⁻¹ Agreed first (same-first, bounded 0)
   all-same (suc i) inside j below = go (all-same i (omega arith)) (eq-or-lt-of-le below)
     where
-      go : Upto bytes course other i → (j ≡ suc i) ⊎ (j < suc i) → Agreed j
+      go : Upto course other i → (j ≡ suc i) ⊎ (j < suc i) → Agreed j
       go earlier (inl last) = subst⁻¹ Agreed last (same-next i (omega arith) earlier, bounded (suc i))
       go earlier (inr less) = earlier j (omega arith)
 
-  pub one-course : (i : ℕ) → i < size → UnitAt bytes i → SameAt course other i
-  one-course i inside at =
-      let same = all-same i (omega arith) i (omega arith) .0 in
+  same-before : (i : ℕ) → i ≤ size → SameBefore course other i
+  same-before i inside = all-same i inside i (omega arith) .0
+
+  same-at : (i : ℕ) → UnitAt bytes i → i < size → SameAt course other i
+  same-at i at inside =
+      let same = same-before i (omega arith) in
       record {
-        step-three = same .step;
-        designated = same .grade;
-        plan-grade = same .plan;
-        old-cusums = same .cusum;
+        step-three = same .step-three;
+        designated = same .designated;
+        plan-grade = same .plan-grade;
+        old-cusums = same .cusums;
         new-cusums = λ class known. new-same bytes course other rules others i same (bounded i) class at known;
         defect-grade = defect-same i same at;
       }
+
+  -- before every record and behind the last, and at every unit
+  pub one-course : ((i : ℕ) → i ≤ size → SameBefore course other i) × ((i : ℕ) → UnitAt bytes i → i < size → SameAt course other i)
+  one-course = (same-before, same-at)

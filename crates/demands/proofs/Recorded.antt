@@ -1,7 +1,7 @@
 -- What the result buffer of an accepted sheet records of a unit: code, grades, standing, plan grade and CuSums of the rules; bounds.
 -- From where the result record of the unit stands in the buffer; no CuSum is too large for its two bytes, by number 14.
 use Prim.Native.Nat.{ℕ, _*_, _≤_, _<_}
-use mathlib.Core.Path.{_≡_, refl, sym, _∙_, ap, ap₂}
+use mathlib.Core.Path.{_≡_, _∙_, ap₂}
 use mathlib.Core.List.{List, _++_}
 use native.Mathlib.Omega.{arith}
 use lib.ListN.{length, drop}

@@ -17,7 +17,7 @@ use Rattle.units.specs.Words.{substandard, classes, noNumbers, cellOf, numbersO
 use Rattle.units.specs.Records.{designatedBy}
 use Rattle.units.proofs.Lists.{map-at}
 use Rattle.units.proofs.Classes.{cell-at}
-use Rattle.layout.specs.Layout.{tableOffset, planNumbersSize, tableSize, planSize, kinds, countOffset, planNumbersAt, cells, planOf, sampleUnitAt, markOf, markAt, offset, mark, entryOf, entryAt}
+use Rattle.layout.specs.Layout.{tableOffset, planNumbersSize, tableSize, planSize, kinds, countOffset, planNumbersAt, planOf, sampleUnitAt, markOf, markAt, offset, mark, entryOf, entryAt}
 use Rattle.layout.specs.declared.Mark.{Mark}
 use Rattle.layout.specs.declared.Mark.the-variants.{UnitMark, RedesignationMark, BreakMark, NoMark}
 use Rattle.sheet.specs.Refusals.{noPlanRecord, anyNumbers, tooLarge, startAboveLimit, smaller, smallerInClass, countTooLarge, designatedBefore}
@@ -119,10 +119,35 @@ marked-by two = go (eqb two 0x5355) refl (eqb two 0x5244) refl (eqb two 0x424B) 
     go false eu false er true eb = as-break (eqb-true two 0x424B eb)
     go false eu false er false eb = as-none (eqb-false two 0x5355 eu) (eqb-false two 0x5244 er) (eqb-false two 0x424B eb)
 
+unit-bytes : {two : ℕ} → Marked two UnitMark → two ≡ 0x5355
+unit-bytes (as-unit e) = e
+
+redesignation-bytes : {two : ℕ} → Marked two RedesignationMark → two ≡ 0x5244
+redesignation-bytes (as-redesignation e) = e
+
 module _ (bytes : List ℕ) where
   pub marked : (i : ℕ) → Marked (number bytes (offset bytes i)) (mark bytes i)
   unfolding markAt
   marked i = marked-by (number bytes (offset bytes i))
+
+  -- the mark of a record from its bytes, and back
+  pub is-unit-mark : (i : ℕ) → table.IsUnit bytes i → mark bytes i ≡ UnitMark
+  unfolding markAt markOf pick
+  is-unit-mark i = ap markOf
+
+  pub is-redesignation-mark : (i : ℕ) → table.IsRedesignation bytes i → mark bytes i ≡ RedesignationMark
+  unfolding markAt markOf pick
+  is-redesignation-mark i = ap markOf
+
+  pub is-break-mark : (i : ℕ) → table.IsBreak bytes i → mark bytes i ≡ BreakMark
+  unfolding markAt markOf pick
+  is-break-mark i = ap markOf
+
+  pub unit-mark-is : (i : ℕ) → mark bytes i ≡ UnitMark → table.IsUnit bytes i
+  unit-mark-is i e = unit-bytes (subst (Marked (number bytes (offset bytes i))) e (marked i))
+
+  pub redesignation-mark-is : (i : ℕ) → mark bytes i ≡ RedesignationMark → table.IsRedesignation bytes i
+  redesignation-mark-is i e = redesignation-bytes (subst (Marked (number bytes (offset bytes i))) e (marked i))
 
   -- 8, of the unit at an offset
   pub tells-8 : (at : ℕ) → Tells (countTooLarge (sampleUnitAt bytes at)) ((kind : ℕ) × (kind < kinds) × (2000 < number bytes (at + countOffset kind)))

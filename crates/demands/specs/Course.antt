@@ -37,6 +37,7 @@ classCounts bytes i =
 abbrev pub tenTimes : List ℕ → ℕ → ℕ → ℕ
 tenTimes bytes i class = 10 * getD (classCounts bytes i) class 0
 
+-- the prerequisite grade of the unit that is record i
 abbrev pub prerequisite : List ℕ → ℕ → ℕ
 prerequisite bytes i = byte bytes (offset bytes i + prerequisiteOffset)
 
@@ -113,6 +114,7 @@ module _ (bytes : List ℕ) (course : Course) where
 
   -- a portion is recovered: it is marked recoverable, and its unit is one of the three
   pub record Recovered (i : ℕ) : Type 0 where
+    -- 1: "the portion is separately coded and within reach"
     pub marked : byte bytes (offset bytes i + recoverableOffset) ≡ 1
     pub among-three : AmongThree i
 
@@ -183,6 +185,13 @@ module _ (bytes : List ℕ) (course : Course) where
     pub unit-goes-on : (i class : ℕ) → UnitAt bytes i → (Restart i → ⊥) → class < length classes → course .cusum (suc i) class ≡ course .newCusum i class
     pub redesignation-goes-on : (i class : ℕ) → IsRedesignation bytes i → (Restart i → ⊥) → class < length classes
         → course .cusum (suc i) class ≡ course .cusum i class
+
+-- two courses agree before record i; its CuSums count only under a plan
+pub record SameBefore (course other : Course) (i : ℕ) : Type 0 where
+  pub step-three : course .inStepThree i ≡ other .inStepThree i
+  pub designated : course .designated i ≡ other .designated i
+  pub plan-grade : course .planGrade i ≡ other .planGrade i
+  pub cusums : course .planGrade i < substandard → (class : ℕ) → class < length classes → course .cusum i class ≡ other .cusum i class
 
 -- two courses agree at the unit that is record i; the CuSums before it count only under a plan
 pub record SameAt (course other : Course) (i : ℕ) : Type 0 where

@@ -2,22 +2,24 @@
 -- sheet is refused unless a listed ground applies: `Demand2Grounds` in `Grounds`.)
 use Prim.Native.Nat.{ℕ, suc, _+_, _<_, _≤_}
 use mathlib.Core.Path.{_≡_}
-use mathlib.Core.Bool.{Bool, true, false}
-use mathlib.Core.List.{List}
-use lib.ListN.{length}
+use mathlib.Core.Bool.{true, false}
+use mathlib.Core.List.{List, [], _∷_, _++_}
+use mathlib.Core.Logic.{_↔_}
+use lib.ListN.{length, getD}
 use Rattle.encoding.specs.Bytes.{byte, number}
 use Rattle.units.specs.Words.{substandard, classes, worse}
 use Rattle.rules.specs.Sheet.{inForceAt}
 use Rattle.rules.specs.TwoInARow.{secondInARow}
-use Rattle.rules.specs.Anchor.{classFailsAt, restartAt}
-use Rattle.layout.specs.Layout.{codeOffset, offset, unitsBefore}
+use Rattle.rules.specs.Anchor.{classFailsAt, restartAt, countsFrom}
+use Rattle.layout.specs.Layout.{codeOffset, offset, mark, unitsBefore}
+use Rattle.layout.specs.declared.Mark.the-variants.{RedesignationMark}
 use Rattle.results.specs.Record.{markIn, codeIn, planGradeIn, standingIn}
 use Rattle.tally.specs.declared.Answer.{Answer}
 use Rattle.tally.specs.Outcome.{recordsIn}
 use Rattle.tally.specs.Accepted.{AcceptedAs, sheetIn, UnitAt, recordedCusum, recordedPortionGrade, recordedCodeGrade, numbersInForce}
 use Rattle.demands.specs.Tells.{Tells}
-use Rattle.demands.specs.Grounds.{startIn, toleranceIn, limitIn}
-use Rattle.demands.specs.Course.{Course, prerequisite, ClassFails, UnitFails, SecondFails, Recovered, Restart, Rules, SameAt}
+use Rattle.demands.specs.Grounds.{startIn, toleranceIn, limitIn, IsUnit, IsRedesignation}
+use Rattle.demands.specs.Course.{Course, classCounts, prerequisite, ClassFails, UnitFails, SecondFails, Recovered, Restart, Rules, SameBefore, SameAt}
 
 -- ---- what is recorded of a unit
 
@@ -70,10 +72,18 @@ pub record WorstOfCode (bytes results : List ℕ) (i : ℕ) : Type 0 where
 
 -- ---- the demand
 
+-- words for records that the demands take from the definitions mean what the bytes say: a record of the sheet is one that begins before
+-- the sheet's end, and a unit and a redesignation are told by their marks
+pub record SameRecords (bytes : List ℕ) : Type 0 where
+  pub inside : (i : ℕ) → (i < recordsIn bytes) ↔ (offset bytes i < length bytes)
+  pub unit : (i : ℕ) → UnitAt bytes i ↔ ((offset bytes i < length bytes) × IsUnit bytes i)
+  pub redesignation : (i : ℕ) → (mark bytes i ≡ RedesignationMark) ↔ IsRedesignation bytes i
+
 -- words that demand 3 takes from the definitions mean what the course says: a class fails, the second of two failures, a restart, the
--- grade of the plan in force, its S, T and L
+-- grade of the plan in force, its S, T and L; and what the bytes say: the counts of a class from a record on
 pub record SameWords (bytes : List ℕ) (course : Course) : Type 0 where
   pub class-fails : (i class : ℕ) → UnitAt bytes i → class < length classes → Tells (classFailsAt (sheetIn bytes) class i) (ClassFails bytes course i class)
+  pub only-units-fail : (i class : ℕ) → (UnitAt bytes i → ⊥) → classFailsAt (sheetIn bytes) class i ≡ false
   pub second-fails : (i : ℕ) → Tells (secondInARow (sheetIn bytes) i) (SecondFails bytes course i)
   pub restart : (i : ℕ) → i < recordsIn bytes → Tells (restartAt (sheetIn bytes) i) (Restart bytes course i)
   pub plan-grade : (i : ℕ) → inForceAt (sheetIn bytes) i ≡ course .planGrade i
@@ -81,15 +91,24 @@ pub record SameWords (bytes : List ℕ) (course : Course) : Type 0 where
       let numbers = numbersInForce bytes i class in
       let grade = course .planGrade i in
       (numbers .start ≡ startIn bytes grade class) × (numbers .tolerance ≡ toleranceIn bytes grade class) × (numbers .limit ≡ limitIn bytes grade class)
+  -- the counts from a record on: of a unit its count in the class, of any other record none, and so on record by record
+  pub counts-of-unit : (i class : ℕ) → UnitAt bytes i → countsFrom (sheetIn bytes) class i 1 ≡ getD (classCounts bytes i) class 0 ∷ []
+  pub counts-of-other : (i class : ℕ) → (UnitAt bytes i → ⊥) → countsFrom (sheetIn bytes) class i 1 ≡ []
+  pub counts-of-none : (class from : ℕ) → countsFrom (sheetIn bytes) class from 0 ≡ []
+  pub counts-go-on : (class from records : ℕ) →
+      let counts = countsFrom (sheetIn bytes) class in
+      counts from (suc records) ≡ counts from records ++ counts (from + records) 1
 
 -- of an accepted sheet and the result buffer as it is left: its course follows the rules, every other that does agrees with it at every
--- unit, and it is what is recorded
+-- unit, and before every record and behind the last, and it is what is recorded
 pub record GradedByRules (bytes results : List ℕ) : Type 0 where
   pub course : Course
   pub rules : Rules bytes course
   pub only-course : (other : Course) → Rules bytes other → (i : ℕ) → UnitAt bytes i → SameAt course other i
+  pub only-course-before : (other : Course) → Rules bytes other → (i : ℕ) → i ≤ recordsIn bytes → SameBefore course other i
   pub recorded : (i : ℕ) → UnitAt bytes i → UnitRecorded bytes results course i
   pub code-grades : (i : ℕ) → UnitAt bytes i → WorstOfCode bytes results i
+  pub same-records : SameRecords bytes
   pub same-words : SameWords bytes course
 
 -- for every accepted sheet

@@ -61,7 +61,8 @@ pub record Alike (bytes bytes' : List ℕ) : Type 0 where
   pub same-length : length bytes ≡ length bytes'
   pub same-bytes : (at : ℕ) → (InCount bytes at → ⊥) → byte bytes at ≡ byte bytes' at
 
--- two accepted sheets alike except that no count in the first exceeds its fellow in the second, without redesignation
+-- two accepted sheets alike except that no count in the first exceeds its fellow in the second, without redesignation; fellows stand at
+-- the same place in both
 pub record FewerDefects (bytes bytes' buffer buffer' : List ℕ) (answer answer' : Answer) (results results' : List ℕ) : Type 0 where
   pub first : AcceptedAs bytes buffer answer results
   pub second : AcceptedAs bytes' buffer' answer' results'
@@ -75,7 +76,7 @@ pub record NoHigherAt (bytes bytes' results results' : List ℕ) (i : ℕ) : Typ
   pub cusums : (class : ℕ) → class < length classes → recordedCusum bytes results i class ≤ recordedCusum bytes' results' i class
   pub failures : (class : ℕ) → class < length classes → classFailsAt (sheetIn bytes) class i ≡ true → classFailsAt (sheetIn bytes') class i ≡ true
 
--- no portion or code of the first grades lower than its fellow
+-- no portion or code of the first grades lower than its fellow; lower means a larger grade code
 pub record NoLowerAt (bytes bytes' results results' : List ℕ) (i : ℕ) : Type 0 where
   pub portions : recordedPortionGrade bytes results i ≤ recordedPortionGrade bytes' results' i
   pub codes : recordedCodeGrade bytes results i ≤ recordedCodeGrade bytes' results' i

@@ -2,10 +2,11 @@
 -- for every input: of `tally::grade`, and of `hatmuyon_grade`, through which C and Rust call it, that the answer and the whole result buffer
 -- are the `outcome` of the sheet and the buffer; of `lines::print_into` that the text is that of `printing`, with `printed` of the input in
 -- front. Demands 1 to 3, P9 and P10, the further sheets and the instances speak of `outcome`; the lines of P10 and the printed text of
--- `printed`; P1 to P8 of the rules alone.
+-- `printed`; the layout of the bytes alone, and P1 to P8 of the rules alone.
 use Rattle.tally.proofs.grade.Statement as grade
 use Rattle.hatmuyon.proofs.hatmuyon_grade.Statement as hatmuyon_grade
 use Rattle.lines.proofs.print_into.Statement as print_into
+use Rattle.demands.specs.Bytes.{PaperLayout}
 use Rattle.demands.specs.Demand1.{Demand1}
 use Rattle.demands.specs.Grounds.{Demand2Grounds, NeverOverfull}
 use Rattle.demands.specs.Demand2.{Demand2Records}
@@ -20,11 +21,13 @@ pub record Demands : Type 2 where
   pub promise-of-grade : {M : Type 1} → grade.statement M
   pub promise-of-hatmuyon-grade : {M : Type 1} → hatmuyon_grade.statement M
   pub promise-of-print-into : {M : Type 1} → print_into.statement M
+  -- sizes, offsets and fields, as all the others name them, in the paper's numbers
+  pub paper-layout : PaperLayout
   -- any bytes at all are accepted, or refused by a listed number with the place; what happens to the result buffer
   pub demand1 : Demand1
   -- nothing is refused without a listed ground, and the first that applies is returned
   pub demand2-grounds : Demand2Grounds
-  -- and 14 is never among them
+  -- number 14 never applies
   pub never-overfull : NeverOverfull
   -- an accepted sheet gets exactly the CuSums, grades and recoveries of the rules
   pub demand2-records : Demand2Records

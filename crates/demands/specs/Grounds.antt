@@ -1,6 +1,7 @@
 -- Demand 2, the grounds: "no sheet is refused unless a listed ground applies". The table of paper 01, "Where a sheet is turned away",
--- said a second time: each row by what stands in the bytes, and the first row met by its place. Nothing here computes a refusal, and
--- nothing is taken from the definitions that the code meets but the layout of the bytes and, for number 14, the rules of grading.
+-- said a second time: each row by what stands in the bytes, and the first row met by its place. Nothing here computes a refusal. The rows
+-- take from the definitions that the code meets how many grades and classes a plan has, sizes and offsets, all of which `Bytes` gives in the
+-- paper's numbers, and for number 14 the rules of grading; the answer and the `outcome` are what the promise of `grade` speaks of.
 use Prim.Native.Nat.{ℕ, suc, _+_, _*_, _≤_, _<_}
 use mathlib.Core.Path.{_≡_}
 use mathlib.Core.Bool.{cond}
@@ -19,16 +20,19 @@ use Rattle.tally.specs.Outcome.{Outcome, outcome}
 
 -- ---- the plan
 
--- S, T and L of a class in the plan of a grade, as they stand in the bytes
+-- where S, T and L of a class in the plan of a grade stand
 abbrev pub numbersOffset : ℕ → ℕ → ℕ
 numbersOffset grade class = tableOffset + planNumbersSize * (length classes * grade + class)
 
+-- S of a class in the plan of a grade, as it stands in the bytes
 abbrev pub startIn : List ℕ → ℕ → ℕ → ℕ
 startIn bytes grade class = number bytes (numbersOffset grade class)
 
+-- T, behind it
 abbrev pub toleranceIn : List ℕ → ℕ → ℕ → ℕ
 toleranceIn bytes grade class = number bytes (numbersOffset grade class + toleranceOffset)
 
+-- L, behind that
 abbrev pub limitIn : List ℕ → ℕ → ℕ → ℕ
 limitIn bytes grade class = number bytes (numbersOffset grade class + limitOffset)
 
@@ -72,12 +76,15 @@ pub record SmallerLower (bytes : List ℕ) : Type 0 where
 
 -- ---- record i, at `offset bytes i`
 
+-- a sample unit, 53 55
 abbrev pub IsUnit : List ℕ → ℕ → Type 0
 IsUnit bytes i = number bytes (offset bytes i) ≡ 0x5355
 
+-- a redesignation, 52 44
 abbrev pub IsRedesignation : List ℕ → ℕ → Type 0
 IsRedesignation bytes i = number bytes (offset bytes i) ≡ 0x5244
 
+-- a break in production, 42 4B
 abbrev pub IsBreak : List ℕ → ℕ → Type 0
 IsBreak bytes i = number bytes (offset bytes i) ≡ 0x424B
 
@@ -226,6 +233,9 @@ Demand2Grounds =
     (bytes buffer : List ℕ) (answer : Answer) (results : List ℕ)
     → _≡_ {A = Outcome} (record { answer = answer; buffer = results }) (outcome bytes buffer) → RefusedByGround bytes buffer answer
 
--- row 14 is never met: no CuSum is above its L, and no L of a plan that is not refused above 9,999
-abbrev pub NeverOverfull : Type 0
-NeverOverfull = (bytes buffer : List ℕ) → outcome bytes buffer .answer .number ≡ 14 → ⊥
+-- number 14 never applies: no CuSum is above its L, and no L of a plan that is not refused above 9,999
+pub record NeverOverfull : Type 0 where
+  -- the row is never met where none from 1 to 13 is
+  pub never-met : (bytes buffer : List ℕ) → ((number at : ℕ) → number ≤ 13 → Ground bytes buffer number at → ⊥) → CusumAbove bytes → ⊥
+  -- and the number is never answered
+  pub never-answered : (bytes buffer : List ℕ) → outcome bytes buffer .answer .number ≡ 14 → ⊥

@@ -7,9 +7,9 @@ use mathlib.Core.Bool.{Bool, true, false}
 use mathlib.Core.List.{List}
 use native.Mathlib.Nat.{eq-or-lt-of-le, le-of-suc-le-suc}
 use native.Mathlib.Omega.{arith}
-use lib.Dec.{leb, lit<}
+use lib.Dec.{ltb, leb, lit<}
 use lib.ListN.{length, List·getD-eq-default}
-use borrow.Author.Tests.{leb-true, leb-false, ne-eqb}
+use borrow.Author.Tests.{ltb-true, ltb-false, leb-true, leb-false, ne-eqb}
 use Rattle.encoding.specs.Bytes.{byte, number}
 use Rattle.units.specs.Conditions.{pick}
 use Rattle.units.specs.declared.Entry.the-variants.{Break}
@@ -34,6 +34,24 @@ offset-lt bytes i (suc j) h = go (eq-or-lt-of-le (le-of-suc-le-suc h)) (offset-l
         → offset bytes i + sizeOf (mark bytes i) ≤ offset bytes j + sizeOf (mark bytes j)
     go (inl same) earlier = rw same (omega arith)
     go (inr less) earlier = omega (arith, earlier less)
+
+-- a record at a smaller offset is an earlier one, and one at the same offset the same
+pub offset-order : (bytes : List ℕ) (i j : ℕ) → offset bytes i < offset bytes j → i < j
+offset-order bytes i j h = go (ltb i j) refl (ltb j i) refl
+  where
+    go : (t : Bool) → ltb i j ≡ t → (t' : Bool) → ltb j i ≡ t' → i < j
+    go true e t' e' = ltb-true i j e
+    go false e true e' = absurd (omega (arith, offset-lt bytes j i (ltb-true j i e')))
+    go false e false e' =
+        let same : i ≡ j = omega (arith, ltb-false i j e, ltb-false j i e') in absurd (omega (arith, ap (offset bytes) same))
+
+pub offset-same : (bytes : List ℕ) (i j : ℕ) → offset bytes i ≡ offset bytes j → i ≡ j
+offset-same bytes i j h = go (ltb i j) refl (ltb j i) refl
+  where
+    go : (t : Bool) → ltb i j ≡ t → (t' : Bool) → ltb j i ≡ t' → i ≡ j
+    go true e t' e' = absurd (omega (arith, offset-lt bytes i j (ltb-true i j e), size-ge (mark bytes i)))
+    go false e true e' = absurd (omega (arith, offset-lt bytes j i (ltb-true j i e'), size-ge (mark bytes j)))
+    go false e false e' = omega (arith, ltb-false i j e, ltb-false j i e')
 
 pub offset-ge : (bytes : List ℕ) (i : ℕ) → planSize + markSize * i ≤ offset bytes i
 unfolding offset

@@ -1,9 +1,8 @@
 -- The sample units among the records: what a record is by its mark, and how many units stand before it, the same by marks and by
 -- records. By cases on the mark, and by induction on the number of the record.
-use Prim.Native.Nat.{ℕ, zero, suc, _+_, _≤_, _<_}
+use Prim.Native.Nat.{ℕ, zero, suc, _+_, _≤_}
 use mathlib.Core.Path.{_≡_, refl, sym, _∙_, ap, ap₂}
 use mathlib.Core.Logic.{_⊎_, inl, inr, ⊎-elim}
-use mathlib.Core.Bool.{Bool, true, false}
 use mathlib.Core.List.{List}
 use native.Mathlib.Omega.{arith}
 use Rattle.encoding.specs.Bytes.{byte}
@@ -72,13 +71,22 @@ module _ (bytes : List ℕ) (i : ℕ) where
   unfolding entryAt
   redesignation-mark new e = redesignation-by bytes (offset bytes i) (mark bytes i) new e
 
+  -- the next record by the mark of this one: its offset, and the units before it
+  pub offset-behind : (m : Mark) → mark bytes i ≡ m → offset bytes (suc i) ≡ offset bytes i + sizeOf m
+  unfolding offset
+  offset-behind m is-marked = ap (λ (m : Mark). offset bytes i + sizeOf m) is-marked
+
+  pub units-behind : (m : Mark) → mark bytes i ≡ m → unitsBefore bytes (suc i) ≡ unitsBefore bytes i + unitsIn m
+  unfolding unitsBefore
+  units-behind m is-marked = ap (λ (m : Mark). unitsBefore bytes i + unitsIn m) is-marked
+
   pub next-offset : mark bytes i ≡ UnitMark → offset bytes (suc i) ≡ offset bytes i + unitSize
-  unfolding offset sizeOf
-  next-offset is-unit = ap (λ (m : Mark). offset bytes i + sizeOf m) is-unit
+  unfolding sizeOf
+  next-offset = offset-behind UnitMark
 
   pub next-units : mark bytes i ≡ UnitMark → unitsBefore bytes (suc i) ≡ unitsBefore bytes i + 1
-  unfolding unitsBefore unitsIn
-  next-units is-unit = ap (λ (m : Mark). unitsBefore bytes i + unitsIn m) is-unit
+  unfolding unitsIn
+  next-units = units-behind UnitMark
 
   pub same-units : unitsOf (entryAt bytes i) ≡ 0 → unitsBefore bytes (suc i) ≡ unitsBefore bytes i
   unfolding unitsBefore

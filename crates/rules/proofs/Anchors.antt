@@ -2,7 +2,7 @@
 -- By induction on the records since the anchor, and, to find one, on all records: that of the record before stays, unless this one fails
 -- or a restart lies between.
 use Prim.Native.Nat.{ℕ, zero, suc, _+_, _≤_, _<_}
-use mathlib.Core.Path.{_≡_, refl, _∙_, ap, subst, subst⁻¹}
+use mathlib.Core.Path.{_≡_, refl, sym, _∙_, ap, subst, subst⁻¹}
 use mathlib.Core.Logic.{_⊎_, inl, inr}
 use mathlib.Core.Bool.{Bool, true, false}
 use mathlib.Core.List.{[], _++_}
@@ -20,6 +20,15 @@ use Rattle.rules.specs.Anchor.{anchorValue, countAt, restartAt, classFai
 use Rattle.rules.proofs.LargestForm.{Trail, fromStart, failedHere, trailWith, trailBefore, trailAt, largest-form}
 
 module _ (sheet : Sheet) (class : ℕ) where
+  -- the counts of one record, and how they go on, record by record
+  pub counts-of-one : (i : ℕ) → countsFrom sheet class i 1 ≡ countAt class (sheet .entry i)
+  unfolding countsFrom
+  counts-of-one i = ap (λ (j : ℕ). countAt class (sheet .entry j)) (add-zero i)
+
+  pub counts-go-on : (from n : ℕ) → countsFrom sheet class from (suc n) ≡ countsFrom sheet class from n ++ countsFrom sheet class (from + n) 1
+  unfolding countsFrom
+  counts-go-on from n = ap (λ (j : ℕ). countsFrom sheet class from n ++ countAt class (sheet .entry j)) (sym (add-zero (from + n)))
+
   -- one record more on a trail: its count, if it is a unit
   abbrev extended : Trail → ℕ → Trail
   extended trail i = record { failed = trail .failed; counts = trail .counts ++ countAt class (sheet .entry i) }

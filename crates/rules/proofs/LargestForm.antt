@@ -1,7 +1,7 @@
 -- Demand 3's first half over records: the CuSum of a class at a unit is the 'largest of' form from where its trail begins.
 -- The trail keeps the anchor's kind and the counts since it; by induction on the records, the CuSum is reached from it by steps that meet.
 use Prim.Native.Nat.{ℕ, zero, suc, _<_}
-use mathlib.Core.Path.{_≡_, refl, sym, _∙_, ap, subst, subst⁻¹}
+use mathlib.Core.Path.{_≡_, refl, sym, _∙_, ap, subst⁻¹}
 use mathlib.Core.Bool.{Bool, true, false, cond}
 use mathlib.Core.List.{List, [], _∷_, _++_, append-nil}
 use lib.ListN.{length}

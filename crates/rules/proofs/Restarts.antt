@@ -13,7 +13,7 @@ use Rattle.units.specs.declared.SampleUnit.{SampleUnit}
 use Rattle.units.specs.declared.Entry.{Entry}
 use Rattle.units.specs.declared.Entry.the-variants.{UnitRecord, Redesignation, Break}
 use Rattle.units.proofs.Tests.{or-first, or-second}
-use Rattle.rules.specs.StepThree.{inStepThree, inForceIn, inForce, endsStepThree, twoInARow, withoutRun, keepsStepThree, restarted, graded, qualifiesIn, afterUnit, afterRedesignation, afterBreak, next, recordEndsStepThree}
+use Rattle.rules.specs.StepThree.{inStepThree, inForceIn, inForce, endsStepThree, withoutRun, keepsStepThree, restarted, graded, qualifiesIn, afterUnit, afterBreak, next, recordEndsStepThree}
 use Rattle.rules.specs.Sheet.{Sheet, before, inForceAt, gradedAt, stepThreeEndsAt}
 use Rattle.rules.specs.TwoInARow.{secondInARow}
 use Rattle.rules.specs.ThreeInARow.{thirdInARow}
@@ -21,7 +21,7 @@ use Rattle.rules.specs.Anchor.{restartBy, restartAt}
 use Rattle.rules.specs.declared.Phase.{Phase}
 use Rattle.rules.specs.declared.Phase.the-variants.{Designated, StepThree}
 use Rattle.rules.specs.declared.State.{State}
-use Rattle.rules.proofs.Steps.{unit-ends, unit-falls, unit-passes, redesignation-keeps, redesignation-restarts, without-run-in-force, with-unit-in-force}
+use Rattle.rules.proofs.Steps.{unit-ends, unit-falls, unit-passes, redesignation-keeps, redesignation-restarts, with-unit-in-force}
 use Rattle.rules.proofs.TwoFailures.{second-is}
 use Rattle.rules.proofs.ThreeQualify.{ends-at-third}
 

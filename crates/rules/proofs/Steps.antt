@@ -1,7 +1,7 @@
 -- What a unit, a redesignation or a break makes of a state, case by case of the definitions: each case by its tests.
 use Prim.Native.Nat.{ℕ}
-use mathlib.Core.Path.{_≡_, refl, subst⁻¹}
-use mathlib.Core.Bool.{Bool, true, false, _&&_}
+use mathlib.Core.Path.{_≡_, refl, sym, _∙_, ap, subst⁻¹}
+use mathlib.Core.Bool.{Bool, true, false, _&&_, false≢true}
 use mathlib.Core.List.{List}
 use Rattle.cusum.specs.declared.Cusum.{Cusum}
 use Rattle.units.specs.Conditions.{pick}
@@ -57,6 +57,21 @@ module _ (table : Table) (state : State) (grading : Grading) (qualifies : Bool) 
       go true e t two = subst⁻¹ P (unit-ends e) (ends e)
       go false e true two = subst⁻¹ P (unit-falls e two) (falls e two)
       go false e false two = subst⁻¹ P (unit-passes e two) (passes e two)
+
+two-needs-failure : (previous : Previous) → twoInARow previous false ≡ false
+unfolding twoInARow
+two-needs-failure NoFailure = refl
+two-needs-failure (Failure grade) = refl
+
+-- one that meets the designated plan leaves it in force
+pub stays-designated : (table : Table) (state : State) (grading : Grading) (qualifies : Bool) → state .phase ≡ Designated → grading .fails ≡ false
+    → afterUnit table state grading qualifies .phase ≡ Designated
+unfolding restarted withUnit
+stays-designated table state grading qualifies outside meets =
+    unit-by table state grading qualifies (λ (behind : State). behind .phase ≡ Designated)
+    (λ ends. refl)
+    (λ ends two. absurd (false≢true (sym (two-needs-failure (state .previous)) ∙ ap (twoInARow (state .previous)) (sym meets) ∙ two)))
+    (λ ends one. ap (λ (phase : Phase). withUnit phase qualifies) outside)
 
 -- ---- a redesignation
 

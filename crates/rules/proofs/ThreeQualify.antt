@@ -1,10 +1,9 @@
 -- Step 3 ends at a record exactly if that is the third of three units in a row that qualify, told by their places.
 -- One way by the finished run; the other by the run, which each qualifying unit that does not end step 3 makes one longer.
-use Prim.Native.Nat.{ℕ, zero, suc, _+_, _≤_}
+use Prim.Native.Nat.{ℕ, zero, suc, _≤_}
 use mathlib.Core.Path.{_≡_, refl, sym, _∙_, ap, subst⁻¹}
 use mathlib.Core.Bool.{Bool, true, false, _&&_, true≢false, false≢true}
 use native.Mathlib.Omega.{arith}
-use lib.Dec.{leb}
 use borrow.Author.Tests.{le-leb}
 use Rattle.units.specs.Words.{Table}
 use Rattle.units.specs.declared.SampleUnit.{SampleUnit}
@@ -20,7 +19,7 @@ use Rattle.rules.specs.declared.Phase.the-variants.{Designated, StepThre
 use Rattle.rules.specs.declared.State.{State}
 use Rattle.rules.proofs.Steps.{unit-by}
 use Rattle.rules.proofs.TwoFailures.{second-is, outside-if-fails}
-use Rattle.rules.proofs.FinishedRun.{Qualifying, FinishedRun, finished-run}
+use Rattle.rules.proofs.FinishedRun.{Qualifying, finished-run}
 
 -- ---- what a qualifying unit does to the run
 

@@ -1,7 +1,7 @@
 -- Step 3 begins behind a unit exactly if it is the second of two in a row that fail the designated plan, told by their places; the
 -- lower grade is then the worse of their defect grades. The state remembers the record just before: a failure outside step 3, none in it.
 use Prim.Native.Nat.{ℕ, zero, suc}
-use mathlib.Core.Path.{_≡_, refl, sym, _∙_, ap, subst, subst⁻¹}
+use mathlib.Core.Path.{_≡_, refl, sym, _∙_, ap}
 use mathlib.Core.Bool.{Bool, true, false, not, _&&_, false≢true, true≢false}
 use mathlib.Core.List.{List}
 use Rattle.cusum.specs.declared.Cusum.{Cusum}
@@ -9,11 +9,10 @@ use Rattle.units.proofs.Tests.{and-both, and-false}
 use Rattle.units.specs.Words.{worse, Table, countsOf}
 use Rattle.units.specs.Unit.{unitFails}
 use Rattle.units.specs.declared.SampleUnit.{SampleUnit}
-use Rattle.units.specs.declared.Grading.{Grading}
 use Rattle.units.specs.declared.Entry.{Entry}
 use Rattle.units.specs.declared.Entry.the-variants.{UnitRecord, Redesignation, Break}
 use Rattle.rules.specs.StepThree.{inStepThree, inForceIn, twoInARow, worseOfTwo, failureAfter, endsStepThree, withUnit, withoutRun, keepsStepThree, restarted, graded, qualifiesIn, afterUnit, afterRedesignation, afterBreak, next}
-use Rattle.rules.specs.Sheet.{Sheet, before, designatedAt, gradedAt}
+use Rattle.rules.specs.Sheet.{Sheet, before, gradedAt}
 use Rattle.rules.specs.TwoInARow.{failsDesignated, unitFailsAt, unitFailsBefore, secondInARow}
 use Rattle.rules.specs.declared.Previous.{Previous}
 use Rattle.rules.specs.declared.Previous.the-variants.{NoFailure, Failure}

@@ -13,7 +13,8 @@ use units::worse_of;
 // The standing of a recovered portion.
 pub const RECOVERED: u8 = 3;
 
-// Whether the unit just before failed the designated plan, with its defect grade; a break, a redesignation and a restart forget it.
+// Whether the unit just before failed the designated plan, with its defect grade; a unit that meets, a break, a redesignation and a
+// restart forget it.
 pub enum Previous {
     NoFailure,
     Failure(u8),

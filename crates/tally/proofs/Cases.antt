@@ -10,7 +10,7 @@ use borrow.Author.Tests.{lt-ltb, le-ltb}
 use Rattle.encoding.specs.Bytes.{byte}
 use Rattle.units.specs.Conditions.{pick}
 use Rattle.units.specs.Words.{Table, tableOf}
-use Rattle.units.specs.Records.{unitsAmong, worstBefore}
+use Rattle.units.specs.Records.{unitsAmong}
 use Rattle.units.specs.declared.SampleUnit.{SampleUnit}
 use Rattle.units.specs.declared.Entry.the-variants.{UnitRecord}
 use Rattle.rules.specs.Sheet.{Sheet, portionGrade, codeGrade}

@@ -1,7 +1,7 @@
 -- What the records of an accepted sheet hold: new grades that have a plan, prerequisite grades, codes of two bytes, and that the
 -- designated grade is the one that the refusals go by, so that it has a plan. From the check's ranges, and by induction on the records.
 use Prim.Native.Nat.{ℕ, zero, suc, _+_, _≤_, _<_}
-use mathlib.Core.Path.{_≡_, refl, sym, _∙_, ap, subst}
+use mathlib.Core.Path.{_≡_, refl, sym, _∙_, ap}
 use mathlib.Core.Bool.{true}
 use mathlib.Core.List.{List}
 use native.Mathlib.Omega.{arith}
@@ -16,7 +16,7 @@ use Rattle.rules.specs.StepThree.{restarted}
 use Rattle.rules.specs.Sheet.{before, designatedAt, portionGrade}
 use Rattle.rules.proofs.Steps.{designated-after}
 use Rattle.rules.proofs.Grades.{NewGrade, designated-at-most, portion-at-most}
-use Rattle.layout.specs.Layout.{codeOffset, planOf, sampleUnitAt, offset, entryAt}
+use Rattle.layout.specs.Layout.{codeOffset, sampleUnitAt, offset, entryAt}
 use Rattle.layout.proofs.Units.{entry-unit, unit-mark}
 use Rattle.sheet.specs.Refusals.{designatedBefore}
 use Rattle.sheet.proofs.Accepted.{Facts}

@@ -4,7 +4,6 @@ use mathlib.Core.Path.{_≡_}
 use mathlib.Core.Bool.{true}
 use mathlib.Core.List.{List}
 use Rattle.cusum.specs.declared.Cusum.{Cusum}
-use Rattle.units.specs.declared.SteppedClasses.{SteppedClasses}
 use Rattle.units.specs.Conditions.{any}
 use Rattle.units.specs.Words.{hasPlan, Table, rowOf}
 use Rattle.units.specs.Unit.{classFails, classCusum, newCusums, unitFails, steppedIn}

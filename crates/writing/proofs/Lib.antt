@@ -1,4 +1,5 @@
 pub mod Recovering
 pub mod Writing
 pub mod Passing
+pub mod Meeting
 pub mod Computing

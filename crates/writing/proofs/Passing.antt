@@ -1,33 +1,33 @@
 -- The writing goes past a record: what the record reads as, the place and the state behind it, and that a record which is no unit
 -- writes nothing. A record has the size of the mark that it reads as; where there is none, that of a break.
 use Prim.Native.Nat.{ℕ, suc, _+_, _*_, _≤_, _<_}
-use mathlib.Core.Path.{_≡_, refl, sym, _∙_, ap, ap₂, subst⁻¹}
-use mathlib.Core.Bool.{Bool, true, false}
+use mathlib.Core.Path.{_≡_, refl, sym, _∙_, ap, ap₂, subst, subst⁻¹}
+use mathlib.Core.Bool.{false}
 use mathlib.Core.List.{List, _++_}
 use native.Mathlib.Numerals.{add-one}
 use native.Mathlib.Omega.{arith}
 use lib.ListN.{length, drop}
-use Rattle.units.specs.Words.{hasPlan, Table, tableOf}
+use Rattle.units.specs.Words.{Table, tableOf}
 use Rattle.units.specs.Records.{unitsOf, unitsAmong}
 use Rattle.units.specs.declared.SampleUnit.{SampleUnit}
 use Rattle.units.specs.declared.Entry.{Entry}
 use Rattle.units.specs.declared.Entry.the-variants.{UnitRecord, Redesignation, Break}
 use Rattle.rules.specs.StepThree.{opening, next, recordEndsStepThree}
-use Rattle.rules.specs.Sheet.{Sheet, before, designatedAt, stepThreeEndsAt}
+use Rattle.rules.specs.Sheet.{Sheet, before, stepThreeEndsAt}
 use Rattle.rules.specs.declared.State.{State}
 use Rattle.layout.specs.Layout.{planOf, markSize, markAt, sizeOf, entryOf, offset, entryAt, unitsIn, unitsBefore}
 use Rattle.layout.specs.Walk.{firstPlace, placeAt, placeAfter, Walk, largestOffset, RoomPast}
 use Rattle.layout.specs.declared.Mark.{Mark}
 use Rattle.layout.specs.declared.Mark.the-variants.{UnitMark, RedesignationMark, BreakMark, NoMark}
 use Rattle.layout.specs.declared.Place.{Place}
-use Rattle.layout.proofs.Walk.{mark-here, whole-here, entry-is, next-place, walk-on, room-past}
+use Rattle.layout.proofs.Walk.{mark-here, whole-here, entry-is, next-place, room-past}
 use Rattle.layout.proofs.Units.{units-among, units-mono}
 use Rattle.results.specs.Record.{resultSize}
 use Rattle.results.specs.Written.{written}
 use Rattle.codes.specs.Codes.{ungraded}
 use Rattle.writing.specs.declared.Position.{Position}
 use Rattle.writing.specs.Sheet.{sheetOf, resultOf}
-use Rattle.writing.specs.Writing.{writtenAt, writtenSoFar, Stands, UnitHere, RecordHere, positionAt, OneMore}
+use Rattle.writing.specs.Writing.{writtenAt, writtenSoFar, Stands, UnitHere, RecordHere, positionAt, OneMore, Underway, Further}
 use Rattle.writing.specs.Writable.{Writable}
 use Rattle.writing.proofs.Recovering.{none-written, all-recovered}
 
@@ -127,75 +127,118 @@ module _ {bytes : List ℕ} {n : ℕ} {table : Table} {place : Place} {state : S
       → (results : List ℕ) → OneMore (sheetOf bytes n) (place .index) results results
   nothing-written same none results = nothing-more (here .stands) (reads same) none results
 
+-- ---- the writing goes on
+
+pub index-at : (bytes : List ℕ) (n : ℕ) {i : ℕ} {position : Position} → position ≡ positionAt bytes n i → position .place .index ≡ i
+unfolding positionAt
+index-at bytes n stands-at = ap (λ (p : Position). p .place .index) stands-at
+
+module _ {bytes : List ℕ} {n : ℕ} where
+  -- past no record
+  pub further-none : {position : Position} → position .place .index ≤ n → position ≡ positionAt bytes n (position .place .index)
+      → (results : List ℕ) → Further bytes n (position .place .index) results position results
+  further-none within stands-at results =
+      record { not-back = omega arith; within = within; stands-at = stands-at; more = λ old so-far same. so-far; same-length = refl }
+
+  module _ {from : ℕ} {results : List ℕ} {position : Position} {now : List ℕ} (so-far : Further bytes n from results position now) where
+    -- past one more
+    pub further-one : {later : Position} {behind : List ℕ} → position .place .index < n
+        → later ≡ positionAt bytes n (suc (position .place .index)) → OneMore (sheetOf bytes n) (position .place .index) now behind
+        → length behind ≡ length now → Further bytes n from results later behind
+    further-one {later} {behind} below is-later one same =
+        let index : later .place .index ≡ suc (position .place .index) = index-at bytes n is-later in
+        record {
+          not-back = omega (arith, index, so-far .not-back);
+          within = omega (arith, index);
+          stands-at = is-later ∙ ap (positionAt bytes n) (sym index);
+          more = λ old holds same-old.
+              one old (so-far .more old holds same-old) (same-old ∙ sym (so-far .same-length)) ∙ ap (writtenSoFar (sheetOf bytes n) old) (sym index);
+          same-length = same ∙ so-far .same-length;
+        }
+
+    -- past so many more
+    pub further-on : {later : Position} {behind : List ℕ} → Further bytes n (position .place .index) now later behind
+        → Further bytes n from results later behind
+    further-on more =
+        record {
+          not-back = omega (arith, so-far .not-back, more .not-back);
+          within = more .within;
+          stands-at = more .stands-at;
+          more = λ old holds same-old. more .more old (so-far .more old holds same-old) (same-old ∙ sym (so-far .same-length));
+          same-length = more .same-length ∙ so-far .same-length;
+        }
+
+    -- with room for what is left
+    pub underway-on : {table : Table} {start : Position} → Underway bytes n table start (length results) → Underway bytes n table position (length now)
+    underway-on {table} underway =
+        record {
+          writable = subst⁻¹ (Writable bytes n table (planOf bytes .designated)) (so-far .same-length) (underway .writable);
+          within = so-far .within;
+          stands-at = so-far .stands-at;
+        }
+
+  -- before a record, with room for what it writes
+  pub record-here : {table : Table} {position : Position} {size : ℕ} → Underway bytes n table position size → position .place .index < n
+      → RecordHere bytes n table (position .place) (position .state) size
+  unfolding positionAt
+  record-here {table} {position} {size} underway below =
+      let writable = underway .writable in
+      let i = position .place .index in
+      subst⁻¹ (λ (p : Position). RecordHere bytes n table (p .place) (p .state) size) (underway .stands-at)
+      (record {
+        stands =
+            record {
+              walk = record { whole = writable .whole; inside = omega arith; here = refl };
+              before-end = below;
+              same-table = writable .same-table;
+              same-state = refl;
+              planned = writable .planned i;
+            };
+        room = omega (arith, writable .room, units-mono bytes (suc i) n (omega arith));
+      })
+
 -- ---- from the first record to the last
 
--- once the first records are done: the position, and what the buffer holds
-pub record Done (bytes : List ℕ) (n : ℕ) (old : List ℕ) (done : ℕ) (position : Position) (results : List ℕ) : Type 0 where
-  pub within : done ≤ n
-  pub stands-at : position ≡ positionAt bytes n done
-  pub holds : results ≡ writtenSoFar (sheetOf bytes n) old done
-  pub same-length : length old ≡ length results
-
 module _ {bytes : List ℕ} {n : ℕ} {table : Table} {designated size : ℕ} (writable : Writable bytes n table designated size) where
-  pub done-none : {place : Place} {state : State} → place ≡ firstPlace → state ≡ opening table designated → (old : List ℕ)
-      → Done bytes n old 0 (record { place = place; state = state }) old
-  unfolding positionAt before sheetOf offset unitsBefore writtenAt written unitsAmong
-  done-none is-first is-opening old =
+  -- before the first
+  pub underway-first : {place : Place} {state : State} → place ≡ firstPlace → state ≡ opening table designated
+      → Underway bytes n table (record { place = place; state = state }) size
+  unfolding positionAt before sheetOf offset unitsBefore
+  underway-first {place} {state} is-first is-opening =
       record {
-        within = omega arith;
+        writable = subst (λ (grade : ℕ). Writable bytes n table grade size) (writable .same-designated) writable;
+        within = omega (arith, ap (λ (p : Place). p .index) is-first);
         stands-at =
             ap₂ (λ (p : Place) (s : State). record { place = p; state = s }) is-first
-            (is-opening ∙ ap₂ opening (writable .same-table) (writable .same-designated));
-        holds = refl;
-        same-length = refl;
+            (is-opening ∙ ap₂ opening (writable .same-table) (writable .same-designated))
+            ∙ ap (positionAt bytes n) (sym (ap (λ (p : Place). p .index) is-first));
       }
 
-  module _ {old : List ℕ} {done : ℕ} {position : Position} {results : List ℕ} (so-far : Done bytes n old done position results) (below : done < n) where
-    index-is : position .place .index ≡ done
-    unfolding positionAt
-    index-is = ap (λ (p : Position). p .place .index) (so-far .stands-at)
-
-    pub record-here : length old ≡ size → RecordHere bytes n table (position .place) (position .state) (length results)
-    unfolding positionAt
-    record-here same-size =
-        subst⁻¹ (λ (p : Position). RecordHere bytes n table (p .place) (p .state) (length results)) (so-far .stands-at)
-        (record {
-          stands =
-              record {
-                walk = record { whole = writable .whole; inside = omega arith; here = refl };
-                before-end = below;
-                same-table = writable .same-table;
-                same-state = refl;
-                planned = writable .planned done;
-              };
-          room = omega (arith, writable .room, units-mono bytes (suc done) n (omega arith), so-far .same-length);
-        })
-
-    pub done-more : {later : Position} {behind : List ℕ} → later ≡ positionAt bytes n (suc (position .place .index))
-        → OneMore (sheetOf bytes n) (position .place .index) results behind → length behind ≡ length results → Done bytes n old (done + 1) later behind
-    done-more {later} {behind} is-later more same =
-        let next-index : suc (position .place .index) ≡ done + 1 = omega (arith, index-is) in
-        let holds-now : behind ≡ writtenSoFar (sheetOf bytes n) old (suc (position .place .index)) =
-        more old (so-far .holds ∙ ap (writtenSoFar (sheetOf bytes n) old) (sym index-is)) (so-far .same-length) in
-        record {
-          within = omega arith;
-          stands-at = is-later ∙ ap (positionAt bytes n) next-index;
-          holds = holds-now ∙ ap (writtenSoFar (sheetOf bytes n) old) next-index;
-          same-length = so-far .same-length ∙ sym same;
-        }
+  pub further-first : {place : Place} {state : State} → place ≡ firstPlace → state ≡ opening table designated → (results : List ℕ)
+      → Further bytes n 0 results (record { place = place; state = state }) results × (0 ≡ place .index)
+  further-first {place} {state} is-first is-opening results =
+      let underway = underway-first is-first is-opening in
+      let index : place .index ≡ 0 = ap (λ (p : Place). p .index) is-first in (
+        subst (λ (i : ℕ). Further bytes n i results (record { place = place; state = state }) results) index
+            (further-none (underway .within) (underway .stands-at) results),
+        sym index,
+      )
 
   -- behind the last record nothing ends
   no-end : (j : ℕ) → n ≤ j → stepThreeEndsAt (sheetOf bytes n) j ≡ false
   unfolding stepThreeEndsAt recordEndsStepThree sheetOf
   no-end j behind = ap (recordEndsStepThree (tableOf (planOf bytes)) (before (sheetOf bytes n) j)) (writable .breaks-behind j behind)
 
-  pub all-done : {old : List ℕ} {done : ℕ} {position : Position} {results : List ℕ} → Done bytes n old done position results → n ≤ done
+  pub all-done : {old : List ℕ} {position : Position} {results : List ℕ} → Further bytes n 0 old position results → n ≤ position .place .index
       → results ≡ written (resultOf (sheetOf bytes n)) (λ code. ungraded) (entryAt bytes) n ++ drop (resultSize * unitsBefore bytes n) old
   unfolding sheetOf
-  all-done {old} {done} so-far past =
-      let all : done ≡ n = omega (arith, so-far .within) in
-      so-far .holds
+  all-done {old} {position} so-far past =
+      let all : position .place .index ≡ n = omega (arith, so-far .within) in
+      so-far .more old (none-so-far old) refl
       ∙ ap (writtenSoFar (sheetOf bytes n) old) all
       ∙ all-recovered (sheetOf bytes n) n no-end old
       ∙ ap (λ (units : ℕ). written (resultOf (sheetOf bytes n)) (λ code. ungraded) (entryAt bytes) n ++ drop (resultSize * units) old)
       (sym (units-among bytes n))
+    where
+      none-so-far : (old : List ℕ) → old ≡ writtenSoFar (sheetOf bytes n) old 0
+      none-so-far old = unfold writtenAt written unitsAmong in refl

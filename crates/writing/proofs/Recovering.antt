@@ -19,7 +19,7 @@ use Rattle.units.specs.Records.{unitsOf, unitsAmong}
 use Rattle.units.specs.declared.SampleUnit.{SampleUnit}
 use Rattle.units.specs.declared.Entry.{Entry}
 use Rattle.units.specs.declared.Entry.the-variants.{UnitRecord, Redesignation, Break}
-use Rattle.units.proofs.Tests.{and-true, and-false, or-true, or-false}
+use Rattle.units.proofs.Tests.{and-true, and-false, or-true}
 use Rattle.rules.specs.Sheet.{Sheet, designatedAt, stepThreeEndsAt, inFinishedRun, recovered, standingOf}
 use Rattle.results.specs.Record.{resultSize, portionGradeOffset, standingOffset, resultBytes}
 use Rattle.results.specs.Written.{bytesBy, written}

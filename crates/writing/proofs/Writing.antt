@@ -1,31 +1,29 @@
 -- The writing of one unit: its grading and its result record are those of the sheet, there is room for the record, and what the
 -- buffer holds behind it. Where the writing stands, the walk's place and the state are those before the unit's record.
-use Prim.Native.Nat.{ℕ, suc, _+_, _*_, _-_, _≤_, _<_}
+use Prim.Native.Nat.{ℕ, suc, _+_, _*_, _-_, _≤_}
 use mathlib.Core.Path.{_≡_, refl, sym, _∙_, ap, ap₂, subst⁻¹}
 use mathlib.Core.Bool.{Bool, true, false, cond, _&&_}
 use mathlib.Core.List.{List}
-use native.Mathlib.Numerals.{add-one}
 use native.Mathlib.Omega.{arith}
 use lib.ListN.{length}
 use lib.Seq.{sets}
 use Rattle.cusum.specs.declared.PlanNumbers.{PlanNumbers}
-use Rattle.units.specs.Words.{hasPlan, substandard, Table, tableOf, rowOf, countsOf}
+use Rattle.units.specs.Words.{hasPlan, Table, rowOf, countsOf}
 use Rattle.units.specs.Unit.{newCusums, unitFails, bestLower, defectGrade, qualifies, steppedIn}
-use Rattle.units.specs.Records.{unitsOf, unitsAmong}
+use Rattle.units.specs.Records.{unitsAmong}
 use Rattle.units.specs.declared.SampleUnit.{SampleUnit}
 use Rattle.units.specs.declared.SteppedClasses.{SteppedClasses}
 use Rattle.units.specs.declared.Grading.{Grading}
 use Rattle.units.specs.declared.Entry.{Entry}
-use Rattle.units.specs.declared.Entry.the-variants.{UnitRecord, Redesignation, Break}
+use Rattle.units.specs.declared.Entry.the-variants.{UnitRecord}
 use Rattle.units.proofs.Planned.{stepped-under}
-use Rattle.units.proofs.Records.{units-next}
 use Rattle.rules.specs.StepThree.{inStepThree, inForceIn, inForce, endsStepThree, graded, qualifiesWith, qualifiesIn, afterUnit, next, recordEndsStepThree}
-use Rattle.rules.specs.Sheet.{Sheet, before, designatedAt, gradedAt, stepThreeEndsAt}
+use Rattle.rules.specs.Sheet.{Sheet, before, designatedAt, stepThreeEndsAt}
 use Rattle.rules.specs.declared.Phase.{Phase}
 use Rattle.rules.specs.declared.Phase.the-variants.{Designated, StepThree}
 use Rattle.rules.specs.declared.State.{State}
-use Rattle.rules.proofs.FinishedRun.{InStepThree, FinishedRun, finished-run}
-use Rattle.layout.specs.Layout.{planOf, unitSize, sizeOf, markAt, sampleUnitAt, offset, mark, entryAt, unitsBefore}
+use Rattle.rules.proofs.FinishedRun.{FinishedRun, finished-run}
+use Rattle.layout.specs.Layout.{unitSize, sizeOf, markAt, sampleUnitAt, offset, mark, unitsBefore}
 use Rattle.layout.specs.declared.Mark.{Mark}
 use Rattle.layout.specs.declared.Mark.the-variants.{UnitMark}
 use Rattle.layout.specs.declared.Place.{Place}
@@ -35,8 +33,8 @@ use Rattle.results.specs.Record.{resultSize, resultBytes}
 use Rattle.results.specs.declared.ResultRecord.{ResultRecord}
 use Rattle.codes.specs.Codes.{ungraded}
 use Rattle.writing.specs.Sheet.{sheetOf, resultWith, resultIf}
-use Rattle.writing.specs.Writing.{writtenAt, writtenSoFar, recoveredIn, ThreeHere, threeRecovered, Stands, UnitHere, OneMore}
-use Rattle.writing.proofs.Recovering.{unit-written, nothing-recovered, none-written, run-recovered}
+use Rattle.writing.specs.Writing.{writtenAt, writtenSoFar, recoveredIn, ThreeHere, threeRecovered, UnitHere, OneMore}
+use Rattle.writing.proofs.Recovering.{unit-written, nothing-recovered, run-recovered}
 
 -- ---- the grading of a unit, as the code makes it
 

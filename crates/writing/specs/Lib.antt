@@ -1,3 +1,3 @@
 pub mod Sheet
-pub mod Writing
 pub mod Writable
+pub mod Writing

@@ -6,12 +6,16 @@ use mathlib.Core.Bool.{Bool, true, _&&_, _||_}
 use mathlib.Core.List.{List, _++_}
 use lib.Dec.{ltb}
 use lib.ListN.{length, drop, set}
+use Rattle.cusum.specs.declared.PlanNumbers.{PlanNumbers}
+use Rattle.units.specs.Unit.{starting}
 use Rattle.units.specs.Words.{hasPlan, worse, Table, tableOf}
 use Rattle.units.specs.Conditions.{pick}
 use Rattle.units.specs.Records.{unitsAmong}
 use Rattle.units.specs.declared.SampleUnit.{SampleUnit}
 use Rattle.units.specs.declared.Entry.the-variants.{UnitRecord}
 use Rattle.rules.specs.Sheet.{Sheet, before, stepThreeEndsAt}
+use Rattle.rules.specs.declared.Previous.the-variants.{NoFailure}
+use Rattle.rules.specs.declared.Phase.the-variants.{Designated}
 use Rattle.rules.specs.declared.State.{State}
 use Rattle.layout.specs.Layout.{planOf, unitSize, sampleUnitAt, entryAt, unitsBefore}
 use Rattle.layout.specs.Walk.{placeAt, Walk}
@@ -22,6 +26,7 @@ use Rattle.results.specs.declared.ResultRecord.{ResultRecord}
 use Rattle.codes.specs.Codes.{ungraded}
 use Rattle.writing.specs.declared.Position.{Position}
 use Rattle.writing.specs.Sheet.{sheetOf, resultIf}
+use Rattle.writing.specs.Writable.{Writable}
 
 module _ (sheet : Sheet) (done : ℕ) where
   -- step 3 ends at record j, and that is among the records done
@@ -89,12 +94,34 @@ pub record UnitHere (bytes : List ℕ) (records : ℕ) (table : Table) (place : 
 unfoldable pub positionAt : List ℕ → ℕ → ℕ → Position
 positionAt bytes records i = record { place = placeAt bytes i; state = before (sheetOf bytes records) i }
 
--- a buffer that holds what so many records have written becomes one that holds what one record more has
+-- a buffer that holds what the first records have written becomes one that holds what so many have
+abbrev pub SomeMore : Sheet → ℕ → ℕ → List ℕ → List ℕ → Type 0
+SomeMore sheet from to results behind =
+    (old : List ℕ) → results ≡ writtenSoFar sheet old from → length old ≡ length results → behind ≡ writtenSoFar sheet old to
+
+-- what one record more has
 abbrev pub OneMore : Sheet → ℕ → List ℕ → List ℕ → Type 0
-OneMore sheet done results behind =
-    (old : List ℕ) → results ≡ writtenSoFar sheet old done → length old ≡ length results → behind ≡ writtenSoFar sheet old (suc done)
+OneMore sheet done results behind = SomeMore sheet done (suc done) results behind
 
 -- at any record, with room for what it writes
 pub record RecordHere (bytes : List ℕ) (records : ℕ) (table : Table) (place : Place) (state : State) (size : ℕ) : Type 0 where
   pub stands : Stands bytes records table place state
   pub room : resultSize * unitsBefore bytes (suc (place .index)) ≤ size
+
+-- behind a break under the designated plan: every class of its row at S, and a failure just before forgotten
+abbrev pub restartedIn : List PlanNumbers → ℕ → State
+restartedIn row designated = record { designated = designated; previous = NoFailure; phase = Designated; cusums = starting row }
+
+-- before a record of a sheet, or behind the last, with room in a buffer of this size for what all records write
+pub record Underway (bytes : List ℕ) (records : ℕ) (table : Table) (position : Position) (size : ℕ) : Type 0 where
+  pub writable : Writable bytes records table (planOf bytes .designated) size
+  pub within : position .place .index ≤ records
+  pub stands-at : position ≡ positionAt bytes records (position .place .index)
+
+-- the writing has gone on from a record to a position
+pub record Further (bytes : List ℕ) (records from : ℕ) (results : List ℕ) (position : Position) (behind : List ℕ) : Type 0 where
+  pub not-back : from ≤ position .place .index
+  pub within : position .place .index ≤ records
+  pub stands-at : position ≡ positionAt bytes records (position .place .index)
+  pub more : SomeMore (sheetOf bytes records) from (position .place .index) results behind
+  pub same-length : length behind ≡ length results

@@ -8,14 +8,14 @@ ghost use lib.Seq.{sets};
 ghost use Rattle.rules.specs.StepThree.{next, inStepThree};
 ghost use Rattle.units.specs.declared.Entry.the-variants.{UnitRecord};
 ghost use Rattle.rules.specs.declared.Phase.the-variants.{Designated};
-ghost use Rattle.units.specs.Words.{countsOf};
-ghost use Rattle.units.specs.Unit.{bestLower};
+ghost use Rattle.units.specs.Words.{rowOf, countsOf};
+ghost use Rattle.units.specs.Unit.{bestLower, steppedIn};
 ghost use Rattle.layout.specs.Layout.{entryAt, unitsBefore};
 ghost use Rattle.results.specs.Record.{resultSize, resultBytes};
 ghost use Rattle.results.specs.Written.{written};
 ghost use Rattle.codes.specs.Codes.{ungraded};
 ghost use Rattle.writing.specs.Sheet.{sheetOf, resultWith, resultOf};
-ghost use Rattle.writing.specs.Writing.{recoveredIn, ThreeHere, threeRecovered, UnitHere, RecordHere, positionAt, OneMore};
+ghost use Rattle.writing.specs.Writing.{recoveredIn, ThreeHere, threeRecovered, UnitHere, RecordHere, positionAt, OneMore, Underway, Further, restartedIn};
 ghost use Rattle.writing.specs.Writable.{Writable};
 use codes::UNGRADED;
 use layout::Mark;
@@ -29,15 +29,19 @@ use results::RESULT_SIZE;
 use results::ResultRecord;
 use results::STANDING_OFFSET;
 use rules::Phase;
+use rules::Previous;
 use rules::RECOVERED;
 use rules::State;
+use units::Cusums;
 use units::Entry;
 use units::Grading;
+use units::Row;
 use units::SampleUnit;
 use units::Table;
 use units::best_lower;
 use units::qualifies_with;
 use units::row_of;
+use units::starts;
 use units::step_classes;
 use units::step_in_force;
 use units::worse_of;
@@ -107,8 +111,7 @@ fn defect_grade(table: Table, grade: u8, fails: bool, unit: SampleUnit) -> u8
     grade
 }
 
-// Writes what is recorded of a unit under the designated plan: the state after it. A unit that meets is written apart from one that
-// fails: this is faster than one write for both.
+// Writes what is recorded of a unit under the designated plan: the state after it.
 fn write_designated(
     bytes: &[u8],
     records: usize,
@@ -126,22 +129,13 @@ fn write_designated(
     let stepped = step_classes(row_of(table, state.designated), before, unit);
     let new = stepped.cusums;
     let start = RESULT_SIZE * place.units;
-    if stepped.fails {
-        let failed = Grading {
-            cusums: new,
-            fails: true,
-            grade: best_lower(table, state.designated, unit),
-        };
-        write_at(results, start, result_of(state, unit, failed));
-        return state.after_unit(table, failed, false);
-    }
-    let met = Grading {
+    let grading = Grading {
         cusums: new,
-        fails: false,
-        grade: state.designated,
+        fails: stepped.fails,
+        grade: defect_grade(table, state.designated, stepped.fails, unit),
     };
-    write_at(results, start, result_of(state, unit, met));
-    state.after_unit(table, met, false)
+    write_at(results, start, result_of(state, unit, grading));
+    state.after_unit(table, grading, false)
 }
 
 // The same for a unit in step 3; where step 3 ends, it and the two before it are recovered.
@@ -265,6 +259,120 @@ fn write_here(
     }
 }
 
+// Writes what is recorded of a unit that meets the designated plan, with the CuSums that it makes: the state after it.
+fn write_met(
+    bytes: &[u8],
+    records: usize,
+    table: Table,
+    place: Place,
+    state: State,
+    unit: SampleUnit,
+    new: Cusums,
+    results: &mut [u8],
+) -> State
+    requires { ⌜ UnitHere (now bytes) records table place state unit (length (now results)) × (state .phase ≡ Designated) × (record { cusums = new; fails = false } ≡ steppedIn (rowOf table (state .designated)) (state .cusums) (countsOf unit)) ⌝ }
+    ensures state { λ r. ⌜ (r ≡ next table state (UnitRecord unit)) × (r .phase ≡ Designated) ⌝ }
+    ensures buffer { λ r. ⌜ OneMore (sheetOf (now (bytes .entry)) records) (place .index) (now (results .entry)) (now (results .exit)) ⌝ }
+{
+    let met = Grading {
+        cusums: new,
+        fails: false,
+        grade: state.designated,
+    };
+    write_at(
+        results,
+        RESULT_SIZE * place.units,
+        result_of(state, unit, met),
+    );
+    state.after_unit(table, met, false)
+}
+
+// Behind a break under the designated plan, whose row this is.
+fn behind_break(row: Row, designated: u8) -> State
+    ensures { λ r. ⌜ r ≡ restartedIn row designated ⌝ }
+{
+    let started = starts(row);
+    State {
+        designated: designated,
+        previous: Previous::NoFailure,
+        phase: Phase::Designated,
+        cusums: started,
+    }
+}
+
+// Writes what units that meet the designated plan write, and goes past them and past breaks: up to a unit that fails, a redesignation
+// or the end. Most records of most sheets are such; this loop picks the row of their plan once.
+fn write_meeting(
+    bytes: &[u8],
+    records: usize,
+    table: Table,
+    start: Position,
+    results: &mut [u8],
+) -> Position
+    requires { ⌜ Underway (now bytes) records table start (length (now results)) × (start .state .phase ≡ Designated) ⌝ }
+    ensures { λ r. ⌜ Further (now (bytes .entry)) records (start .place .index) (now (results .entry)) r (now (results .exit)) ⌝ }
+{
+    let mut place = start.place;
+    let mut state = start.state;
+    let row = row_of(table, state.designated);
+    while place.index < records {
+        match mark_at(bytes, place.at) {
+            Mark::UnitMark => {
+                let unit = sample_unit_at(bytes, place.at);
+                let before = state.cusums;
+                let stepped = step_classes(row, before, unit);
+                if stepped.fails {
+                    return Position {
+                        place: place,
+                        state: state,
+                    };
+                }
+                let new = stepped.cusums;
+                state = write_met(bytes, records, table, place, state, unit, new, results);
+                place = place.past(Mark::UnitMark);
+            }
+            Mark::BreakMark => {
+                state = behind_break(row, state.designated);
+                place = place.past(Mark::BreakMark);
+            }
+            _ => {
+                return Position {
+                    place: place,
+                    state: state,
+                };
+            }
+        }
+    }
+    Position {
+        place: place,
+        state: state,
+    }
+}
+
+// Goes past such records if the designated plan is in force and no unit just before failed: where one did, the next may well fail, too,
+// and would be stepped twice.
+fn past_meeting(
+    bytes: &[u8],
+    records: usize,
+    table: Table,
+    position: Position,
+    results: &mut [u8],
+) -> Position
+    requires { ⌜ Underway (now bytes) records table position (length (now results)) ⌝ }
+    ensures { λ r. ⌜ Further (now (bytes .entry)) records (position .place .index) (now (results .entry)) r (now (results .exit)) ⌝ }
+{
+    let state = position.state;
+    let phase = state.phase;
+    let previous = state.previous;
+    match phase {
+        Phase::Designated => match previous {
+            Previous::NoFailure => write_meeting(bytes, records, table, position, results),
+            Previous::Failure(_) => position,
+        },
+        Phase::StepThree { lower: _, run: _ } => position,
+    }
+}
+
 // Writes the result records of a sheet, one after the other from the buffer's start, no code graded yet.
 pub fn write_records(bytes: &[u8], records: usize, table: Table, designated: u8, results: &mut [u8])
     requires { ⌜ Writable (now bytes) records table designated (length (now results)) ⌝ }
@@ -276,7 +384,12 @@ pub fn write_records(bytes: &[u8], records: usize, table: Table, designated: u8,
     };
     let mut done: usize = 0;
     while done < records {
-        position = write_here(bytes, records, table, position, results);
-        done += 1;
+        position = past_meeting(bytes, records, table, position, results);
+        let place = position.place;
+        done = place.index;
+        if done < records {
+            position = write_here(bytes, records, table, position, results);
+            done += 1;
+        }
     }
 }

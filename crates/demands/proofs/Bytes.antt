@@ -1,0 +1,72 @@
+-- The layout in the paper's numbers: sizes and offsets by computing, the place of S, T and L by arithmetic, the next record by the mark of
+-- the one before it.
+use Prim.Native.Nat.{ℕ}
+use mathlib.Core.Path.{refl, ap}
+use mathlib.Core.List.{List}
+use native.Mathlib.Omega.{arith}
+use Rattle.encoding.specs.Bytes.{number}
+use Rattle.layout.specs.Layout.{sizeOf, offset, unitsIn, unitsBefore}
+use Rattle.layout.specs.declared.Mark.the-variants.{UnitMark, RedesignationMark, BreakMark}
+use Rattle.layout.proofs.Units.{offset-behind, units-behind}
+use Rattle.demands.specs.Bytes.{Sizes, Fields, Records, Results, PaperLayout}
+use Rattle.demands.proofs.Rows.{is-unit-mark, is-redesignation-mark, is-break-mark}
+
+sizes : Sizes
+sizes =
+    record {
+      plan = refl;
+      unit = refl;
+      redesignation = refl;
+      break-in-production = refl;
+      result = refl;
+      three-grades = refl;
+      four-classes = refl;
+      four-kinds = refl;
+    }
+
+fields : Fields
+fields =
+    record {
+      grade-behind-mark = refl;
+      start = λ bytes grade class. ap (number bytes) (omega arith);
+      tolerance = λ bytes grade class. ap (number bytes) (omega arith);
+      limit = λ bytes grade class. ap (number bytes) (omega arith);
+      code = refl;
+      counts = refl;
+      critical = refl;
+      severe = refl;
+      major = refl;
+      minor = refl;
+      prerequisite = refl;
+      recoverable = refl;
+    }
+
+records : (bytes : List ℕ) → Records bytes
+unfolding offset unitsBefore sizeOf unitsIn
+records bytes =
+    record {
+      first = refl;
+      no-unit-yet = refl;
+      behind-unit = λ i e.
+          let is-unit = is-unit-mark bytes i e in (offset-behind bytes i UnitMark is-unit, units-behind bytes i UnitMark is-unit);
+      behind-redesignation = λ i e.
+          let is-new = is-redesignation-mark bytes i e in
+          (offset-behind bytes i RedesignationMark is-new, omega (arith, units-behind bytes i RedesignationMark is-new));
+      behind-break = λ i e.
+          let is-break = is-break-mark bytes i e in (offset-behind bytes i BreakMark is-break, omega (arith, units-behind bytes i BreakMark is-break));
+    }
+
+results : (buffer : List ℕ) (j : ℕ) → Results buffer j
+results buffer j =
+    record {
+      mark = ap (number buffer) (omega arith);
+      code = refl;
+      portion-grade = refl;
+      code-grade = refl;
+      plan-grade = refl;
+      standing = refl;
+      cusums = λ class. ap (number buffer) (omega arith);
+    }
+
+pub paper-layout : PaperLayout
+paper-layout = record { high-byte-first = λ bytes at. refl; sizes = sizes; fields = fields; records = records; results = results }
