@@ -61,7 +61,8 @@ unit-sheets =
     }
 
 step-three-sheets : StepThreeSheets
-unfolding computing peachPlan failureInStepThree failureInStepThreeResults lowerThanPlanInForce lowerThanPlanInForceResults twoFailuresInStepThree twoFailuresInStepThreeResults aboveTolerance
+unfolding computing peachPlan failureInStepThree failureInStepThreeResults lowerThanPlanInForce lowerThanPlanInForceResults
+    twoFailuresInStepThree twoFailuresInStepThreeResults aboveTolerance
     aboveToleranceResults cusumAboveZero cusumAboveZeroResults recovery recoveryResults recoveryWithoutPlan recoveryWithoutPlanResults afterStepThree
     afterStepThreeResults p7AndP8InBytes p7AndP8InBytesResults
 step-three-sheets =

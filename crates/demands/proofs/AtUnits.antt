@@ -176,7 +176,9 @@ module _ (bytes buffer : List ℕ) (answer : Answer) (results : List ℕ) (accep
 
     pub code-graded : CodeInstance bytes results i j
     code-graded =
-        record { first = worse-of-both i (unit-at bytes records counted i unit-i) code-i; second = worse-of-both j (unit-at bytes records counted j unit-j) code-j }
+        let at-i = unit-at bytes records counted i unit-i in
+        let at-j = unit-at bytes records counted j unit-j in
+        record { first = worse-of-both i at-i code-i; second = worse-of-both j at-j code-j }
 
 -- ---- demand 3, the first half
 

@@ -24,7 +24,7 @@ use Rattle.computed.specs.FurtherSheets.{breakBetweenFailures, breakBetweenFail
 
 -- ---- the sheets
 
--- what result records of so many units leave of a buffer
+-- a buffer as it is left: the result records of so many units, and the bytes behind them as they were
 abbrev pub left : List ℕ → ℕ → List ℕ → List ℕ
 left results units buffer = results ++ drop (resultSize * units) buffer
 
@@ -36,10 +36,11 @@ peachLeft buffer = left peachResults 7 buffer
 abbrev pub everyKindLeft : List ℕ → List ℕ
 everyKindLeft buffer = left everyKindOfRecordResults 6 buffer
 
--- their units, each with its standing
+-- the standings of a unit
 pub data Standing : Type 0 where
   met failed notRecovered recovered : Standing
 
+-- their units, each with its standing
 abbrev pub peachStandings : List (ℕ × Standing)
 peachStandings = (0, met) ∷ (1, failed) ∷ (2, failed) ∷ (3, recovered) ∷ (4, recovered) ∷ (5, notRecovered) ∷ (6, met) ∷ []
 
