@@ -172,67 +172,26 @@ fn write_step_three(
     after
 }
 
-// Writes what the record at a place under the designated plan writes, and goes past it.
-fn under_designated(
+// The same in any phase. Each has a path of its own: one for both keeps the table in memory.
+fn write_unit(
     bytes: &[u8],
     records: usize,
     table: Table,
     place: Place,
     state: State,
+    unit: SampleUnit,
     results: &mut [u8],
-) -> Position
-    requires { ⌜ RecordHere (now bytes) records table place state (length (now results)) × (state .phase ≡ Designated) ⌝ }
-    ensures position { λ r. ⌜ r ≡ positionAt (now (bytes .entry)) records (suc (place .index)) ⌝ }
+) -> State
+    requires { ⌜ UnitHere (now bytes) records table place state unit (length (now results)) ⌝ }
+    ensures state { λ r. ⌜ r ≡ next table state (UnitRecord unit) ⌝ }
     ensures buffer { λ r. ⌜ OneMore (sheetOf (now (bytes .entry)) records) (place .index) (now (results .entry)) (now (results .exit)) ⌝ }
 {
-    match entry_at(bytes, place.at, mark_at(bytes, place.at)) {
-        Entry::UnitRecord(unit) => {
-            let after = write_designated(bytes, records, table, place, state, unit, results);
-            Position {
-                place: place.past(Mark::UnitMark),
-                state: after,
-            }
+    let phase = state.phase;
+    match phase {
+        Phase::Designated => write_designated(bytes, records, table, place, state, unit, results),
+        Phase::StepThree { lower: _, run: _ } => {
+            write_step_three(bytes, records, table, place, state, unit, results)
         }
-        Entry::Redesignation(new) => Position {
-            place: place.past(Mark::RedesignationMark),
-            state: state.after_redesignation(table, new),
-        },
-        Entry::Break => Position {
-            place: place.past(Mark::BreakMark),
-            state: state.after_break(table),
-        },
-    }
-}
-
-// The same in step 3. Each phase has a path of its own: this is faster than to ask for it at each unit.
-fn under_lower(
-    bytes: &[u8],
-    records: usize,
-    table: Table,
-    place: Place,
-    state: State,
-    results: &mut [u8],
-) -> Position
-    requires { ⌜ RecordHere (now bytes) records table place state (length (now results)) × (inStepThree (state .phase) ≡ true) ⌝ }
-    ensures position { λ r. ⌜ r ≡ positionAt (now (bytes .entry)) records (suc (place .index)) ⌝ }
-    ensures buffer { λ r. ⌜ OneMore (sheetOf (now (bytes .entry)) records) (place .index) (now (results .entry)) (now (results .exit)) ⌝ }
-{
-    match entry_at(bytes, place.at, mark_at(bytes, place.at)) {
-        Entry::UnitRecord(unit) => {
-            let after = write_step_three(bytes, records, table, place, state, unit, results);
-            Position {
-                place: place.past(Mark::UnitMark),
-                state: after,
-            }
-        }
-        Entry::Redesignation(new) => Position {
-            place: place.past(Mark::RedesignationMark),
-            state: state.after_redesignation(table, new),
-        },
-        Entry::Break => Position {
-            place: place.past(Mark::BreakMark),
-            state: state.after_break(table),
-        },
     }
 }
 
@@ -250,12 +209,22 @@ fn write_here(
 {
     let place = position.place;
     let state = position.state;
-    let phase = state.phase;
-    match phase {
-        Phase::Designated => under_designated(bytes, records, table, place, state, results),
-        Phase::StepThree { lower: _, run: _ } => {
-            under_lower(bytes, records, table, place, state, results)
+    match entry_at(bytes, place.at, mark_at(bytes, place.at)) {
+        Entry::UnitRecord(unit) => {
+            let after = write_unit(bytes, records, table, place, state, unit, results);
+            Position {
+                place: place.past(Mark::UnitMark),
+                state: after,
+            }
         }
+        Entry::Redesignation(new) => Position {
+            place: place.past(Mark::RedesignationMark),
+            state: state.after_redesignation(table, new),
+        },
+        Entry::Break => Position {
+            place: place.past(Mark::BreakMark),
+            state: state.after_break(table),
+        },
     }
 }
 
