@@ -9,7 +9,7 @@ use Rattle.units.specs.Conditions.{pick}
 use Rattle.sheet.specs.Refusals.{verdict}
 use Rattle.sheet.specs.declared.Verdict.the-variants.{Accepted}
 use Rattle.results.specs.Record.{resultSize}
-use Rattle.writing.specs.Sheet.{sheetOf}
+use Rattle.recording.specs.Sheet.{sheetOf}
 use Rattle.tally.specs.Outcome.{overfullBefore, refusal, acceptance, outcomeBy, outcome}
 
 module _ (bytes buffer : List ℕ) (records units : ℕ) (passes : verdict bytes ≡ Accepted records units) where

@@ -33,7 +33,7 @@ use Rattle.layout.proofs.Units.{entry-unit, unit-mark}
 use Rattle.layout.proofs.Offsets.{offset-order, inside-unit}
 use Rattle.sheet.specs.Refusals.{designatedBefore, refusedIf, refusalBy, refusalAt, recordRefusal}
 use Rattle.sheet.proofs.Accepted.{Facts}
-use Rattle.writing.specs.Sheet.{sheetOf}
+use Rattle.recording.specs.Sheet.{sheetOf}
 use Rattle.tally.specs.Outcome.{recordsIn}
 use Rattle.tally.specs.Accepted.{sheetIn, UnitAt}
 use Rattle.tally.proofs.Entries.{unit-is, designated-before, designated-planned}

@@ -37,7 +37,7 @@ use Rattle.rules.proofs.StepThreeStands as stands
 use Rattle.layout.specs.Layout.{recoverableOffset, sampleUnitAt, offset}
 use Rattle.sheet.proofs.Accepted.{Facts}
 use Rattle.sheet.proofs.Ranges.{designated-le}
-use Rattle.writing.specs.Sheet.{sheetOf}
+use Rattle.recording.specs.Sheet.{sheetOf}
 use Rattle.tally.specs.declared.Answer.{Answer}
 use Rattle.tally.specs.Outcome.{recordsIn}
 use Rattle.tally.specs.Accepted.{AcceptedAs, sheetIn, UnitAt, recordedPortionGrade, recordedCodeGrade}

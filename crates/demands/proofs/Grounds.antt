@@ -20,7 +20,7 @@ use Rattle.sheet.specs.declared.Verdict.{Verdict}
 use Rattle.sheet.specs.declared.Verdict.the-variants.{Accepted, Refused}
 use Rattle.sheet.proofs.Accepted.{Facts, Says, verdict-says}
 use Rattle.results.specs.Record.{resultSize}
-use Rattle.writing.specs.Sheet.{sheetOf}
+use Rattle.recording.specs.Sheet.{sheetOf}
 use Rattle.tally.specs.declared.Answer.{Answer}
 use Rattle.tally.specs.Outcome.{overfullBefore, Outcome, refusal, acceptance, outcomeBy, outcome}
 use Rattle.tally.proofs.Overfull.{none-overfull, cusum-fits}

@@ -11,7 +11,7 @@ use Rattle.rules.specs.Anchor.{Anchor, opening, restart, failure}
 use Rattle.rules.proofs.Anchors.{Found, found, largest-form-by-place}
 use Rattle.layout.specs.Layout.{sampleUnitAt, offset}
 use Rattle.layout.proofs.Units.{entry-unit}
-use Rattle.writing.specs.Sheet.{sheetOf}
+use Rattle.recording.specs.Sheet.{sheetOf}
 use Rattle.tally.specs.Accepted.{sheetIn}
 use Rattle.demands.specs.Demand3.{AnchorAt, Demand3LargestForm}
 use Rattle.demands.proofs.Recorded.{recorded-cusum}

@@ -16,7 +16,7 @@ use Rattle.sheet.specs.declared.Verdict.the-variants.{Accepted, Refused}
 use Rattle.sheet.proofs.Accepted.{facts}
 use Rattle.sheet.proofs.Listed.{refusal-listed}
 use Rattle.results.specs.Record.{resultSize}
-use Rattle.writing.specs.Sheet.{sheetOf}
+use Rattle.recording.specs.Sheet.{sheetOf}
 use Rattle.tally.specs.declared.Answer.{Answer}
 use Rattle.tally.specs.Outcome.{overfullBefore, refusal, acceptance, outcomeBy, outcome}
 use Rattle.tally.proofs.Overfull.{none-overfull}

@@ -15,7 +15,7 @@ use Rattle.rules.specs.TwoInARow.{secondInARow}
 use Rattle.units.specs.declared.SampleUnit.{SampleUnit}
 use Rattle.rules.proofs.SideBySide.{Below, NoRedesignation, not-second, second, fewer-cusums, fewer-grades}
 use Rattle.layout.specs.Layout.{planOf, sampleUnitAt, offset, mark, entryAt}
-use Rattle.writing.specs.Sheet.{sheetOf}
+use Rattle.recording.specs.Sheet.{sheetOf}
 use Rattle.layout.specs.declared.Mark.the-variants.{UnitMark}
 use Rattle.sheet.proofs.Accepted.{Facts}
 use Rattle.layout.proofs.Offsets.{past-entry, inside-unit}

@@ -22,7 +22,7 @@ use Rattle.sheet.proofs.Ranges.{designated-le, prerequisite-le}
 use Rattle.results.specs.Record.{resultSize, markIn, codeIn, portionGradeIn, codeGradeIn, planGradeIn, standingIn, cusumIn}
 use Rattle.results.specs.declared.ResultRecord.{ResultRecord}
 use Rattle.results.proofs.Written.{mark-written, portion-written, code-grade-written, plan-written, standing-written, code-written, cusum-written}
-use Rattle.writing.specs.Sheet.{sheetOf, resultWith, resultOf}
+use Rattle.recording.specs.Sheet.{sheetOf, resultWith, resultOf}
 use Rattle.tally.specs.declared.Answer.{Answer}
 use Rattle.tally.specs.Outcome.{resultsOf, recordsIn}
 use Rattle.tally.specs.Accepted.{AcceptedAs, sheetIn, UnitAt, recordedCusum, recordedPortionGrade, recordedCodeGrade, numbersInForce}

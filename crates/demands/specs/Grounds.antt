@@ -14,7 +14,7 @@ use Rattle.units.specs.Words.{plannedGrades, classes, tenthsIn}
 use Rattle.rules.specs.Sheet.{gradedAt}
 use Rattle.layout.specs.Layout.{gradeOffset, tableOffset, toleranceOffset, limitOffset, planNumbersSize, planSize, kinds, countOffset, prerequisiteOffset, recoverableOffset, unitSize, redesignationSize, sampleUnitAt, offset, unitsBefore}
 use Rattle.results.specs.Record.{resultSize}
-use Rattle.writing.specs.Sheet.{sheetOf}
+use Rattle.recording.specs.Sheet.{sheetOf}
 use Rattle.tally.specs.declared.Answer.{Answer}
 use Rattle.tally.specs.Outcome.{Outcome, outcome}
 

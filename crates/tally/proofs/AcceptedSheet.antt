@@ -19,7 +19,7 @@ use Rattle.sheet.specs.declared.Verdict.the-variants.{Accepted, Refused}
 use Rattle.sheet.proofs.Accepted.{Facts, facts, refusal-number}
 use Rattle.results.specs.Record.{resultSize}
 use Rattle.results.proofs.Written.{length-written}
-use Rattle.writing.specs.Sheet.{sheetOf, resultOf}
+use Rattle.recording.specs.Sheet.{sheetOf, resultOf}
 use Rattle.tally.specs.declared.Answer.{Answer}
 use Rattle.tally.specs.Outcome.{overfullBefore, Outcome, refusal, resultsOf, acceptance, outcomeBy, outcome, recordsOf, recordsIn}
 use Rattle.tally.specs.Accepted.{AcceptedAs, sheetIn}

@@ -27,7 +27,7 @@ use Rattle.results.specs.Written.{written}
 use Rattle.results.proofs.Written.{length-written}
 use Rattle.codes.specs.Codes.{ungraded, codesGraded, Ungraded}
 use Rattle.codes.proofs.Coding.{Gradable, ungraded-yet, codes-are}
-use Rattle.writing.specs.Sheet.{sheetOf, resultWith, resultOf}
+use Rattle.recording.specs.Sheet.{sheetOf, resultWith, resultOf}
 use Rattle.writing.specs.Writable.{Writable}
 use Rattle.tally.specs.Outcome.{Outcome, refusal, resultsOf, acceptance, outcomeBy, limitTooLarge}
 use Rattle.tally.proofs.Overfull.{limits-fit, none-overfull}

@@ -21,7 +21,7 @@ use Rattle.layout.proofs.Units.{entry-unit, unit-mark}
 use Rattle.sheet.specs.Refusals.{designatedBefore}
 use Rattle.sheet.proofs.Accepted.{Facts}
 use Rattle.sheet.proofs.Ranges.{designated-le, prerequisite-le, new-grade-le}
-use Rattle.writing.specs.Sheet.{sheetOf}
+use Rattle.recording.specs.Sheet.{sheetOf}
 
 -- a record that reads as a unit is the unit at its offset
 pub unit-is : (bytes : List ℕ) (i : ℕ) (unit : SampleUnit) → entryAt bytes i ≡ UnitRecord unit → unit ≡ sampleUnitAt bytes (offset bytes i)

@@ -26,7 +26,7 @@ use Rattle.layout.specs.Layout.{tableSize, planOf}
 use Rattle.sheet.specs.Refusals.{anyNumbers}
 use Rattle.sheet.proofs.Accepted.{Facts}
 use Rattle.sheet.proofs.Ranges.{cell-limit-le, limit-le}
-use Rattle.writing.specs.Sheet.{sheetOf}
+use Rattle.recording.specs.Sheet.{sheetOf}
 use Rattle.tally.specs.Outcome.{anyTooLarge, overfullBy, overfullBefore, limitTooLarge}
 
 -- the CuSum of a class behind a unit

@@ -8,7 +8,7 @@ use Rattle.rules.specs.Sheet.{Sheet, inForceAt}
 use Rattle.layout.specs.Layout.{mark, unitsBefore}
 use Rattle.layout.specs.declared.Mark.the-variants.{UnitMark}
 use Rattle.results.specs.Record.{cusumIn, portionGradeIn, codeGradeIn}
-use Rattle.writing.specs.Sheet.{sheetOf}
+use Rattle.recording.specs.Sheet.{sheetOf}
 use Rattle.tally.specs.declared.Answer.{Answer}
 use Rattle.tally.specs.Outcome.{Outcome, outcome, recordsIn}
 

@@ -17,7 +17,7 @@ use Rattle.sheet.specs.declared.Verdict.{Verdict}
 use Rattle.sheet.specs.declared.Verdict.the-variants.{Accepted, Refused}
 use Rattle.results.specs.Record.{resultSize}
 use Rattle.results.specs.Written.{written}
-use Rattle.writing.specs.Sheet.{sheetOf, resultOf}
+use Rattle.recording.specs.Sheet.{sheetOf, resultOf}
 use Rattle.tally.specs.declared.Answer.{Answer}
 
 -- ---- number 14

@@ -1,5 +1,3 @@
-pub mod Recovering
 pub mod Writing
 pub mod Passing
 pub mod Meeting
-pub mod Computing

@@ -25,7 +25,7 @@ use Rattle.layout.specs.declared.Mark.{Mark}
 use Rattle.layout.specs.declared.Mark.the-variants.{UnitMark, BreakMark}
 use Rattle.layout.specs.declared.Place.{Place}
 use Rattle.writing.specs.declared.Position.{Position}
-use Rattle.writing.specs.Sheet.{sheetOf}
+use Rattle.recording.specs.Sheet.{sheetOf}
 use Rattle.writing.specs.Writing.{UnitHere, RecordHere, OneMore, Underway, Further, restartedIn}
 use Rattle.writing.proofs.Passing.{markFor, mark-inside, record-inside, unit-here, room-past-it, position-past-it, nothing-written, further-none, further-one, underway-on, record-here}
 

@@ -26,10 +26,11 @@ use Rattle.results.specs.Record.{resultSize}
 use Rattle.results.specs.Written.{written}
 use Rattle.codes.specs.Codes.{ungraded}
 use Rattle.writing.specs.declared.Position.{Position}
-use Rattle.writing.specs.Sheet.{sheetOf, resultOf}
-use Rattle.writing.specs.Writing.{writtenAt, writtenSoFar, Stands, UnitHere, RecordHere, positionAt, OneMore, Underway, Further}
+use Rattle.recording.specs.Sheet.{sheetOf, resultOf}
+use Rattle.recording.specs.Recovering.{writtenAt, writtenSoFar}
+use Rattle.writing.specs.Writing.{Stands, UnitHere, RecordHere, positionAt, OneMore, Underway, Further}
 use Rattle.writing.specs.Writable.{Writable}
-use Rattle.writing.proofs.Recovering.{none-written, all-recovered}
+use Rattle.recording.proofs.Recovering.{none-written, all-recovered}
 
 -- the mark that a record has by what it reads as
 unfoldable pub markFor : Entry → Mark

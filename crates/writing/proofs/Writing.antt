@@ -32,9 +32,10 @@ use Rattle.layout.proofs.Units.{entry-unit, unit-mark, next-offset, next-units,
 use Rattle.results.specs.Record.{resultSize, resultBytes}
 use Rattle.results.specs.declared.ResultRecord.{ResultRecord}
 use Rattle.codes.specs.Codes.{ungraded}
-use Rattle.writing.specs.Sheet.{sheetOf, resultWith, resultIf}
-use Rattle.writing.specs.Writing.{writtenAt, writtenSoFar, recoveredIn, ThreeHere, threeRecovered, UnitHere, OneMore}
-use Rattle.writing.proofs.Recovering.{unit-written, nothing-recovered, run-recovered}
+use Rattle.recording.specs.Sheet.{sheetOf, resultWith, resultIf}
+use Rattle.recording.specs.Recovering.{writtenAt, writtenSoFar, recoveredIn, ThreeHere, threeRecovered}
+use Rattle.writing.specs.Writing.{UnitHere, OneMore}
+use Rattle.recording.proofs.Recovering.{unit-written, nothing-recovered, run-recovered}
 
 -- ---- the grading of a unit, as the code makes it
 

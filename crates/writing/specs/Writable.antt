@@ -10,7 +10,7 @@ use Rattle.units.specs.declared.Entry.the-variants.{Break}
 use Rattle.rules.specs.Sheet.{designatedAt}
 use Rattle.layout.specs.Layout.{planOf, sizeOf, offset, mark, entryAt, unitsBefore}
 use Rattle.results.specs.Record.{resultSize}
-use Rattle.writing.specs.Sheet.{sheetOf}
+use Rattle.recording.specs.Sheet.{sheetOf}
 
 pub record Writable (bytes : List ℕ) (records : ℕ) (table : Table) (designated size : ℕ) : Type 0 where
   pub same-table : table ≡ tableOf (planOf bytes)

@@ -1,36 +1,32 @@
 // Writing the result records of a sheet, no code graded yet.
 ghost use mathlib.Core.Path.{_≡_};
 ghost use mathlib.Core.Bool.{true, false, cond};
-ghost use Prim.Native.Nat.{suc, _+_, _*_, _≤_};
+ghost use Prim.Native.Nat.{suc, _+_, _*_};
 ghost use mathlib.Core.List.{_++_};
 ghost use lib.ListN.{length, drop};
-ghost use lib.Seq.{sets};
 ghost use Rattle.rules.specs.StepThree.{next, inStepThree};
 ghost use Rattle.units.specs.declared.Entry.the-variants.{UnitRecord};
 ghost use Rattle.rules.specs.declared.Phase.the-variants.{Designated};
 ghost use Rattle.units.specs.Words.{rowOf, countsOf};
 ghost use Rattle.units.specs.Unit.{bestLower, steppedIn};
 ghost use Rattle.layout.specs.Layout.{entryAt, unitsBefore};
-ghost use Rattle.results.specs.Record.{resultSize, resultBytes};
+ghost use Rattle.results.specs.Record.{resultSize};
 ghost use Rattle.results.specs.Written.{written};
 ghost use Rattle.codes.specs.Codes.{ungraded};
-ghost use Rattle.writing.specs.Sheet.{sheetOf, resultWith, resultOf};
-ghost use Rattle.writing.specs.Writing.{recoveredIn, ThreeHere, threeRecovered, UnitHere, RecordHere, positionAt, OneMore, Underway, Further, restartedIn};
+ghost use Rattle.recording.specs.Sheet.{sheetOf, resultOf};
+ghost use Rattle.writing.specs.Writing.{UnitHere, RecordHere, positionAt, OneMore, Underway, Further, restartedIn};
 ghost use Rattle.writing.specs.Writable.{Writable};
-use codes::UNGRADED;
 use layout::Mark;
 use layout::Place;
-use layout::UNIT_SIZE;
 use layout::entry_at;
 use layout::mark_at;
 use layout::sample_unit_at;
-use results::PORTION_GRADE_OFFSET;
+use recording::recover_three;
+use recording::result_of;
+use recording::write_at;
 use results::RESULT_SIZE;
-use results::ResultRecord;
-use results::STANDING_OFFSET;
 use rules::Phase;
 use rules::Previous;
-use rules::RECOVERED;
 use rules::State;
 use units::Cusums;
 use units::Entry;
@@ -44,61 +40,11 @@ use units::row_of;
 use units::starts;
 use units::step_classes;
 use units::step_in_force;
-use units::worse_of;
 
 // Where the writing stands: before a record, with the state of the grading there.
 struct Position {
     place: Place,
     state: State,
-}
-
-// What is recorded of a unit that is not recovered, but for its code grade.
-fn result_of(state: State, unit: SampleUnit, grading: Grading) -> ResultRecord
-    ensures { λ r. ⌜ r ≡ resultWith state unit grading false ⌝ }
-{
-    let phase = state.phase;
-    let cusums = grading.cusums;
-    ResultRecord {
-        code: unit.code,
-        portion: worse_of(grading.grade, unit.prerequisite),
-        plan: state.in_force(),
-        standing: phase.standing(grading.fails, false),
-        cusums: cusums,
-    }
-}
-
-// Recovers the portion of a unit, if it is marked recoverable, in its result record.
-fn recover(unit: SampleUnit, designated: u8, results: &mut [u8], start: usize)
-    requires { ⌜ start + resultSize ≤ length (now results) ⌝ }
-    ensures { λ _. ⌜ now (results .exit) ≡ recoveredIn (now (results .entry)) start designated unit ⌝ }
-{
-    if unit.recoverable {
-        results[start + PORTION_GRADE_OFFSET] = worse_of(designated, unit.prerequisite);
-        results[start + STANDING_OFFSET] = RECOVERED;
-    }
-}
-
-// Recovers the unit at a place, at which step 3 ends, and the two right before it.
-fn recover_three(bytes: &[u8], place: Place, designated: u8, results: &mut [u8])
-    requires { ⌜ ThreeHere (now bytes) place (length (now results)) ⌝ }
-    ensures { λ _. ⌜ now (results .exit) ≡ threeRecovered (now (bytes .entry)) place designated (now (results .entry)) ⌝ }
-{
-    let at = place.at;
-    let start = RESULT_SIZE * place.units;
-    let first = sample_unit_at(bytes, at - 2 * UNIT_SIZE);
-    let second = sample_unit_at(bytes, at - UNIT_SIZE);
-    let third = sample_unit_at(bytes, at);
-    recover(first, designated, results, start - 2 * RESULT_SIZE);
-    recover(second, designated, results, start - RESULT_SIZE);
-    recover(third, designated, results, start);
-}
-
-// Writes a result record into the rest of the buffer, from its start.
-fn write_at(results: &mut [u8], at: usize, result: ResultRecord)
-    requires { ⌜ at + resultSize ≤ length (now results) ⌝ }
-    ensures { λ _. ⌜ now (results .exit) ≡ sets (now (results .entry)) at (resultBytes ungraded result) ⌝ }
-{
-    results::write(&mut results[at..], result, UNGRADED);
 }
 
 // The defect grade of a unit under the plan of a grade, by whether it fails.

@@ -1,8 +1,8 @@
 -- The three units read back from the sheet, each recovered in its own record.
-use Rattle.writing.specs.Writing.{threeRecovered}
+use Rattle.recording.specs.Recovering.{threeRecovered}
 use borrow.Author.Needs.{needs}
-use Rattle.writing.proofs.recover_three.Statement.{statement}
-use Rattle.writing.proofs.recover_three.Tie as tie
+use Rattle.recording.proofs.recover_three.Statement.{statement}
+use Rattle.recording.proofs.recover_three.Tie as tie
 
 mul-start : tie.Need-mul-start
 mul-start c = search needs

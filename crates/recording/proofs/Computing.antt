@@ -1,6 +1,6 @@
 -- What it takes to compute with the definitions of this crate and of those below it: `unfolding computing` opens them all.
 use Prim.Native.Nat.{ℕ}
-use Rattle.writing.specs.Sheet.{sheetOf, resultWith, resultOf}
+use Rattle.recording.specs.Sheet.{sheetOf, resultWith, resultOf}
 use Rattle.results.proofs.Computing as results
 use Rattle.rules.proofs.Computing as rules
 use Rattle.layout.proofs.Computing as layout

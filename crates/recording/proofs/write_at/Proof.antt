@@ -8,8 +8,8 @@ use Rattle.results.specs.Record.{resultBytes}
 use Rattle.results.proofs.Stores.{lent-back}
 use Rattle.codes.specs.Codes.{ungraded}
 use borrow.Author.Needs.{needs}
-use Rattle.writing.proofs.write_at.Statement.{statement}
-use Rattle.writing.proofs.write_at.Tie as tie
+use Rattle.recording.proofs.write_at.Statement.{statement}
+use Rattle.recording.proofs.write_at.Tie as tie
 
 sub-write : tie.Need-sub-write
 sub-write c = search needs

@@ -27,8 +27,8 @@ use Rattle.results.specs.declared.ResultRecord.{ResultRecord}
 use Rattle.results.proofs.Stores.{set-behind}
 use Rattle.results.proofs.Written.{written-alike, length-written, written-none, written-unit, unit-added}
 use Rattle.codes.specs.Codes.{ungraded}
-use Rattle.writing.specs.Sheet.{resultWith, resultIf, resultOf}
-use Rattle.writing.specs.Writing.{endedAt, recoveredSoFar, recordingSoFar, writtenAt, writtenSoFar, recoveredIn}
+use Rattle.recording.specs.Sheet.{resultWith, resultIf, resultOf}
+use Rattle.recording.specs.Recovering.{endedAt, recoveredSoFar, recordingSoFar, writtenAt, writtenSoFar, recoveredIn}
 
 -- what is recorded where a unit is recovered by this test
 abbrev recordingWith : Sheet → (ℕ → SampleUnit → Bool) → ℕ → SampleUnit → ResultRecord

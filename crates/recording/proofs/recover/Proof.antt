@@ -4,10 +4,10 @@ use native.Mathlib.Omega.{arith}
 use lib.ListN.{length-set}
 use Rattle.units.specs.Conditions.{pick}
 use Rattle.results.specs.Record.{portionGradeOffset}
-use Rattle.writing.specs.Writing.{recoveredIn}
+use Rattle.recording.specs.Recovering.{recoveredIn}
 use borrow.Author.Needs.{needs}
-use Rattle.writing.proofs.recover.Statement.{statement}
-use Rattle.writing.proofs.recover.Tie as tie
+use Rattle.recording.proofs.recover.Statement.{statement}
+use Rattle.recording.proofs.recover.Tie as tie
 
 worse-of-requires : tie.Need-worse-of-requires
 worse-of-requires c κs = search needs

@@ -1,9 +1,9 @@
 -- Field by field; the portion grade of a unit that is not recovered goes by its defect grade.
 use Rattle.units.specs.Unit.{portionGradeOf}
-use Rattle.writing.specs.Sheet.{resultWith}
+use Rattle.recording.specs.Sheet.{resultWith}
 use borrow.Author.Needs.{needs}
-use Rattle.writing.proofs.result_of.Statement.{statement}
-use Rattle.writing.proofs.result_of.Tie as tie
+use Rattle.recording.proofs.result_of.Statement.{statement}
+use Rattle.recording.proofs.result_of.Tie as tie
 
 worse-of-requires : tie.Need-worse-of-requires
 worse-of-requires c κs = search needs

@@ -1,0 +1,2 @@
+pub mod Recovering
+pub mod Computing
