@@ -3,10 +3,10 @@ use Rattle.tally.proofs.grade.Met as grade
 use Rattle.hatmuyon.proofs.hatmuyon_grade.Met as hatmuyon_grade
 use Rattle.lines.proofs.print_into.Met as print_into
 use Rattle.demands.specs.Demands.{Demands}
-use Rattle.demands.proofs.Bytes.{paper-layout}
-use Rattle.demands.proofs.Listed.{demand1}
-use Rattle.demands.proofs.Grounds.{demand2-grounds}
-use Rattle.demands.proofs.NeverOverfull.{never-overfull}
+use Rattle.answers.proofs.Bytes.{paper-layout}
+use Rattle.answers.proofs.Listed.{demand1}
+use Rattle.answers.proofs.Grounds.{demand2-grounds}
+use Rattle.answers.proofs.NeverOverfull.{never-overfull}
 use Rattle.demands.proofs.Graded.{demand2-records}
 use Rattle.demands.proofs.LargestOf.{demand3-largest-form}
 use Rattle.demands.proofs.NeverWorse.{demand3-fewer-defects}

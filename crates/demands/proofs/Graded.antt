@@ -44,11 +44,11 @@ use Rattle.tally.specs.Accepted.{AcceptedAs, sheetIn, UnitAt, recordedPortionGr
 use Rattle.tally.proofs.AcceptedSheet.{accepted-sheet}
 use Rattle.tally.proofs.Entries.{unit-is, new-grades}
 use Rattle.tally.proofs.Overfull.{cusum-graded}
-use Rattle.demands.specs.Grounds.{startIn, toleranceIn, limitIn, newGrade, IsBreak, IsRedesignation}
+use Rattle.answers.specs.Grounds.{startIn, toleranceIn, limitIn, newGrade, IsBreak, IsRedesignation}
 use Rattle.demands.specs.Course.{Course, tenTimes, prerequisite, SecondFails, Qualifies, AmongThree, Recovered, Restart, RuleTwo, BestLowerGrade, RuleThree, Rules, SameBefore, SameAt}
 use Rattle.demands.specs.Demand2.{recordedStanding, UnitRecorded, WorstOfCode, SameRecords, SameWords, Demand2Records}
-use Rattle.demands.proofs.Tells.{told, not-told}
-use Rattle.demands.proofs.Rows.{designated-just-before, is-redesignation-mark, redesignation-mark-is}
+use Rattle.answers.proofs.Tells.{told, not-told}
+use Rattle.answers.proofs.Rows.{designated-just-before, is-redesignation-mark, redesignation-mark-is}
 use Rattle.demands.proofs.CourseWords as words
 use Rattle.demands.proofs.CourseWords.{unitIn, courseOf, break-entry, redesignation-entry}
 use Rattle.demands.proofs.OneCourse.{settled, one-course}

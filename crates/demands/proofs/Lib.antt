@@ -1,11 +1,4 @@
 pub mod Recorded
-pub mod Listed
-pub mod Tells
-pub mod Rows
-pub mod Bytes
-pub mod FirstRow
-pub mod Grounds
-pub mod NeverOverfull
 pub mod CourseWords
 pub mod OneCourse
 pub mod Graded

@@ -9,7 +9,7 @@ use Rattle.encoding.specs.Bytes.{byte, number}
 use Rattle.units.specs.Words.{substandard, classes, worse}
 use Rattle.layout.specs.Layout.{countOffset, prerequisiteOffset, recoverableOffset, offset}
 use Rattle.tally.specs.Accepted.{UnitAt}
-use Rattle.demands.specs.Grounds.{startIn, toleranceIn, limitIn, IsRedesignation, IsBreak, newGrade, DesignatedJustBefore}
+use Rattle.answers.specs.Grounds.{startIn, toleranceIn, limitIn, IsRedesignation, IsBreak, newGrade, DesignatedJustBefore}
 
 -- before record i: whether step 3 stands, the designated grade, the grade of the plan in force (3 if none), the CuSum of each class.
 -- Of the unit that is record i: its CuSums and its defect grade. CuSums are tenths

@@ -17,8 +17,8 @@ use Rattle.results.specs.Record.{markIn, codeIn, planGradeIn, standingIn}
 use Rattle.tally.specs.declared.Answer.{Answer}
 use Rattle.tally.specs.Outcome.{recordsIn}
 use Rattle.tally.specs.Accepted.{AcceptedAs, sheetIn, UnitAt, recordedCusum, recordedPortionGrade, recordedCodeGrade, numbersInForce}
-use Rattle.demands.specs.Tells.{Tells}
-use Rattle.demands.specs.Grounds.{startIn, toleranceIn, limitIn, IsUnit, IsRedesignation}
+use Rattle.answers.specs.Tells.{Tells}
+use Rattle.answers.specs.Grounds.{startIn, toleranceIn, limitIn, IsUnit, IsRedesignation}
 use Rattle.demands.specs.Course.{Course, classCounts, prerequisite, ClassFails, UnitFails, SecondFails, Recovered, Restart, Rules, SameBefore, SameAt}
 
 -- ---- what is recorded of a unit

@@ -6,9 +6,9 @@
 use Rattle.tally.proofs.grade.Statement as grade
 use Rattle.hatmuyon.proofs.hatmuyon_grade.Statement as hatmuyon_grade
 use Rattle.lines.proofs.print_into.Statement as print_into
-use Rattle.demands.specs.Bytes.{PaperLayout}
-use Rattle.demands.specs.Demand1.{Demand1}
-use Rattle.demands.specs.Grounds.{Demand2Grounds, NeverOverfull}
+use Rattle.answers.specs.Bytes.{PaperLayout}
+use Rattle.answers.specs.Demand1.{Demand1}
+use Rattle.answers.specs.Grounds.{Demand2Grounds, NeverOverfull}
 use Rattle.demands.specs.Demand2.{Demand2Records}
 use Rattle.demands.specs.Demand3.{Demand3LargestForm, Demand3FewerDefects}
 use Rattle.computed.specs.Peach.{SmallSheets}

@@ -4,23 +4,21 @@ use Prim.Native.Nat.{ℕ, suc, _+_, _*_, _<_, _≤_}
 use mathlib.Core.Path.{_≡_}
 use mathlib.Core.Bool.{Bool, true, false}
 use mathlib.Core.List.{List, [], _∷_, _++_}
-use mathlib.Core.Logic.{_⊎_}
 use lib.ListN.{length, drop}
 use lib.IntN.{pos}
 use Rattle.cusum.specs.LargestForm.{largestForm}
 use Rattle.units.specs.Words.{substandard, classes, worse}
 use Rattle.rules.specs.TwoInARow.{secondInARow}
 use Rattle.rules.specs.Anchor.{classFailsAt, countsFrom, Anchor, Latest, anchorValue}
-use Rattle.sheet.specs.Refusals.{recordRefusal}
 use Rattle.results.specs.Record.{resultSize}
-use Rattle.tally.specs.Outcome.{outcome}
 use Rattle.tally.specs.Accepted.{sheetIn, recordedCusum, recordedPortionGrade, recordedCodeGrade, numbersInForce}
-use Rattle.demands.specs.Grounds.{toleranceIn, limitIn, Ground, row}
+use Rattle.answers.specs.Grounds.{toleranceIn, limitIn, row}
+use Rattle.answers.specs.AnswerInstances.{AnswerInstances}
 use Rattle.demands.specs.Course.{Course, tenTimes, prerequisite, UnitFails, Recovered, Rules}
 use Rattle.demands.specs.Demand2.{recordedMark, recordedCode, recordedPlanGrade, recordedStanding, codeOf}
 use Rattle.demands.specs.Demand3.{AnchorAt}
 use Rattle.computed.specs.WorkedCases.{peach, peachResults}
-use Rattle.computed.specs.FurtherSheets.{breakBetweenFailures, breakBetweenFailuresResults, everyKindOfRecord, everyKindOfRecordResults, oneMinorDefectFewer, oneMinorDefectFewerResults, oneSevereDefectFewer, oneSevereDefectFewerResults, grounds8And9, ground11ByLastRedesignation}
+use Rattle.computed.specs.FurtherSheets.{breakBetweenFailures, breakBetweenFailuresResults, everyKindOfRecord, everyKindOfRecordResults, oneMinorDefectFewer, oneMinorDefectFewerResults, oneSevereDefectFewer, oneSevereDefectFewerResults}
 
 -- ---- the sheets
 
@@ -59,28 +57,7 @@ abbrev pub Each : {A : Type 0} → List A → (A → Type 0) → Type 0
 Each [] P = Unit
 Each (member ∷ members) P = P member × Each members P
 
--- ---- demand 1
-
--- refused with 11 at record 3, behind two redesignations and a unit
-pub record RefusedInstance : Type 0 where
-  -- no record before that is refused
-  pub earlier : (j : ℕ) → j < 3 → recordRefusal ground11ByLastRedesignation j ≡ 0
-  -- every buffer keeps every byte
-  pub kept : (buffer : List ℕ) → outcome ground11ByLastRedesignation buffer .buffer ≡ buffer
-
--- the peach sheet, accepted with seven units: every byte behind their result records is kept
-abbrev pub AcceptedInstance : Type 0
-AcceptedInstance =
-    (buffer : List ℕ) → resultSize * 7 ≤ length buffer → drop (resultSize * 7) (outcome peach buffer .buffer) ≡ drop (resultSize * 7) buffer
-
 -- ---- demand 2
-
-pub record GroundInstance : Type 0 where
-  -- refused with 8 at record 1: at no place before it is there a ground, and at its mark none of an upper row
-  pub none-earlier : (buffer : List ℕ) (number' at' : ℕ) → (at' < 89) ⊎ ((at' ≡ 89) × (row number' < row 8))
-      → Ground grounds8And9 buffer number' at' → ⊥
-  -- the peach sheet is accepted, and no ground applies
-  pub none-accepted : (buffer : List ℕ) → resultSize * 7 ≤ length buffer → (number at : ℕ) → Ground peach buffer number at → ⊥
 
 -- how a standing is recorded: 0 met the designated plan, 1 failed it, 2 in step 3 and not recovered, 3 recovered
 unfoldable pub standingByte : Standing → ℕ
@@ -190,11 +167,8 @@ pub record FewerTwiceInstance (buffer buffer' : List ℕ) : Type 0 where
 -- ---- together
 
 pub record Instances : Type 0 where
-  -- demand 1
-  pub refused : RefusedInstance
-  pub accepted : AcceptedInstance
-  -- demand 2, the grounds
-  pub grounds : GroundInstance
+  -- demand 1, and the grounds of demand 2
+  pub answers : AnswerInstances
   -- demand 2, the records, in every buffer with room: the courses of both sheets; code 5 of the one, code 300, met again apart, of the other
   pub course : (buffer : List ℕ) → resultSize * 7 ≤ length buffer → CourseInstance peach (peachLeft buffer) peachStandings
   pub every-kind-course : (buffer : List ℕ) → resultSize * 6 ≤ length buffer

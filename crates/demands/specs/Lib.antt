@@ -1,7 +1,3 @@
-pub mod Tells
-pub mod Demand1
-pub mod Grounds
-pub mod Bytes
 pub mod Course
 pub mod Demand2
 pub mod Demand3

@@ -18,7 +18,7 @@ use Rattle.sheet.proofs.Accepted.{Stops}
 use Rattle.sheet.proofs.Listed.{refusal-listed}
 use Rattle.results.specs.Record.{resultSize}
 use Rattle.tally.specs.Outcome.{overfullBefore, Outcome, refusal, acceptance, outcomeBy, outcome}
-use Rattle.demands.specs.Demand1.{StoppedAt, Listed, Demand1}
+use Rattle.answers.specs.Demand1.{StoppedAt, Listed, Demand1}
 use Rattle.tally.proofs.AcceptedSheet.{accepted-sheet, refused-untouched, rest-untouched}
 
 stopped : {bytes : List ℕ} {number at : ℕ} → Stops bytes 0 number at → StoppedAt bytes number at

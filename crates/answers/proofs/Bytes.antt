@@ -8,8 +8,8 @@ use Rattle.encoding.specs.Bytes.{number}
 use Rattle.layout.specs.Layout.{sizeOf, offset, unitsIn, unitsBefore}
 use Rattle.layout.specs.declared.Mark.the-variants.{UnitMark, RedesignationMark, BreakMark}
 use Rattle.layout.proofs.Units.{offset-behind, units-behind}
-use Rattle.demands.specs.Bytes.{Sizes, Fields, Records, Results, PaperLayout}
-use Rattle.demands.proofs.Rows.{is-unit-mark, is-redesignation-mark, is-break-mark}
+use Rattle.answers.specs.Bytes.{Sizes, Fields, Records, Results, PaperLayout}
+use Rattle.answers.proofs.Rows.{is-unit-mark, is-redesignation-mark, is-break-mark}
 
 sizes : Sizes
 sizes =

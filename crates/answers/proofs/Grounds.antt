@@ -24,9 +24,9 @@ use Rattle.recording.specs.Sheet.{sheetOf}
 use Rattle.tally.specs.declared.Answer.{Answer}
 use Rattle.tally.specs.Outcome.{overfullBefore, Outcome, refusal, acceptance, outcomeBy, outcome}
 use Rattle.tally.proofs.Overfull.{none-overfull, cusum-fits}
-use Rattle.demands.specs.Grounds.{PlanRow, RecordRow, BufferRow, row13, row14, Ground, of-plan, of-record, of-buffer, rowsAbove, row, Earlier, FirstRowMet, WholeSheet, RefusedByGround, Demand2Grounds}
-use Rattle.demands.proofs.Rows.{is-unit-mark}
-use Rattle.demands.proofs.FirstRow.{InRows, own-row, first-none, first-met, First, plan-in-rows, plan-rows, plan-first, record-in-rows, record-rows, record-first}
+use Rattle.answers.specs.Grounds.{PlanRow, RecordRow, BufferRow, row13, row14, Ground, of-plan, of-record, of-buffer, rowsAbove, row, Earlier, FirstRowMet, WholeSheet, RefusedByGround, Demand2Grounds}
+use Rattle.answers.proofs.Rows.{is-unit-mark}
+use Rattle.answers.proofs.FirstRow.{InRows, own-row, first-none, first-met, First, plan-in-rows, plan-rows, plan-first, record-in-rows, record-rows, record-first}
 
 -- ---- the places in order
 

@@ -8,7 +8,7 @@ use Rattle.encoding.specs.Bytes.{byte, number}
 use Rattle.units.specs.Words.{plannedGrades, classes}
 use Rattle.layout.specs.Layout.{markSize, gradeOffset, planSize, codeOffset, countsOffset, kinds, countOffset, prerequisiteOffset, recoverableOffset, unitSize, redesignationSize, offset, unitsBefore}
 use Rattle.results.specs.Record.{resultSize, markIn, codeIn, portionGradeIn, codeGradeIn, planGradeIn, standingIn, cusumIn}
-use Rattle.demands.specs.Grounds.{startIn, toleranceIn, limitIn}
+use Rattle.answers.specs.Grounds.{startIn, toleranceIn, limitIn}
 
 -- how long each record is, and how many of each there are
 pub record Sizes : Type 0 where

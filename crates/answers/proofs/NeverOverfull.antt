@@ -20,10 +20,10 @@ use Rattle.recording.specs.Sheet.{sheetOf}
 use Rattle.tally.specs.declared.Answer.{Answer}
 use Rattle.tally.specs.Outcome.{overfullBefore, refusal, acceptance, outcomeBy, outcome}
 use Rattle.tally.proofs.Overfull.{none-overfull}
-use Rattle.demands.specs.Demand1.{Listed}
-use Rattle.demands.specs.Grounds.{CusumAbove, row14, Ground, of-buffer, RefusedByGround, NeverOverfull}
-use Rattle.demands.proofs.Listed.{demand1}
-use Rattle.demands.proofs.Grounds.{demand2-grounds}
+use Rattle.answers.specs.Demand1.{Listed}
+use Rattle.answers.specs.Grounds.{CusumAbove, row14, Ground, of-buffer, RefusedByGround, NeverOverfull}
+use Rattle.answers.proofs.Listed.{demand1}
+use Rattle.answers.proofs.Grounds.{demand2-grounds}
 
 never-by : (bytes buffer : List ℕ) (v : Verdict) → verdict bytes ≡ v → outcomeBy bytes buffer v .answer .number ≡ 14 → ⊥
 unfolding outcomeBy acceptance pick

@@ -13,10 +13,10 @@ use Rattle.encoding.specs.Bytes.{byte, number}
 use Rattle.layout.specs.Layout.{markSize, gradeOffset, kinds, countOffset, prerequisiteOffset, recoverableOffset, unitSize, redesignationSize, offset, mark, unitsBefore}
 use Rattle.layout.specs.declared.Mark.{Mark}
 use Rattle.sheet.specs.Refusals.{refusedIf, tableRefusal, planRefusal, unitRefusal, redesignationRefusal, refusalBy, refusalAt, designatedBefore, recordRefusal}
-use Rattle.demands.specs.Grounds.{NoPlanRecord, DesignatedAbove, DesignatedJustBefore, NumberAbove, StartAboveLimit, SmallerLower, IsUnit, IsRedesignation, IsBreak, newGrade, PlanRow, row1, row2, row3, row4, row5, RecordRow, row6, row7, row8, row9, row10, row11, row12, rows, rowsAbove, row}
-use Rattle.demands.specs.Tells.{Tells}
-use Rattle.demands.proofs.Tells.{tells-lt, tells-le, tells-as, tells-or}
-use Rattle.demands.proofs.Rows.{tells-1, tells-3, tells-4, tells-5, Marked, as-unit, as-redesignation, as-break, as-none, marked, tells-8, tells-11}
+use Rattle.answers.specs.Grounds.{NoPlanRecord, DesignatedAbove, DesignatedJustBefore, NumberAbove, StartAboveLimit, SmallerLower, IsUnit, IsRedesignation, IsBreak, newGrade, PlanRow, row1, row2, row3, row4, row5, RecordRow, row6, row7, row8, row9, row10, row11, row12, rows, rowsAbove, row}
+use Rattle.answers.specs.Tells.{Tells}
+use Rattle.answers.proofs.Tells.{tells-lt, tells-le, tells-as, tells-or}
+use Rattle.answers.proofs.Rows.{tells-1, tells-3, tells-4, tells-5, Marked, as-unit, as-redesignation, as-break, as-none, marked, tells-8, tells-11}
 
 -- ---- a chain of refusals at one place
 

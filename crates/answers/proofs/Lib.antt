@@ -1,0 +1,8 @@
+pub mod Listed
+pub mod Tells
+pub mod Rows
+pub mod FirstRow
+pub mod Grounds
+pub mod NeverOverfull
+pub mod Bytes
+pub mod AnswerInstances

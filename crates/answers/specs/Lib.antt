@@ -1,0 +1,5 @@
+pub mod Tells
+pub mod Demand1
+pub mod Grounds
+pub mod Bytes
+pub mod AnswerInstances
