@@ -1,6 +1,6 @@
 -- Demand 1 and the grounds of demand 2 once more on concrete sheets, written out here and proved from their theorems: statements for
 -- fewer sheets or records, or without one of the parts used here, would no longer give these.
-use Prim.Native.Nat.{ℕ, _+_, _*_, _<_, _≤_}
+use Prim.Native.Nat.{ℕ, _*_, _<_, _≤_}
 use mathlib.Core.Path.{_≡_}
 use mathlib.Core.List.{List}
 use mathlib.Core.Logic.{_⊎_}

@@ -1,6 +1,6 @@
 -- Each demand on its concrete sheets, from the demand's theorem. Only its premises are computed: which answer a sheet gets, which records
 -- are units, of which standing and with which code, that a plan is in force, where two units in a row fail.
-use Prim.Native.Nat.{ℕ, _*_, _<_, _≤_}
+use Prim.Native.Nat.{ℕ, _*_, _≤_}
 use mathlib.Core.Path.{_≡_, refl, sym}
 use mathlib.Core.Bool.{true, false}
 use mathlib.Core.List.{List, [], _∷_}

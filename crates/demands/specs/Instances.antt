@@ -12,7 +12,7 @@ use Rattle.rules.specs.TwoInARow.{secondInARow}
 use Rattle.rules.specs.Anchor.{classFailsAt, countsFrom, Anchor, Latest, anchorValue}
 use Rattle.results.specs.Record.{resultSize}
 use Rattle.tally.specs.Accepted.{sheetIn, recordedCusum, recordedPortionGrade, recordedCodeGrade, numbersInForce}
-use Rattle.answers.specs.Grounds.{toleranceIn, limitIn, row}
+use Rattle.answers.specs.Grounds.{toleranceIn, limitIn}
 use Rattle.answers.specs.AnswerInstances.{AnswerInstances}
 use Rattle.demands.specs.Course.{Course, tenTimes, prerequisite, UnitFails, Recovered, Rules}
 use Rattle.demands.specs.Demand2.{recordedMark, recordedCode, recordedPlanGrade, recordedStanding, codeOf}

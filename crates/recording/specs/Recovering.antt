@@ -9,7 +9,7 @@ use Rattle.units.specs.Words.{worse}
 use Rattle.units.specs.Conditions.{pick}
 use Rattle.units.specs.Records.{unitsAmong}
 use Rattle.units.specs.declared.SampleUnit.{SampleUnit}
-use Rattle.rules.specs.Sheet.{Sheet, before, stepThreeEndsAt}
+use Rattle.rules.specs.Sheet.{Sheet, stepThreeEndsAt}
 use Rattle.layout.specs.Layout.{unitSize, sampleUnitAt}
 use Rattle.layout.specs.declared.Place.{Place}
 use Rattle.results.specs.Record.{resultSize, portionGradeOffset, standingOffset}

@@ -2,7 +2,7 @@
 -- lower grade is then the worse of their defect grades. The state remembers the record just before: a failure outside step 3, none in it.
 use Prim.Native.Nat.{ℕ, zero, suc}
 use mathlib.Core.Path.{_≡_, refl, sym, _∙_, ap}
-use mathlib.Core.Bool.{Bool, true, false, not, _&&_, false≢true, true≢false}
+use mathlib.Core.Bool.{Bool, true, false, _&&_, false≢true, true≢false}
 use mathlib.Core.List.{List}
 use Rattle.cusum.specs.declared.Cusum.{Cusum}
 use Rattle.units.proofs.Tests.{and-both, and-false}

@@ -16,7 +16,7 @@ use Rattle.rules.specs.StepThree.{opening, next, recordEndsStepThree}
 use Rattle.rules.specs.Sheet.{Sheet, before, stepThreeEndsAt}
 use Rattle.rules.specs.declared.State.{State}
 use Rattle.layout.specs.Layout.{planOf, markSize, markAt, sizeOf, entryOf, offset, entryAt, unitsIn, unitsBefore}
-use Rattle.layout.specs.Walk.{firstPlace, placeAt, placeAfter, Walk, largestOffset, RoomPast}
+use Rattle.layout.specs.Walk.{firstPlace, placeAt, placeAfter, largestOffset, RoomPast}
 use Rattle.layout.specs.declared.Mark.{Mark}
 use Rattle.layout.specs.declared.Mark.the-variants.{UnitMark, RedesignationMark, BreakMark, NoMark}
 use Rattle.layout.specs.declared.Place.{Place}

@@ -14,17 +14,15 @@ use Rattle.units.specs.Records.{unitsAmong}
 use Rattle.units.specs.declared.SampleUnit.{SampleUnit}
 use Rattle.units.specs.declared.SteppedClasses.{SteppedClasses}
 use Rattle.units.specs.declared.Grading.{Grading}
-use Rattle.units.specs.declared.Entry.{Entry}
 use Rattle.units.specs.declared.Entry.the-variants.{UnitRecord}
 use Rattle.units.proofs.Planned.{stepped-under}
 use Rattle.rules.specs.StepThree.{inStepThree, inForceIn, inForce, endsStepThree, graded, qualifiesWith, qualifiesIn, afterUnit, next, recordEndsStepThree}
 use Rattle.rules.specs.Sheet.{Sheet, before, designatedAt, stepThreeEndsAt}
 use Rattle.rules.specs.declared.Phase.{Phase}
-use Rattle.rules.specs.declared.Phase.the-variants.{Designated, StepThree}
+use Rattle.rules.specs.declared.Phase.the-variants.{Designated}
 use Rattle.rules.specs.declared.State.{State}
 use Rattle.rules.proofs.FinishedRun.{FinishedRun, finished-run}
 use Rattle.layout.specs.Layout.{unitSize, sizeOf, markAt, sampleUnitAt, offset, mark, unitsBefore}
-use Rattle.layout.specs.declared.Mark.{Mark}
 use Rattle.layout.specs.declared.Mark.the-variants.{UnitMark}
 use Rattle.layout.specs.declared.Place.{Place}
 use Rattle.layout.proofs.Walk.{at-is, units-are, whole-here}

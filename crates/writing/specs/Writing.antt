@@ -1,5 +1,5 @@
 -- For contracts of private functions: where the writing stands, and how it goes on.
-use Prim.Native.Nat.{ℕ, suc, _+_, _*_, _-_, _≤_, _<_}
+use Prim.Native.Nat.{ℕ, suc, _*_, _≤_, _<_}
 use mathlib.Core.Path.{_≡_}
 use mathlib.Core.Bool.{true}
 use mathlib.Core.List.{List}
@@ -17,7 +17,6 @@ use Rattle.layout.specs.Layout.{planOf, entryAt, unitsBefore}
 use Rattle.layout.specs.Walk.{placeAt, Walk}
 use Rattle.layout.specs.declared.Place.{Place}
 use Rattle.results.specs.Record.{resultSize}
-use Rattle.results.specs.Written.{written}
 use Rattle.writing.specs.declared.Position.{Position}
 use Rattle.recording.specs.Sheet.{sheetOf}
 use Rattle.writing.specs.Writable.{Writable}

@@ -1,7 +1,7 @@
 // Writing the result records of a sheet, no code graded yet.
 ghost use mathlib.Core.Path.{_≡_};
 ghost use mathlib.Core.Bool.{true, false, cond};
-ghost use Prim.Native.Nat.{suc, _+_, _*_};
+ghost use Prim.Native.Nat.{suc, _*_};
 ghost use mathlib.Core.List.{_++_};
 ghost use lib.ListN.{length, drop};
 ghost use Rattle.rules.specs.StepThree.{next, inStepThree};
