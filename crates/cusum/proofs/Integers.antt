@@ -93,11 +93,16 @@ max-plus x y z = go (leb (up x + down y) (up y + down x)) (leb→le _ _) (nleb�
         ap (λ (w : ℤ). w +ℤ z) (max-left x y (omega arith))
         ∙ sym (max-left (x +ℤ z) (y +ℤ z) (omega (arith, plus-is x z, plus-is y z)))
 
+-- an integer less a natural
+pub less-is : (x : ℤ) (b : ℕ) → up (x -ℤ pos b) + (b + down x) ≡ down (x -ℤ pos b) + up x
+unfolding up down
+less-is x zero = omega (arith, plus-is x (pos 0))
+less-is x (suc b) = omega (arith, plus-is x (negsuc b))
+
 -- a - b, for two naturals
 pub difference-is : (a b : ℕ) → up (pos a -ℤ pos b) + b ≡ down (pos a -ℤ pos b) + a
 unfolding up down
-difference-is a zero = omega arith
-difference-is a (suc b) = omega (arith, sub-is a (suc b))
+difference-is a b = omega (arith, less-is (pos a) b)
 
 -- ---- the largest of a list
 

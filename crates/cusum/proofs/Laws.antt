@@ -1,5 +1,5 @@
--- Laws of a CuSum's step: rule 2 in natural numbers, that it is monotone, that a CuSum is at most its L, and where a class that
--- fails or meets stands. Through the raw value as a difference of naturals, and omega.
+-- Laws of a CuSum's step: rule 2 in natural numbers, that it is monotone, that a CuSum is at most its L, where a class that fails or
+-- meets stands, and how far over it is. Through the raw value as a difference of naturals, and omega.
 use Prim.Native.Nat.{ℕ, _+_, _-_, _≤_, _<_, min}
 use mathlib.Core.Path.{_≡_, refl, sym, _∙_, ap}
 use mathlib.Core.Bool.{Bool, true, false, cond}
@@ -8,11 +8,11 @@ use lib.Dec.{ltb}
 use lib.IntN.{ℤ, pos, negsuc, _+ℤ_, _-ℤ_}
 use borrow.Author.Tests.{ltb-true, ltb-false, lt-ltb, le-ltb}
 use Rattle.cusum.specs.Integers.{maxℤ}
-use Rattle.cusum.specs.Step.{tenthsOf, rawValue, aboveLimit, cusumOf, fails, newCusum, stepOf}
+use Rattle.cusum.specs.Step.{tenthsOf, rawValue, aboveLimit, cusumOf, overshootOf, fails, newCusum, overshoot, stepOf}
 use Rattle.cusum.specs.LargestForm.{defectsLessT}
 use Rattle.cusum.specs.declared.PlanNumbers.{PlanNumbers}
 use Rattle.cusum.specs.declared.Cusum.{Cusum}
-use Rattle.cusum.proofs.Integers.{up, down, eq-of, plus-is, difference-is, up-max, down-max, one-side}
+use Rattle.cusum.proofs.Integers.{up, down, eq-of, plus-is, less-is, difference-is, up-max, down-max, one-side}
 
 -- ---- the same in natural numbers
 
@@ -30,6 +30,15 @@ cusum-of-is l (pos r) = go (ltb (l .limit) r) refl
     go false e = omega (arith, ltb-false (l .limit) r e)
 cusum-of-is l (negsuc r) = omega arith
 
+overshoot-of-is : (l : PlanNumbers) (r : ℤ) → overshootOf l r ≡ up r - l .limit
+unfolding overshootOf up
+overshoot-of-is l (pos r) = go (ltb (l .limit) r) refl
+  where
+    go : (t : Bool) → ltb (l .limit) r ≡ t → cond t (r - l .limit) 0 ≡ r - l .limit
+    go true e = refl
+    go false e = omega (arith, ltb-false (l .limit) r e)
+overshoot-of-is l (negsuc r) = omega arith
+
 raw-value-up : (l : PlanNumbers) (old c : ℕ) → up (rawValue l old c) ≡ old + tenthsOf c - l .tolerance
 unfolding rawValue
 raw-value-up l old c = omega (arith, difference-is (old + tenthsOf c) (l .tolerance), one-side (pos (old + tenthsOf c) -ℤ pos (l .tolerance)))
@@ -41,6 +50,10 @@ new-cusum-is l old c = cusum-of-is l (rawValue l old c) ∙ ap (min (l .limit)) 
 pub fails-is : (l : PlanNumbers) (old c : ℕ) → fails l old c ≡ ltb (l .limit) (old + tenthsOf c - l .tolerance)
 unfolding fails
 fails-is l old c = above-limit-is l (rawValue l old c) ∙ ap (ltb (l .limit)) (raw-value-up l old c)
+
+pub overshoot-is : (l : PlanNumbers) (old c : ℕ) → overshoot l old c ≡ old + tenthsOf c - l .tolerance - l .limit
+unfolding overshoot
+overshoot-is l old c = overshoot-of-is l (rawValue l old c) ∙ ap (λ (above : ℕ). above - l .limit) (raw-value-up l old c)
 
 -- ---- laws of a step
 
@@ -74,13 +87,46 @@ met-at l o c e =
     let sign = one-side x in
     eq-of (pos (newCusum l o c)) (maxℤ (pos 0) x) (omega (arith, new-cusum-is l o c, fails-false l o c e, up-max (pos 0) x, down-max (pos 0) x))
 
+-- ---- the overshoot
+
+-- a class fails exactly if its overshoot is above zero
+pub fails-by-overshoot : (l : PlanNumbers) (o c : ℕ) → fails l o c ≡ ltb 0 (overshoot l o c)
+fails-by-overshoot l o c = go (fails l o c) refl
+  where
+    go : (failed : Bool) → fails l o c ≡ failed → failed ≡ ltb 0 (overshoot l o c)
+    go true e = sym (lt-ltb 0 (overshoot l o c) (omega (arith, overshoot-is l o c, fails-true l o c e)))
+    go false e = sym (le-ltb 0 (overshoot l o c) (omega (arith, overshoot-is l o c, fails-false l o c e)))
+
+-- it is the raw value less L where the class fails
+pub overshoot-failed : (l : PlanNumbers) (o c : ℕ) → fails l o c ≡ true → pos (overshoot l o c) ≡ rawValue l o c -ℤ pos (l .limit)
+unfolding rawValue up down
+overshoot-failed l o c e =
+    let sum = o + tenthsOf c in
+    let raw = pos sum -ℤ pos (l .tolerance) in
+    let less = raw -ℤ pos (l .limit) in
+    eq-of (pos (overshoot l o c)) less
+    (omega (arith, overshoot-is l o c, fails-true l o c e, difference-is sum (l .tolerance), less-is raw (l .limit), one-side raw, one-side less))
+
+-- and zero where it met
+pub overshoot-met : (l : PlanNumbers) (o c : ℕ) → fails l o c ≡ false → overshoot l o c ≡ 0
+overshoot-met l o c e = omega (arith, overshoot-is l o c, fails-false l o c e)
+
+pub overshoot-mono : (l : PlanNumbers) (o o' c c' : ℕ) → o ≤ o' → c ≤ c' → overshoot l o c ≤ overshoot l o' c'
+overshoot-mono l o o' c c' h k = omega (arith, overshoot-is l o c, overshoot-is l o' c')
+
+-- it is no more than the defects of the unit, where the CuSum before it is at most L
+pub overshoot-le-tenths : (l : PlanNumbers) (o c : ℕ) → o ≤ l .limit → overshoot l o c ≤ tenthsOf c
+overshoot-le-tenths l o c h = omega (arith, overshoot-is l o c)
+
 -- ---- the step as code takes it: what is above T, zero if nothing is, against L
 
-pub step-is : (l : PlanNumbers) (old : Cusum) (c above new : ℕ) → above ≡ old .tenths + tenthsOf c - l .tolerance → new ≡ min (l .limit) above
-    → record { cusum = record { tenths = new }; fails = ltb (l .limit) above } ≡ stepOf l old c
-step-is l old c above new a n = rw (new-cusum-is l (old .tenths) c, fails-is l (old .tenths) c, ← a, n)
+pub step-is : (l : PlanNumbers) (old : Cusum) (c above new over : ℕ)
+    → above ≡ old .tenths + tenthsOf c - l .tolerance → new ≡ min (l .limit) above → over ≡ above - l .limit
+    → record { cusum = record { tenths = new }; fails = ltb (l .limit) above; overshoot = over } ≡ stepOf l old c
+step-is l old c above new over a n o =
+    rw (new-cusum-is l (old .tenths) c, fails-is l (old .tenths) c, overshoot-is l (old .tenths) c, ← a, n, o)
 
 -- where nothing is above L
 pub step-within : (l : PlanNumbers) (old : Cusum) (c n : ℕ) → old .tenths + tenthsOf c ≤ l .tolerance + l .limit → n ≡ old .tenths + tenthsOf c - l .tolerance
-    → record { cusum = record { tenths = n }; fails = false } ≡ stepOf l old c
-step-within l old c n h k = rw (sym (le-ltb (l .limit) n (omega arith))) (step-is l old c n n k (omega arith))
+    → record { cusum = record { tenths = n }; fails = false; overshoot = 0 } ≡ stepOf l old c
+step-within l old c n h k = rw (sym (le-ltb (l .limit) n (omega arith))) (step-is l old c n n 0 k (omega arith) (omega arith))

@@ -1,6 +1,6 @@
--- A run of steps, none of which fails, from an anchor: the CuSum at its end is the 'largest of' form. By induction on the run,
--- one step unrolled at the front.
-use Prim.Native.Nat.{ℕ}
+-- A run of steps, none of which fails, from an anchor: the CuSum at its end is the 'largest of' form, and at most L. By induction on
+-- the run, one step unrolled at the front.
+use Prim.Native.Nat.{ℕ, _≤_}
 use mathlib.Core.Path.{_≡_, refl, _∙_, ap}
 use mathlib.Core.Bool.{false}
 use mathlib.Core.List.{List, [], _∷_, _++_, map}
@@ -11,7 +11,7 @@ use Rattle.cusum.specs.Step.{fails, newCusum}
 use Rattle.cusum.specs.LargestForm.{defectsLessT, largestForm}
 use Rattle.cusum.specs.declared.PlanNumbers.{PlanNumbers}
 use Rattle.cusum.proofs.Integers.{unroll}
-use Rattle.cusum.proofs.Laws.{met-at}
+use Rattle.cusum.proofs.Laws.{met-at, new-cusum-le-limit}
 
 -- the CuSum after a run of counts
 unfoldable pub after : PlanNumbers → ℕ → List ℕ → ℕ
@@ -30,6 +30,12 @@ run-largest l a (c ∷ cs) m =
     run-largest l (newCusum l a c) cs (m .1)
     ∙ ap (λ (x : ℤ). maxℤ (x +ℤ sumℤ (map (defectsLessT l) cs)) (largestOfZeroAnd (map sumℤ (runsToEnd (map (defectsLessT l) cs))))) (met-at l a c (m .0))
     ∙ unroll a (defectsLessT l c) (map (defectsLessT l) cs)
+
+-- it is at most L, if the anchor is
+pub after-le-limit : (l : PlanNumbers) (a : ℕ) (cs : List ℕ) → a ≤ l .limit → after l a cs ≤ l .limit
+unfolding after
+after-le-limit l a [] h = h
+after-le-limit l a (c ∷ cs) h = after-le-limit l (newCusum l a c) cs (new-cusum-le-limit l a c)
 
 -- one count more at the end
 pub after-snoc : (l : PlanNumbers) (a : ℕ) (cs : List ℕ) (c : ℕ) → after l a (cs ++ c ∷ []) ≡ newCusum l (after l a cs) c

@@ -1,5 +1,5 @@
 -- Rules 1 and 2 of grading a unit, for one class. S, T and L are the fields start, tolerance and limit; all are tenths.
-use Prim.Native.Nat.{ℕ, _+_, _*_}
+use Prim.Native.Nat.{ℕ, _+_, _*_, _-_}
 use mathlib.Core.Bool.{Bool, false, cond}
 use lib.Dec.{ltb}
 use lib.IntN.{ℤ, pos, negsuc, _-ℤ_}
@@ -33,13 +33,25 @@ unfoldable pub cusumOf : PlanNumbers → ℤ → ℕ
 cusumOf numbers (pos raw) = cond (ltb (numbers .limit) raw) (numbers .limit) raw
 cusumOf numbers (negsuc raw) = 0
 
--- rule 2: whether the class fails, and the new CuSum
+-- overshoot: raw value less L if it is above L, and zero where the class met
+unfoldable pub overshootOf : PlanNumbers → ℤ → ℕ
+overshootOf numbers (pos raw) = cond (ltb (numbers .limit) raw) (raw - numbers .limit) 0
+overshootOf numbers (negsuc raw) = 0
+
+-- rule 2: whether the class fails, the new CuSum, and how far over it is
 unfoldable pub fails : PlanNumbers → ℕ → ℕ → Bool
 fails numbers old count = aboveLimit numbers (rawValue numbers old count)
 
 unfoldable pub newCusum : PlanNumbers → ℕ → ℕ → ℕ
 newCusum numbers old count = cusumOf numbers (rawValue numbers old count)
 
+unfoldable pub overshoot : PlanNumbers → ℕ → ℕ → ℕ
+overshoot numbers old count = overshootOf numbers (rawValue numbers old count)
+
 abbrev pub stepOf : PlanNumbers → Cusum → ℕ → Stepped
 stepOf numbers old count =
-    record { cusum = record { tenths = newCusum numbers (old .tenths) count }; fails = fails numbers (old .tenths) count }
+    record {
+      cusum = record { tenths = newCusum numbers (old .tenths) count };
+      fails = fails numbers (old .tenths) count;
+      overshoot = overshoot numbers (old .tenths) count;
+    }

@@ -15,10 +15,11 @@ pub struct Cusum {
     pub tenths: u32,
 }
 
-// What a unit makes of a CuSum: the new one, and whether the class fails.
+// What a unit makes of a CuSum: the new one, whether the class fails, and the overshoot, how many tenths it is over L.
 pub struct Stepped {
     pub cusum: Cusum,
     pub fails: bool,
+    pub overshoot: u64,
 }
 
 // The tenths of a count: a defect is ten tenths.
@@ -28,11 +29,11 @@ pub fn tenths(count: u32) -> u64
     10 * count as u64
 }
 
-// What a sum has above T; zero if nothing.
-fn excess(sum: u64, tolerance: u64) -> u64
-    ensures { λ r. ⌜ r ≡ sum - tolerance ⌝ }
+// What a number of tenths has above a bound; zero if nothing.
+fn excess(tenths: u64, bound: u64) -> u64
+    ensures { λ r. ⌜ r ≡ tenths - bound ⌝ }
 {
-    if tolerance < sum { sum - tolerance } else { 0 }
+    if bound < tenths { tenths - bound } else { 0 }
 }
 
 fn smaller(first: u64, second: u64) -> u64
@@ -56,7 +57,7 @@ impl Cusum {
         }
     }
 
-    // Rule 2: the CuSum after a unit with this count, and whether the class fails.
+    // Rule 2: the CuSum after a unit with this count, whether the class fails, and how far over it is.
     pub fn step(self, numbers: PlanNumbers, count: u32) -> Stepped
         ensures { λ r. ⌜ r ≡ stepOf numbers self count ⌝ }
     {
@@ -68,6 +69,7 @@ impl Cusum {
         Stepped {
             cusum: Cusum { tenths: new as u32 },
             fails: limit < above,
+            overshoot: excess(above, limit),
         }
     }
 }

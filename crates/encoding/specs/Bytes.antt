@@ -1,6 +1,6 @@
--- Numbers of two bytes, with the high byte first.
-use Prim.Native.Nat.{ℕ, _+_, _*_, _/_, _%_}
-use mathlib.Core.List.{List}
+-- Numbers of two bytes and of any width, with the high byte first.
+use Prim.Native.Nat.{ℕ, zero, suc, _+_, _*_, _/_, _%_}
+use mathlib.Core.List.{List, [], _∷_, _++_}
 use lib.ListN.{getD}
 
 abbrev pub byte : List ℕ → ℕ → ℕ
@@ -16,3 +16,15 @@ high value = value / 256 % 256
 
 abbrev pub low : ℕ → ℕ
 low value = value % 256
+
+-- ---- of any width
+
+-- the number that so many bytes from an offset on are
+unfoldable pub wideNumber : ℕ → List ℕ → ℕ → ℕ
+wideNumber zero bytes at = 0
+wideNumber (suc width) bytes at = 256 * wideNumber width bytes at + byte bytes (at + width)
+
+-- so many bytes of a number
+unfoldable pub bytesOf : ℕ → ℕ → List ℕ
+bytesOf zero value = []
+bytesOf (suc width) value = bytesOf width (value / 256) ++ (value % 256 ∷ [])

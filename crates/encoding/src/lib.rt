@@ -1,9 +1,9 @@
-// Numbers of two bytes, with the high byte first.
+// Numbers of two and of four bytes, with the high byte first.
 ghost use mathlib.Core.Path.{_≡_};
 ghost use Prim.Native.Nat.{_+_, _≤_};
 ghost use lib.Dec.{eqb};
 ghost use lib.ListN.{length};
-ghost use Rattle.encoding.specs.Bytes.{number};
+ghost use Rattle.encoding.specs.Bytes.{number, bytesOf};
 
 // The number that stands at an offset.
 pub fn number_at(bytes: &[u8], at: usize) -> u16
@@ -21,4 +21,16 @@ pub fn holds_at(bytes: &[u8], at: usize, value: u16) -> bool
 {
     let low_first = bytes[at] as u16 + 256 * bytes[at + 1] as u16;
     low_first == value % 256 * 256 + value / 256
+}
+
+// The four bytes of a number.
+pub fn four_bytes(value: u64) -> [u8; 4]
+    ensures { λ r. ⌜ r ≡ bytesOf 4 value ⌝ }
+{
+    [
+        (value / 256 / 256 / 256 % 256) as u8,
+        (value / 256 / 256 % 256) as u8,
+        (value / 256 % 256) as u8,
+        (value % 256) as u8,
+    ]
 }

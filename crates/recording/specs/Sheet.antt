@@ -26,6 +26,7 @@ resultWith state unit grading recovered =
       plan = inForce state;
       standing = standingOf (state .phase) (grading .fails) recovered;
       cusums = grading .cusums;
+      overshoots = grading .overshoots;
     }
 
 -- of the unit that is record i, if it is recovered or not

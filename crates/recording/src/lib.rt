@@ -28,12 +28,14 @@ pub fn result_of(state: State, unit: SampleUnit, grading: Grading) -> ResultReco
 {
     let phase = state.phase;
     let cusums = grading.cusums;
+    let overshoots = grading.overshoots;
     ResultRecord {
         code: unit.code,
         portion: worse_of(grading.grade, unit.prerequisite),
         plan: state.in_force(),
         standing: phase.standing(grading.fails, false),
         cusums: cusums,
+        overshoots: overshoots,
     }
 }
 

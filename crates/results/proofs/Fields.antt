@@ -1,36 +1,44 @@
--- The fields of a result record, read back from its bytes. Those before the CuSums by computation; the CuSum of a class by induction on
--- the list of classes, in which a class stands at its own place.
-use Prim.Native.Nat.{ℕ, zero, suc, _+_, _*_, _<_}
+-- The fields of a result record, read back from its bytes. Those before the CuSums by computation; the CuSum and the overshoot of a
+-- class by one induction on the list of classes, for any width: in it a class stands at its own place.
+use Prim.Native.Nat.{ℕ, zero, suc, _+_, _*_, _^_, _<_}
 use mathlib.Core.Path.{_≡_, refl, _∙_, ap}
-use mathlib.Core.List.{List, [], _∷_, _++_}
+use mathlib.Core.List.{List, [], _∷_, _++_, append-assoc}
+use native.Mathlib.Nat.{mul-zero, mul-suc}
 use native.Mathlib.Omega.{arith}
 use lib.ListN.{length, take, getD}
-use Rattle.cusum.specs.declared.Cusum.{Cusum}
-use Rattle.encoding.specs.Bytes.{byte, number, high, low}
-use Rattle.encoding.proofs.Numbers.{number-behind, high-low}
-use Rattle.units.specs.Words.{classes, tenthsIn}
+use Rattle.encoding.specs.Bytes.{byte, number, wideNumber, bytesOf}
+use Rattle.encoding.proofs.Numbers.{number-behind, high-low, wide-behind, number-is-wide, length-bytes, bytes-read}
+use Rattle.units.specs.Words.{classes, tenthsIn, overshootOfClass}
 use Rattle.units.proofs.Classes.{class-at}
 use Rattle.results.specs.declared.ResultRecord.{ResultRecord}
-use Rattle.results.specs.Record.{resultSize, markOffset, codeOffset, portionGradeOffset, codeGradeOffset, planGradeOffset, standingOffset, cusumsOffset, cusumBytes, resultBytes}
+use Rattle.results.specs.Record.{resultSize, markOffset, codeOffset, portionGradeOffset, codeGradeOffset, planGradeOffset, standingOffset, cusumsOffset, cusumSize, overshootsOffset, overshootSize, classBytes, resultBytes}
 
--- ---- the CuSums
+-- ---- a number of each class
 
-cusum-at : (kept : List ℕ) (cusums : List Cusum) (rest : List ℕ) (k : ℕ) → k < length kept → tenthsIn cusums (getD kept k 0) < 65536
-    → number (cusumBytes kept cusums ++ rest) (2 * k) ≡ tenthsIn cusums (getD kept k 0)
-unfolding cusumBytes
-cusum-at [] cusums rest k inside small = absurd (omega arith)
-cusum-at (class ∷ others) cusums rest zero inside small = high-low (tenthsIn cusums class) (cusumBytes others cusums ++ rest) small
-cusum-at (class ∷ others) cusums rest (suc k) inside small =
-    let behind : 2 * suc k ≡ 2 + 2 * k = omega arith in
-    rw behind
-    (number-behind (high (tenthsIn cusums class) ∷ low (tenthsIn cusums class) ∷ []) (cusumBytes others cusums ++ rest) (2 * k)
-    ∙ cusum-at others cusums rest k (omega arith) small)
+class-at-place : (width : ℕ) (value : ℕ → ℕ) (kept rest : List ℕ) (k : ℕ) → k < length kept → value (getD kept k 0) < 256 ^ width
+    → wideNumber width (classBytes width value kept ++ rest) (width * k) ≡ value (getD kept k 0)
+unfolding classBytes
+class-at-place width value [] rest k inside small = absurd (omega arith)
+class-at-place width value (class ∷ others) rest zero inside small =
+    rw (mul-zero width, append-assoc) (bytes-read width (value class) (classBytes width value others ++ rest) small)
+class-at-place width value (class ∷ others) rest (suc k) inside small =
+    let behind : width * suc k ≡ length (bytesOf width (value class)) + width * k = omega (arith, mul-suc width k, length-bytes width (value class)) in
+    rw (behind, append-assoc)
+    (wide-behind width (bytesOf width (value class)) (classBytes width value others ++ rest) (width * k)
+    ∙ class-at-place width value others rest k (omega arith) small)
+
+-- of a class of the list of classes
+class-read : (width : ℕ) (value : ℕ → ℕ) (rest : List ℕ) (class : ℕ) → class < length classes → value class < 256 ^ width
+    → wideNumber width (classBytes width value classes ++ rest) (width * class) ≡ value class
+class-read width value rest class inside small =
+    let own : getD classes class 0 ≡ class = class-at class inside in
+    class-at-place width value classes rest class inside (rw own small) ∙ ap value own
 
 -- ---- the fields
 
 module _ (codeGrade : ℕ) (result : ResultRecord) where
   pub length-result : length (resultBytes codeGrade result) ≡ resultSize
-  unfolding resultBytes cusumBytes
+  unfolding resultBytes classBytes bytesOf
   length-result = refl
 
   module _ (rest : List ℕ) where
@@ -58,11 +66,29 @@ module _ (codeGrade : ℕ) (result : ResultRecord) where
     unfolding resultBytes
     code-read small = high-low (result .code) [] small
 
+    -- the bytes before the CuSums, and those before the overshoots
+    abbrev front : List ℕ
+    front = take cusumsOffset (resultBytes codeGrade result)
+
+    abbrev cusumBytes : List ℕ
+    cusumBytes = classBytes cusumSize (tenthsIn (result .cusums)) classes
+
+    abbrev overshootBytes : List ℕ
+    overshootBytes = classBytes overshootSize (overshootOfClass (result .overshoots)) classes
+
     pub cusum-read : (class : ℕ) → class < length classes → tenthsIn (result .cusums) class < 65536
-        → number (resultBytes codeGrade result ++ rest) (cusumsOffset + 2 * class) ≡ tenthsIn (result .cusums) class
+        → number (resultBytes codeGrade result ++ rest) (cusumsOffset + cusumSize * class) ≡ tenthsIn (result .cusums) class
     unfolding resultBytes
     cusum-read class inside small =
-        let own : getD classes class 0 ≡ class = class-at class inside in
-        number-behind (take cusumsOffset (resultBytes codeGrade result)) (cusumBytes classes (result .cusums) ++ rest) (2 * class)
-        ∙ cusum-at classes (result .cusums) rest class inside (rw own small)
-        ∙ ap (tenthsIn (result .cusums)) own
+        number-behind front ((cusumBytes ++ overshootBytes) ++ rest) (cusumSize * class)
+        ∙ number-is-wide ((cusumBytes ++ overshootBytes) ++ rest) (cusumSize * class)
+        ∙ ap (λ (bytes : List ℕ). wideNumber cusumSize bytes (cusumSize * class)) (append-assoc cusumBytes overshootBytes rest)
+        ∙ class-read cusumSize (tenthsIn (result .cusums)) (overshootBytes ++ rest) class inside small
+
+    pub overshoot-read : (class : ℕ) → class < length classes → overshootOfClass (result .overshoots) class < 4294967296
+        → wideNumber overshootSize (resultBytes codeGrade result ++ rest) (overshootsOffset + overshootSize * class)
+        ≡ overshootOfClass (result .overshoots) class
+    unfolding resultBytes classBytes bytesOf
+    overshoot-read class inside small =
+        wide-behind overshootSize (front ++ cusumBytes) (overshootBytes ++ rest) (overshootSize * class)
+        ∙ class-read overshootSize (overshootOfClass (result .overshoots)) rest class inside small

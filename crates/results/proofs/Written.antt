@@ -8,19 +8,19 @@ use native.Mathlib.Nat.{eq-or-lt-of-le, le-of-suc-le-suc}
 use native.Mathlib.Omega.{arith}
 use lib.ListN.{length, drop, length-append}
 use lib.Seq.{sets}
-use Rattle.encoding.specs.Bytes.{byte, number}
-use Rattle.encoding.proofs.Numbers.{byte-behind, number-behind}
-use Rattle.units.specs.Words.{classes, tenthsIn}
+use Rattle.encoding.specs.Bytes.{byte, number, wideNumber}
+use Rattle.encoding.proofs.Numbers.{byte-behind, number-behind, wide-behind}
+use Rattle.units.specs.Words.{classes, tenthsIn, overshootOfClass}
 use Rattle.units.specs.Records.{unitsOf, unitsAmong}
 use Rattle.units.specs.declared.SampleUnit.{SampleUnit}
 use Rattle.units.specs.declared.Entry.{Entry}
 use Rattle.units.specs.declared.Entry.the-variants.{UnitRecord, Redesignation, Break}
 use Rattle.units.proofs.Records.{units-next}
 use Rattle.results.specs.declared.ResultRecord.{ResultRecord}
-use Rattle.results.specs.Record.{resultSize, markOffset, codeOffset, portionGradeOffset, codeGradeOffset, planGradeOffset, standingOffset, cusumsOffset, resultBytes, markIn, codeIn, portionGradeIn, codeGradeIn, planGradeIn, standingIn, cusumIn}
+use Rattle.results.specs.Record.{resultSize, markOffset, codeOffset, portionGradeOffset, codeGradeOffset, planGradeOffset, standingOffset, cusumsOffset, cusumSize, overshootsOffset, overshootSize, resultBytes, markIn, codeIn, portionGradeIn, codeGradeIn, planGradeIn, standingIn, cusumIn, overshootIn}
 use Rattle.results.specs.Written.{bytesBy, written}
 use Rattle.results.proofs.Stores.{appended}
-use Rattle.results.proofs.Fields.{length-result, mark-read, portion-read, code-grade-read, plan-read, standing-read, code-read, cusum-read}
+use Rattle.results.proofs.Fields.{length-result, mark-read, portion-read, code-grade-read, plan-read, standing-read, code-read, cusum-read, overshoot-read}
 
 -- two recordings that agree on the units among the first n records write the same
 module _ (recording other : ℕ → SampleUnit → ResultRecord) (grades : ℕ → ℕ) where
@@ -158,5 +158,11 @@ module _ (recording : ℕ → SampleUnit → ResultRecord) (grades : ℕ → ℕ
       pub cusum-written : (class : ℕ) → class < length classes → tenthsIn (recording i unit .cusums) class < 65536
           → cusumIn (written recording grades entry n ++ rest) (unitsAmong entry i) class ≡ tenthsIn (recording i unit .cusums) class
       cusum-written class known small =
-          read-written number number-behind (cusumsOffset + 2 * class) _
+          read-written number number-behind (cusumsOffset + cusumSize * class) _
           (λ more. cusum-read (grades (unit .code)) (recording i unit) more class known small)
+
+      pub overshoot-written : (class : ℕ) → class < length classes → overshootOfClass (recording i unit .overshoots) class < 4294967296
+          → overshootIn (written recording grades entry n ++ rest) (unitsAmong entry i) class ≡ overshootOfClass (recording i unit .overshoots) class
+      overshoot-written class known small =
+          read-written (wideNumber overshootSize) (wide-behind overshootSize) (overshootsOffset + overshootSize * class) _
+          (λ more. overshoot-read (grades (unit .code)) (recording i unit) more class known small)

@@ -1,11 +1,10 @@
 -- The result record of a unit in bytes: mark 47 52, production code (2), portion grade (1), code grade (1), grade of the plan in
--- force (1, or 3 if none), standing (1), the CuSum of each class (2 each, tenths).
+-- force (1, or 3 if none), standing (1), the CuSum of each class (2 each, tenths), the overshoot of each class (4 each, tenths).
 use Prim.Native.Nat.{ℕ, _+_, _*_}
-use mathlib.Core.List.{List, [], _∷_}
+use mathlib.Core.List.{List, [], _∷_, _++_}
 use lib.ListN.{length}
-use Rattle.cusum.specs.declared.Cusum.{Cusum}
-use Rattle.encoding.specs.Bytes.{byte, number, high, low}
-use Rattle.units.specs.Words.{classes, tenthsIn}
+use Rattle.encoding.specs.Bytes.{byte, number, high, low, wideNumber, bytesOf}
+use Rattle.units.specs.Words.{classes, tenthsIn, overshootOfClass}
 use Rattle.results.specs.declared.ResultRecord.{ResultRecord}
 
 -- ---- offsets of the fields, and size of the record
@@ -31,21 +30,32 @@ standingOffset = 7
 abbrev pub cusumsOffset : ℕ
 cusumsOffset = 8
 
+-- bytes of a CuSum, and of an overshoot
+abbrev pub cusumSize : ℕ
+cusumSize = 2
+
+abbrev pub overshootSize : ℕ
+overshootSize = 4
+
+abbrev pub overshootsOffset : ℕ
+overshootsOffset = cusumsOffset + cusumSize * length classes
+
 abbrev pub resultSize : ℕ
-resultSize = cusumsOffset + 2 * length classes
+resultSize = overshootsOffset + overshootSize * length classes
 
 -- ---- its bytes
 
--- the two bytes of each CuSum, class by class
-unfoldable pub cusumBytes : List ℕ → List Cusum → List ℕ
-cusumBytes [] cusums = []
-cusumBytes (class ∷ others) cusums = high (tenthsIn cusums class) ∷ low (tenthsIn cusums class) ∷ cusumBytes others cusums
+-- a number of each class in so many bytes, class by class
+unfoldable pub classBytes : ℕ → (ℕ → ℕ) → List ℕ → List ℕ
+classBytes width value [] = []
+classBytes width value (class ∷ others) = bytesOf width (value class) ++ classBytes width value others
 
 -- a record with a code grade, which is known last of all
 unfoldable pub resultBytes : ℕ → ResultRecord → List ℕ
 resultBytes codeGrade result =
     0x47 ∷ 0x52 ∷ high (result .code) ∷ low (result .code)
-    ∷ result .portion ∷ codeGrade ∷ result .plan ∷ result .standing ∷ cusumBytes classes (result .cusums)
+    ∷ result .portion ∷ codeGrade ∷ result .plan ∷ result .standing
+    ∷ (classBytes cusumSize (tenthsIn (result .cusums)) classes ++ classBytes overshootSize (overshootOfClass (result .overshoots)) classes)
 
 -- ---- a field of the record of unit j, read back from the result buffer
 
@@ -70,4 +80,8 @@ standingIn results j = byte results (resultSize * j + standingOffset)
 
 -- the CuSum of a class
 abbrev pub cusumIn : List ℕ → ℕ → ℕ → ℕ
-cusumIn results j class = number results (resultSize * j + (cusumsOffset + 2 * class))
+cusumIn results j class = number results (resultSize * j + (cusumsOffset + cusumSize * class))
+
+-- and its overshoot
+abbrev pub overshootIn : List ℕ → ℕ → ℕ → ℕ
+overshootIn results j class = wideNumber overshootSize results (resultSize * j + (overshootsOffset + overshootSize * class))

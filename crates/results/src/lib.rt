@@ -4,11 +4,13 @@ ghost use Prim.Native.Nat.{_≤_};
 ghost use lib.ListN.{length};
 ghost use lib.Seq.{sets};
 ghost use Rattle.results.specs.Record.{resultSize, resultBytes};
+use encoding::four_bytes;
 use units::CLASSES;
 use units::Cusums;
+use units::Overshoots;
 
 // Bytes of a result record, and offsets of its fields.
-pub const RESULT_SIZE: usize = CUSUMS_OFFSET + 2 * CLASSES;
+pub const RESULT_SIZE: usize = OVERSHOOTS_OFFSET + OVERSHOOT_SIZE * CLASSES;
 
 pub const CODE_OFFSET: usize = 2;
 
@@ -22,6 +24,13 @@ pub const STANDING_OFFSET: usize = 7;
 
 pub const CUSUMS_OFFSET: usize = 8;
 
+const OVERSHOOTS_OFFSET: usize = CUSUMS_OFFSET + CUSUM_SIZE * CLASSES;
+
+// Bytes of a CuSum, and of an overshoot.
+pub const CUSUM_SIZE: usize = 2;
+
+const OVERSHOOT_SIZE: usize = 4;
+
 // What a result record says of a unit, but for its code grade, which is known last.
 pub struct ResultRecord {
     pub code: u16,
@@ -29,6 +38,7 @@ pub struct ResultRecord {
     pub plan: u8,
     pub standing: u8,
     pub cusums: Cusums,
+    pub overshoots: Overshoots,
 }
 
 // The bytes of a record with this code grade, one by one: the one place here that spells the classes out.
@@ -40,6 +50,11 @@ fn bytes_of(result: ResultRecord, grade: u8) -> [u8; RESULT_SIZE]
     let severe = cusums[1].tenths;
     let major = cusums[2].tenths;
     let total = cusums[3].tenths;
+    let overshoots = result.overshoots;
+    let over_critical = four_bytes(overshoots[0]);
+    let over_severe = four_bytes(overshoots[1]);
+    let over_major = four_bytes(overshoots[2]);
+    let over_total = four_bytes(overshoots[3]);
     let code = result.code;
     [
         0x47,
@@ -58,6 +73,22 @@ fn bytes_of(result: ResultRecord, grade: u8) -> [u8; RESULT_SIZE]
         (major % 256) as u8,
         (total / 256 % 256) as u8,
         (total % 256) as u8,
+        over_critical[0],
+        over_critical[1],
+        over_critical[2],
+        over_critical[3],
+        over_severe[0],
+        over_severe[1],
+        over_severe[2],
+        over_severe[3],
+        over_major[0],
+        over_major[1],
+        over_major[2],
+        over_major[3],
+        over_total[0],
+        over_total[1],
+        over_total[2],
+        over_total[3],
     ]
 }
 

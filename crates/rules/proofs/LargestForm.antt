@@ -1,9 +1,10 @@
 -- Demand 3's first half over records: the CuSum of a class at a unit is the 'largest of' form from where its trail begins.
 -- The trail keeps the anchor's kind and the counts since it; by induction on the records, the CuSum is reached from it by steps that meet.
-use Prim.Native.Nat.{ℕ, zero, suc, _<_}
+use Prim.Native.Nat.{ℕ, zero, suc, _≤_, _<_}
 use mathlib.Core.Path.{_≡_, refl, sym, _∙_, ap, subst⁻¹}
 use mathlib.Core.Bool.{Bool, true, false, cond}
 use mathlib.Core.List.{List, [], _∷_, _++_, append-nil}
+use native.Mathlib.Omega.{arith}
 use lib.ListN.{length}
 use lib.IntN.{pos}
 use Rattle.cusum.specs.declared.Cusum.{Cusum}
@@ -11,7 +12,7 @@ use Rattle.cusum.specs.declared.PlanNumbers.{PlanNumbers}
 use Rattle.cusum.specs.Step.{fails, newCusum}
 use Rattle.cusum.specs.LargestForm.{largestForm}
 use Rattle.cusum.proofs.Laws.{failed-at}
-use Rattle.cusum.proofs.Runs.{after, Meets, after-snoc, meets-snoc, run-largest}
+use Rattle.cusum.proofs.Runs.{after, Meets, after-le-limit, after-snoc, meets-snoc, run-largest}
 use Rattle.units.specs.declared.SampleUnit.{SampleUnit}
 use Rattle.units.specs.declared.Entry.{Entry}
 use Rattle.units.specs.declared.Entry.the-variants.{UnitRecord, Redesignation, Break}
@@ -99,6 +100,11 @@ module _ (table : Table) (class : ℕ) (in-range : class < length classes) where
   unfolding starting
   starts-at grade = at-class (λ k. numbersOf table grade k .start) class in-range
 
+anchor-within : (numbers : PlanNumbers) → numbers .start ≤ numbers .limit → (failed : Bool) → anchorValue numbers failed ≤ numbers .limit
+unfolding anchorValue
+anchor-within numbers h true = omega arith
+anchor-within numbers h false = h
+
 module _ (sheet : Sheet) (class : ℕ) (in-range : class < length classes) where
   -- with the CuSum behind a record, by whether it brings about a restart
   held-next : (i : ℕ) → Held (sheet .table) class (inForceAt sheet i) (before sheet i .cusums) (trailBefore sheet class i)
@@ -122,6 +128,15 @@ module _ (sheet : Sheet) (class : ℕ) (in-range : class < length classes) where
       unfold before restarted inForceIn after Meets anchorValue in
       (starts-at (sheet .table) class in-range (sheet .designated), tt)
   held-before (suc i) planned = held-next i (held-before i) (restartAt sheet i) refl planned
+
+  -- where S is at most L the CuSum before a record is, too
+  pub within-limit : (i : ℕ) → hasPlan (inForceAt sheet i) ≡ true →
+      let numbers = numbersOf (sheet .table) (inForceAt sheet i) class in
+      numbers .start ≤ numbers .limit → tenthsIn (before sheet i .cusums) class ≤ numbers .limit
+  within-limit i planned start-within =
+      let numbers = numbersOf (sheet .table) (inForceAt sheet i) class in
+      let trail = trailBefore sheet class i in
+      rw (held-before i planned .0) (after-le-limit numbers _ (trail .counts) (anchor-within numbers start-within (trail .failed)))
 
   -- THE FIRST HALF OF DEMAND 3, over records
   pub largest-form : (i : ℕ) (unit : SampleUnit) → sheet .entry i ≡ UnitRecord unit → hasPlan (inForceAt sheet i) ≡ true →

@@ -8,13 +8,13 @@ use native.Mathlib.Omega.{arith}
 use lib.Dec.{eqb}
 use Rattle.cusum.specs.declared.Cusum.{Cusum}
 use Rattle.units.specs.Words.{substandard, Table, rowOf, countsOf}
-use Rattle.units.specs.Unit.{starting, classCusum, unitFails, gradingOf, portionGradeOf}
+use Rattle.units.specs.Unit.{starting, classCusum, classOvershoot, unitFails, gradingOf, portionGradeOf}
 use Rattle.units.specs.Records.{portionGradeWith, worstBefore}
 use Rattle.units.specs.declared.SampleUnit.{SampleUnit}
 use Rattle.units.specs.declared.Entry.{Entry}
 use Rattle.units.specs.declared.Entry.the-variants.{UnitRecord, Redesignation, Break}
 use Rattle.units.proofs.Tests.{and-false}
-use Rattle.units.proofs.Monotone.{Fewer, counts-fewer, NoHigher, same-no-higher, class-cusum-mono, cusums-mono, class-fails-mono, unit-fails-mono, defect-grade-mono}
+use Rattle.units.proofs.Monotone.{Fewer, counts-fewer, NoHigher, same-no-higher, class-cusum-mono, class-overshoot-mono, cusums-mono, class-fails-mono, unit-fails-mono, defect-grade-mono}
 use Rattle.rules.specs.StepThree.{inStepThree, inForceIn, twoInARow, failureAfter, endsStepThree, withUnit, withoutRun, restarted, graded, qualifiesIn, afterBreak, next, recordEndsStepThree}
 use Rattle.rules.specs.Sheet.{Sheet, before, inForceAt, stepThreeEndsAt, inFinishedRun, recovered, portionGrade, codeGrade}
 use Rattle.rules.specs.TwoInARow.{failsDesignated, unitFailsAt, unitFailsBefore, secondInARow}
@@ -189,11 +189,13 @@ module _ (table : Table) (designated : ℕ) (es fs : ℕ → Entry) (size : ℕ)
     ap₂ inForceIn (both .second-designated) (both .second-phase),
   )
 
-  -- THE SECOND HALF OF DEMAND 3, over records: CuSums and failures
+  -- THE SECOND HALF OF DEMAND 3, over records: CuSums, overshoots and failures
   pub fewer-cusums : (i : ℕ) (u v : SampleUnit) → es i ≡ UnitRecord u → fs i ≡ UnitRecord v
       → ((j : ℕ) → j < i → secondInARow second j ≡ false) → (class : ℕ)
       → (classCusum table (inForceAt first i) (before first i .cusums) (countsOf u) class
       ≤ classCusum table (inForceAt second i) (before second i .cusums) (countsOf v) class)
+      × (classOvershoot table (inForceAt first i) (before first i .cusums) (countsOf u) class
+      ≤ classOvershoot table (inForceAt second i) (before second i .cusums) (countsOf v) class)
       × (classFailsAt first class i ≡ true → classFailsAt second class i ≡ true)
   unfolding Below classFailsAt failsAt
   fewer-cusums i u v eu ev h class =
@@ -203,6 +205,7 @@ module _ (table : Table) (designated : ℕ) (es fs : ℕ → Entry) (size : ℕ)
       let fewer = counts-fewer u v (below .fewer) in
       rw (eu, ev, plan, plan') (
         class-cusum-mono table _ _ _ (countsOf u) (countsOf v) (both .no-higher) fewer class,
+        class-overshoot-mono table _ _ _ (countsOf u) (countsOf v) (both .no-higher) fewer class,
         class-fails-mono table _ _ _ (countsOf u) (countsOf v) (both .no-higher) fewer class,
       )
 

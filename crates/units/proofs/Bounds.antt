@@ -1,29 +1,36 @@
--- Bounds of what one unit gets: a CuSum is at most its L, and a defect grade at most Substandard. By cases on the tests.
+-- Bounds of what one unit gets: a CuSum is at most its L, an overshoot at most the unit's own defects, and a defect grade at most
+-- Substandard. By cases on the tests.
 use Prim.Native.Nat.{ℕ, _≤_}
 use mathlib.Core.Bool.{Bool, true, false, cond, _&&_}
 use mathlib.Core.List.{List}
 use native.Mathlib.Omega.{arith}
 use lib.Dec.{ltb}
 use Rattle.cusum.specs.declared.Cusum.{Cusum}
-use Rattle.cusum.specs.Step.{newCusum}
-use Rattle.cusum.proofs.Laws.{new-cusum-le-limit}
+use Rattle.cusum.specs.Step.{tenthsOf}
+use Rattle.cusum.proofs.Laws.{new-cusum-le-limit, overshoot-le-tenths}
 use Rattle.units.specs.Words.{substandard, hasPlan, Table, rowOf, numbersOf, countIn, tenthsIn}
-use Rattle.units.specs.Unit.{classCusum, unitFails, admits, bestLower, defectGrade}
-
--- a CuSum is at most its L
-pub class-cusum-le : (table : Table) (grade : ℕ) (cusums : List Cusum) (counts : List ℕ) (class : ℕ)
-    → classCusum table grade cusums counts class ≤ numbersOf table grade class .limit
-unfolding classCusum
-class-cusum-le table grade cusums counts class = go (hasPlan grade)
-  where
-    go : (b : Bool) → cond b (newCusum (numbersOf table grade class) (tenthsIn cusums class) (countIn counts class)) 0 ≤ numbersOf table grade class .limit
-    go true = new-cusum-le-limit (numbersOf table grade class) (tenthsIn cusums class) (countIn counts class)
-    go false = omega arith
+use Rattle.units.specs.Unit.{classCusum, classOvershoot, unitFails, admits, bestLower, defectGrade}
 
 -- what bounds two numbers bounds either of them
 pub choice-le : (b : Bool) (x y n : ℕ) → x ≤ n → y ≤ n → cond b x y ≤ n
 choice-le true x y n h k = h
 choice-le false x y n h k = k
+
+module _ (table : Table) (grade : ℕ) (cusums : List Cusum) (counts : List ℕ) (class : ℕ) where
+  -- a CuSum is at most its L
+  pub class-cusum-le : classCusum table grade cusums counts class ≤ numbersOf table grade class .limit
+  unfolding classCusum
+  class-cusum-le =
+      choice-le (hasPlan grade) _ 0 _
+      (new-cusum-le-limit (numbersOf table grade class) (tenthsIn cusums class) (countIn counts class)) (omega arith)
+
+  -- an overshoot at most ten times the count, if the CuSum before the unit is
+  pub class-overshoot-le : tenthsIn cusums class ≤ numbersOf table grade class .limit
+      → classOvershoot table grade cusums counts class ≤ tenthsOf (countIn counts class)
+  unfolding classOvershoot
+  class-overshoot-le within =
+      choice-le (hasPlan grade) _ 0 _
+      (overshoot-le-tenths (numbersOf table grade class) (tenthsIn cusums class) (countIn counts class) within) (omega arith)
 
 best-lower-at-most : (table : Table) (grade : ℕ) (counts : List ℕ) → bestLower table grade counts ≤ substandard
 unfolding bestLower

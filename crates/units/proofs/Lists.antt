@@ -55,6 +55,10 @@ module _ (n : ℕ) where
         ext-getD d l (map f (upFrom 0 n)) (e ∙ sym map-length)
         (λ i k. let inside : i < n = omega arith in h i inside ∙ sym (map-at i inside))
 
+-- two such lists with the same members
+pub map-same {ℓ} : {A : Type ℓ} (n : ℕ) (f g : ℕ → A) → ((i : ℕ) → i < n → f i ≡ g i) → map f (upFrom 0 n) ≡ map g (upFrom 0 n)
+map-same n f g same = map-of n g (g 0) (map f (upFrom 0 n)) (map-length n f (g 0)) (λ i inside. map-at n f (g 0) i inside ∙ same i inside)
+
 -- for a loop that fills such a list: every member before this one is there
 pub record Filled {A : Type 0} (n : ℕ) (f : ℕ → A) (d : A) (l : List A) (k : ℕ) : Type 0 where
   pub whole : length l ≡ n

@@ -1,4 +1,5 @@
--- Fewer defects and no higher CuSums before a unit give no higher CuSum, no failure that was not there, and no lower grade.
+-- Fewer defects and no higher CuSums before a unit give no higher CuSum, no larger overshoot, no failure that was not there, and no
+-- lower grade.
 -- For any class, from the step's own laws.
 use Prim.Native.Nat.{ℕ, zero, suc, _+_, _≤_}
 use mathlib.Core.Path.{_≡_, refl}
@@ -9,11 +10,11 @@ use lib.Dec.{ltb, leb}
 use borrow.Author.Tests.{leb-true, le-leb, ltb-true}
 use Rattle.cusum.specs.declared.Cusum.{Cusum}
 use Rattle.cusum.specs.declared.PlanNumbers.{PlanNumbers}
-use Rattle.cusum.specs.Step.{tenthsOf, fails, newCusum}
-use Rattle.cusum.proofs.Laws.{new-cusum-mono, fails-mono}
+use Rattle.cusum.specs.Step.{tenthsOf, fails}
+use Rattle.cusum.proofs.Laws.{new-cusum-mono, overshoot-mono, fails-mono}
 use Rattle.units.specs.declared.SampleUnit.{SampleUnit}
 use Rattle.units.specs.Words.{substandard, hasPlan, classes, Table, rowOf, inClass, numbersOf, countsOf, countIn, tenthsIn}
-use Rattle.units.specs.Unit.{classFails, classCusum, newCusums, unitFails, noneAbove, admits, bestLower, defectGrade}
+use Rattle.units.specs.Unit.{classFails, classCusum, newCusums, classOvershoot, unitFails, noneAbove, admits, bestLower, defectGrade}
 use Rattle.units.proofs.Tests.{and-both, any-mono, all-mono}
 
 -- no count of the first unit exceeds its fellow in the second
@@ -55,16 +56,22 @@ map-no-higher f g h (k ∷ ks) (suc i) = map-no-higher f g h ks i
 pub same-no-higher : (cusums : List Cusum) → NoHigher cusums cusums
 same-no-higher cusums class = omega arith
 
+-- what is zero where there is no plan
+planned-mono : (planned : Bool) (x y : ℕ) → x ≤ y → cond planned x 0 ≤ cond planned y 0
+planned-mono true x y h = h
+planned-mono false x y h = omega arith
+
 module _ (table : Table) (grade : ℕ) (cusums cusums' : List Cusum) (counts counts' : List ℕ)
     (lower : NoHigher cusums cusums') (fewer : NoMore counts counts') where
   pub class-cusum-mono : (class : ℕ) → classCusum table grade cusums counts class ≤ classCusum table grade cusums' counts' class
   unfolding classCusum
-  class-cusum-mono class = go (hasPlan grade)
-    where
-      go : (b : Bool) → cond b (newCusum (numbersOf table grade class) (tenthsIn cusums class) (countIn counts class)) 0
-          ≤ cond b (newCusum (numbersOf table grade class) (tenthsIn cusums' class) (countIn counts' class)) 0
-      go true = new-cusum-mono (numbersOf table grade class) _ _ _ _ (lower class) (fewer class)
-      go false = omega arith
+  class-cusum-mono class =
+      planned-mono (hasPlan grade) _ _ (new-cusum-mono (numbersOf table grade class) _ _ _ _ (lower class) (fewer class))
+
+  pub class-overshoot-mono : (class : ℕ) → classOvershoot table grade cusums counts class ≤ classOvershoot table grade cusums' counts' class
+  unfolding classOvershoot
+  class-overshoot-mono class =
+      planned-mono (hasPlan grade) _ _ (overshoot-mono (numbersOf table grade class) _ _ _ _ (lower class) (fewer class))
 
   pub cusums-mono : NoHigher (newCusums table grade cusums counts) (newCusums table grade cusums' counts')
   unfolding newCusums

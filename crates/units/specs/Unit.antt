@@ -5,7 +5,7 @@ use mathlib.Core.List.{List, map}
 use lib.Dec.{ltb, leb, eqb}
 use Rattle.cusum.specs.declared.PlanNumbers.{PlanNumbers}
 use Rattle.cusum.specs.declared.Cusum.{Cusum}
-use Rattle.cusum.specs.Step.{tenthsOf, startOf, fails, newCusum}
+use Rattle.cusum.specs.Step.{tenthsOf, startOf, fails, newCusum, overshoot}
 use Rattle.units.specs.Conditions.{any, all}
 use Rattle.units.specs.Words.{substandard, hasPlan, worse, classes, Table, rowOf, inClass, numbersOf, countIn, tenthsIn}
 use Rattle.units.specs.declared.Grading.{Grading}
@@ -28,6 +28,14 @@ module _ (table : Table) where
 
   unfoldable pub newCusums : ℕ → List Cusum → List ℕ → List Cusum
   newCusums grade cusums counts = map (λ class. record { tenths = classCusum grade cusums counts class }) classes
+
+  -- the overshoot of a class; where there is no plan, zero
+  unfoldable pub classOvershoot : ℕ → List Cusum → List ℕ → ℕ → ℕ
+  classOvershoot grade cusums counts class =
+      cond (hasPlan grade) (overshoot (numbersOf table grade class) (tenthsIn cusums class) (countIn counts class)) 0
+
+  unfoldable pub newOvershoots : ℕ → List Cusum → List ℕ → List ℕ
+  newOvershoots grade cusums counts = map (classOvershoot grade cusums counts) classes
 
   -- rule 3: the unit fails if a class fails
   unfoldable pub unitFails : ℕ → List Cusum → List ℕ → Bool
@@ -76,14 +84,24 @@ abbrev pub gradingOf : Table → ℕ → List Cusum → List ℕ → Grading
 gradingOf table grade cusums counts =
     record {
       cusums = newCusums table grade cusums counts;
+      overshoots = newOvershoots table grade cusums counts;
       fails = unitFails table grade cusums counts;
       grade = defectGrade table grade cusums counts;
     }
 
--- for the contract of a private function: rule 2 in every class of one plan at once
+-- for contracts of private functions: rule 2 in every class of the plan of a grade at once, and of a plan
+abbrev pub steppedUnder : Table → ℕ → List Cusum → List ℕ → SteppedClasses
+steppedUnder table grade cusums counts =
+    record {
+      cusums = newCusums table grade cusums counts;
+      overshoots = newOvershoots table grade cusums counts;
+      fails = unitFails table grade cusums counts;
+    }
+
 unfoldable pub steppedIn : List PlanNumbers → List Cusum → List ℕ → SteppedClasses
 steppedIn row cusums counts =
     record {
       cusums = map (λ class. record { tenths = newCusum (inClass row class) (tenthsIn cusums class) (countIn counts class) }) classes;
+      overshoots = map (λ class. overshoot (inClass row class) (tenthsIn cusums class) (countIn counts class)) classes;
       fails = any (λ class. fails (inClass row class) (tenthsIn cusums class) (countIn counts class)) classes;
     }

@@ -1,4 +1,4 @@
--- The line and its words: grades, classes, the plan's table, a sample unit's counts by class, the CuSum of a class.
+-- The line and its words: grades, classes, the plan's table, a sample unit's counts by class, the CuSum and the overshoot of a class.
 use Prim.Native.Nat.{ℕ, zero, suc, _+_, _*_, max}
 use mathlib.Core.Bool.{Bool}
 use mathlib.Core.List.{List, [], _∷_, map}
@@ -82,3 +82,11 @@ zeroCusum = record { tenths = 0 }
 -- the CuSum of a class, in tenths
 abbrev pub tenthsIn : List Cusum → ℕ → ℕ
 tenthsIn cusums class = getD cusums class zeroCusum .tenths
+
+-- the overshoots where no plan is in force, and where every class met
+abbrev pub noOvershoots : List ℕ
+noOvershoots = map (λ class. 0) classes
+
+-- the overshoot of a class, in tenths
+abbrev pub overshootOfClass : List ℕ → ℕ → ℕ
+overshootOfClass overshoots class = getD overshoots class 0

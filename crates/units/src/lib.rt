@@ -5,7 +5,7 @@ ghost use mathlib.Core.List.{map};
 ghost use Prim.Native.Nat.{_+_, _*_, _<_};
 ghost use lib.ListN.{length};
 ghost use Rattle.units.specs.Words.{plannedGrades, classes, cellOf, tableOf, noRow, rowOf, countsOf, worse};
-ghost use Rattle.units.specs.Unit.{starting, steppedIn, admits, withinTolerance, allZero, newCusums, unitFails, bestLower, qualifies};
+ghost use Rattle.units.specs.Unit.{starting, steppedIn, steppedUnder, admits, withinTolerance, allZero, bestLower, qualifies};
 use cusum::Cusum;
 use cusum::PlanNumbers;
 
@@ -28,6 +28,9 @@ pub type Table = [Row; GRADES];
 
 // A CuSum of each class.
 pub type Cusums = [Cusum; CLASSES];
+
+// An overshoot of each class, in tenths.
+pub type Overshoots = [u64; CLASSES];
 
 // A count of each class.
 type Counts = [u32; CLASSES];
@@ -57,16 +60,18 @@ pub enum Entry {
     Break,
 }
 
-// A unit graded under the plan of a grade: its new CuSums, whether it fails, its defect grade.
+// A unit graded under the plan of a grade: its new CuSums and overshoots, whether it fails, its defect grade.
 pub struct Grading {
     pub cusums: Cusums,
+    pub overshoots: Overshoots,
     pub fails: bool,
     pub grade: u8,
 }
 
-// The CuSums after a unit, and whether a class fails.
+// The CuSums after a unit, how far over each class is, and whether a class fails.
 pub struct SteppedClasses {
     pub cusums: Cusums,
+    pub overshoots: Overshoots,
     pub fails: bool,
 }
 
@@ -158,30 +163,34 @@ pub fn step_classes(row: Row, cusums: Cusums, unit: SampleUnit) -> SteppedClasse
 {
     let counts = counts_of(unit);
     let mut new = [Cusum::ZERO; CLASSES];
+    let mut over = [0u64; CLASSES];
     let mut fails = false;
     let mut class: usize = 0;
     while class < CLASSES {
         let stepped = cusums[class].step(row[class], counts[class]);
         let cusum = stepped.cusum;
         new[class] = cusum;
+        over[class] = stepped.overshoot;
         fails = fails | stepped.fails;
         class += 1;
     }
     SteppedClasses {
         cusums: new,
+        overshoots: over,
         fails: fails,
     }
 }
 
-// Under the plan of a grade; where there is none no class fails, and every CuSum is zero.
+// Under the plan of a grade; where there is none no class fails, and every CuSum and overshoot is zero.
 pub fn step_in_force(table: Table, grade: u8, cusums: Cusums, unit: SampleUnit) -> SteppedClasses
-    ensures { λ r. ⌜ r ≡ record { cusums = newCusums table grade cusums (countsOf unit); fails = unitFails table grade cusums (countsOf unit) } ⌝ }
+    ensures { λ r. ⌜ r ≡ steppedUnder table grade cusums (countsOf unit) ⌝ }
 {
     if grade < SUBSTANDARD {
         return step_classes(row_of(table, grade), cusums, unit);
     }
     SteppedClasses {
         cusums: [Cusum::ZERO; CLASSES],
+        overshoots: [0; CLASSES],
         fails: false,
     }
 }

@@ -1,17 +1,18 @@
 -- The loop over units that meet the designated plan and over breaks. Its invariant: the writing has gone on to where the loop stands,
 -- and the designated plan that it began with is still in force, so that the row picked at its beginning is that plan's.
 use Prim.Native.Nat.{ℕ, _+_, _<_, _≤_}
-use mathlib.Core.Path.{_≡_, refl, sym, _∙_, ap}
+use mathlib.Core.Path.{_≡_, refl, sym, _∙_, ap, ap₂}
 use mathlib.Core.Bool.{Bool, false}
 use mathlib.Core.List.{List}
 use native.Mathlib.Omega.{arith}
 use lib.ListN.{length}
 use Rattle.cusum.specs.declared.PlanNumbers.{PlanNumbers}
-use Rattle.units.specs.Words.{Table, rowOf, countsOf}
+use Rattle.units.specs.Words.{Table, rowOf, countsOf, noOvershoots}
 use Rattle.units.specs.Unit.{steppedIn}
 use Rattle.units.specs.Records.{unitsOf}
 use Rattle.units.specs.declared.SampleUnit.{SampleUnit}
 use Rattle.units.specs.declared.SteppedClasses.{SteppedClasses}
+use Rattle.units.proofs.Planned.{none-over}
 use Rattle.units.specs.declared.Entry.the-variants.{UnitRecord, Break}
 use Rattle.rules.specs.StepThree.{inForceIn, withoutRun, restarted, afterBreak, next}
 use Rattle.rules.specs.declared.Phase.{Phase}
@@ -78,9 +79,13 @@ module _ {bytes : List ℕ} {n : ℕ} {table : Table} {row : List PlanNumbers} {
 
         -- it does not fail under the row that was picked
         pub met-step : {stepped : SteppedClasses} → stepped ≡ steppedIn row (state .cusums) (countsOf unit) → stepped .fails ≡ false
-            → record { cusums = stepped .cusums; fails = false } ≡ steppedIn (rowOf table (state .designated)) (state .cusums) (countsOf unit)
+            → record { cusums = stepped .cusums; overshoots = noOvershoots; fails = false }
+            ≡ steppedIn (rowOf table (state .designated)) (state .cusums) (countsOf unit)
         met-step {stepped} steps meets =
-            ap (λ (failed : Bool). record { cusums = stepped .cusums; fails = failed }) (sym meets)
+            let none : stepped .overshoots ≡ noOvershoots
+            = ap (λ (s : SteppedClasses). s .overshoots) steps
+            ∙ none-over row (state .cusums) (countsOf unit) (sym (ap (λ (s : SteppedClasses). s .fails) steps) ∙ meets) in
+            ap₂ (λ (over : List ℕ) (failed : Bool). record { cusums = stepped .cusums; overshoots = over; fails = failed }) (sym none) (sym meets)
             ∙ steps
             ∙ ap (λ (r : List PlanNumbers). steppedIn r (state .cusums) (countsOf unit)) (here .is-row)
 

@@ -9,7 +9,7 @@ use lib.ListN.{length}
 use lib.Seq.{sets}
 use Rattle.cusum.specs.declared.PlanNumbers.{PlanNumbers}
 use Rattle.units.specs.Words.{hasPlan, Table, rowOf, countsOf}
-use Rattle.units.specs.Unit.{newCusums, unitFails, bestLower, defectGrade, qualifies, steppedIn}
+use Rattle.units.specs.Unit.{bestLower, defectGrade, qualifies, steppedUnder, steppedIn}
 use Rattle.units.specs.Records.{unitsAmong}
 use Rattle.units.specs.declared.SampleUnit.{SampleUnit}
 use Rattle.units.specs.declared.SteppedClasses.{SteppedClasses}
@@ -37,21 +37,26 @@ use Rattle.recording.proofs.Recovering.{unit-written, nothing-recovered, run-re
 
 -- ---- the grading of a unit, as the code makes it
 
+-- by the step in every class
+abbrev pub gradingBy : SteppedClasses → Bool → ℕ → Grading
+gradingBy stepped failed grade =
+    record { cusums = stepped .cusums; overshoots = stepped .overshoots; fails = failed; grade = grade }
+
 -- under the designated plan
 pub graded-designated : (table : Table) (state : State) (unit : SampleUnit) (stepped : SteppedClasses) (grade : ℕ)
     → state .phase ≡ Designated → hasPlan (state .designated) ≡ true
     → stepped ≡ steppedIn (rowOf table (state .designated)) (state .cusums) (countsOf unit)
     → grade ≡ cond (stepped .fails) (bestLower table (state .designated) (countsOf unit)) (state .designated)
-    → record { cusums = stepped .cusums; fails = stepped .fails; grade = grade } ≡ graded table state unit
+    → gradingBy stepped (stepped .fails) grade ≡ graded table state unit
 unfolding graded defectGrade inForceIn
 graded-designated table state unit stepped grade outside planned steps grades =
     rw (outside, grades, steps, stepped-under table (state .designated) (state .cusums) (countsOf unit) planned)
 
 -- in step 3
 pub graded-lower : (table : Table) (state : State) (unit : SampleUnit) (stepped : SteppedClasses) (lower grade : ℕ) → lower ≡ inForce state
-    → stepped ≡ record { cusums = newCusums table lower (state .cusums) (countsOf unit); fails = unitFails table lower (state .cusums) (countsOf unit) }
+    → stepped ≡ steppedUnder table lower (state .cusums) (countsOf unit)
     → grade ≡ cond (stepped .fails) (bestLower table lower (countsOf unit)) lower
-    → record { cusums = stepped .cusums; fails = stepped .fails; grade = grade } ≡ graded table state unit
+    → gradingBy stepped (stepped .fails) grade ≡ graded table state unit
 unfolding graded defectGrade
 graded-lower table state unit stepped lower grade in-force steps grades = rw (grades, steps, in-force)
 
@@ -234,10 +239,6 @@ module _ {bytes : List ℕ} {n : ℕ} {table : Table} {place : Place} {state : S
 
 -- ---- a unit written, as the code does it: the state behind it, and the buffer
 
--- a grading by the step in every class
-abbrev pub gradingBy : SteppedClasses → Bool → ℕ → Grading
-gradingBy stepped failed grade = record { cusums = stepped .cusums; fails = failed; grade = grade }
-
 -- under the designated plan, whether it fails or meets
 pub unit-under-designated : {bytes : List ℕ} {n : ℕ} {table : Table} {place : Place} {state : State} {unit : SampleUnit} (results : List ℕ)
     → UnitHere bytes n table place state unit (length results) → state .phase ≡ Designated
@@ -266,8 +267,7 @@ unit-under-designated {bytes} {n} {table} {place} {state} {unit} results here ou
 module _ {bytes : List ℕ} {n : ℕ} {table : Table} {place : Place} {state : State} {unit : SampleUnit} (results : List ℕ)
     (here : UnitHere bytes n table place state unit (length results)) (inside : inStepThree (state .phase) ≡ true)
     {lower : ℕ} (is-lower : lower ≡ inForce state) {stepped : SteppedClasses}
-    (steps : stepped ≡
-    record { cusums = newCusums table lower (state .cusums) (countsOf unit); fails = unitFails table lower (state .cusums) (countsOf unit) })
+    (steps : stepped ≡ steppedUnder table lower (state .cusums) (countsOf unit))
     {grade : ℕ} (is-grade : grade ≡ cond (stepped .fails) (bestLower table lower (countsOf unit)) lower)
     {qualifying : Bool} (tests : qualifying ≡ qualifies table (state .designated) (stepped .cusums) (countsOf unit)) where
   abbrev grading : Grading

@@ -7,7 +7,7 @@ ghost use lib.ListN.{length, drop};
 ghost use Rattle.rules.specs.StepThree.{next, inStepThree};
 ghost use Rattle.units.specs.declared.Entry.the-variants.{UnitRecord};
 ghost use Rattle.rules.specs.declared.Phase.the-variants.{Designated};
-ghost use Rattle.units.specs.Words.{rowOf, countsOf};
+ghost use Rattle.units.specs.Words.{rowOf, countsOf, noOvershoots};
 ghost use Rattle.units.specs.Unit.{bestLower, steppedIn};
 ghost use Rattle.layout.specs.Layout.{entryAt, unitsBefore};
 ghost use Rattle.results.specs.Record.{resultSize};
@@ -28,6 +28,7 @@ use results::RESULT_SIZE;
 use rules::Phase;
 use rules::Previous;
 use rules::State;
+use units::CLASSES;
 use units::Cusums;
 use units::Entry;
 use units::Grading;
@@ -74,9 +75,11 @@ fn write_designated(
     let before = state.cusums;
     let stepped = step_classes(row_of(table, state.designated), before, unit);
     let new = stepped.cusums;
+    let over = stepped.overshoots;
     let start = RESULT_SIZE * place.units;
     let grading = Grading {
         cusums: new,
+        overshoots: over,
         fails: stepped.fails,
         grade: defect_grade(table, state.designated, stepped.fails, unit),
     };
@@ -104,8 +107,10 @@ fn write_step_three(
     let lower = state.in_force();
     let stepped = step_in_force(table, lower, before, unit);
     let new = stepped.cusums;
+    let over = stepped.overshoots;
     let grading = Grading {
         cusums: new,
+        overshoots: over,
         fails: stepped.fails,
         grade: defect_grade(table, lower, stepped.fails, unit),
     };
@@ -174,7 +179,7 @@ fn write_here(
     }
 }
 
-// Writes what is recorded of a unit that meets the designated plan, with the CuSums that it makes: the state after it.
+// Writes what is recorded of a unit that meets the designated plan, with the CuSums that it makes: the state after it. No class is over.
 fn write_met(
     bytes: &[u8],
     records: usize,
@@ -185,12 +190,13 @@ fn write_met(
     new: Cusums,
     results: &mut [u8],
 ) -> State
-    requires { ⌜ UnitHere (now bytes) records table place state unit (length (now results)) × (state .phase ≡ Designated) × (record { cusums = new; fails = false } ≡ steppedIn (rowOf table (state .designated)) (state .cusums) (countsOf unit)) ⌝ }
+    requires { ⌜ UnitHere (now bytes) records table place state unit (length (now results)) × (state .phase ≡ Designated) × (record { cusums = new; overshoots = noOvershoots; fails = false } ≡ steppedIn (rowOf table (state .designated)) (state .cusums) (countsOf unit)) ⌝ }
     ensures state { λ r. ⌜ (r ≡ next table state (UnitRecord unit)) × (r .phase ≡ Designated) ⌝ }
     ensures buffer { λ r. ⌜ OneMore (sheetOf (now (bytes .entry)) records) (place .index) (now (results .entry)) (now (results .exit)) ⌝ }
 {
     let met = Grading {
         cusums: new,
+        overshoots: [0; CLASSES],
         fails: false,
         grade: state.designated,
     };

@@ -14,7 +14,7 @@ step-classes-requires c κs = search needs
 
 mul-start : tie.Need-mul-start
 mul-start c =
-    let room = room-for-record (c .before .before .before .before .before .before .before .pre .0) in
+    let room = room-for-record (c .before .before .before .before .before .before .before .before .pre .0) in
     omega arith
 
 defect-grade-requires : tie.Need-defect-grade-requires
@@ -24,7 +24,7 @@ result-of-requires : tie.Need-result-of-requires
 result-of-requires c κs = search needs
 
 write-at-requires : tie.Need-write-at-requires
-write-at-requires c κs = room-for-record (c .before .before .before .before .before .before .before .before .before .before .pre .0)
+write-at-requires c κs = room-for-record (c .before .before .before .before .before .before .before .before .before .before .before .pre .0)
 
 after-unit-requires : tie.Need-after-unit-requires
 after-unit-requires c κs = search needs
@@ -37,7 +37,7 @@ returns c =
     let written = c .before .before .before in
     let result = written .before in
     let graded = result .before .before in
-    let stepped = graded .before .before .before in
+    let stepped = graded .before .before .before .before in
     let row = stepped .before in
     let start = row .before .before .before .before in
     unit-under-designated (start .args .results .now) (start .pre .0) (start .pre .1) (row .row-of .ensures) (stepped .step-classes .ensures)

@@ -29,7 +29,7 @@ result-of-requires : tie.Need-result-of-requires
 result-of-requires c κs = search needs
 
 write-at-requires : tie.Need-write-at-requires
-write-at-requires c κs = room-for-record (c .before .before .before .before .before .before .before .before .before .before .before .before .pre .0)
+write-at-requires c κs = room-for-record (c .before .before .before .before .before .before .before .before .before .before .before .before .before .pre .0)
 
 ends-step-three-requires : tie.Need-ends-step-three-requires
 ends-step-three-requires c κs = search needs
@@ -41,7 +41,7 @@ recover-three-requires c κs =
     let after = result .before .before in
     let tests = after .before in
     let grade = tests .before in
-    let stepped = grade .before .before in
+    let stepped = grade .before .before .before in
     let lower = stepped .before in
     let start = lower .before .before .before .before .before in
     let ends = c .before in
@@ -59,7 +59,7 @@ returns c =
     let after = result .before .before in
     let tests = after .before in
     let grade = tests .before in
-    let stepped = grade .before .before in
+    let stepped = grade .before .before .before in
     let lower = stepped .before in
     let start = lower .before .before .before .before .before in
     let ends = c .before .before .before .before in (
@@ -80,7 +80,7 @@ returns-2 c =
     let after = result .before .before in
     let tests = after .before in
     let grade = tests .before in
-    let stepped = grade .before .before in
+    let stepped = grade .before .before .before in
     let lower = stepped .before in
     let start = lower .before .before .before .before .before in (
       state-behind (start .args .results .now) (start .pre .0) (start .pre .1) (lower .in-force .ensures) (stepped .step-in-force .ensures)

@@ -1,4 +1,4 @@
--- Rule 2 by what is above T: the smaller of that and L, and whether that is above L.
+-- Rule 2 by what is above T: the smaller of that and L, whether that is above L, and what it has above L.
 use native.Mathlib.Omega.{arith}
 use Rattle.cusum.proofs.Laws.{step-is}
 use borrow.Author.Needs.{needs}
@@ -29,8 +29,11 @@ smaller-requires c κs = search needs
 cast-t11 : tie.Need-cast-t11
 cast-t11 c = search needs
 
+excess-requires-2 : tie.Need-excess-requires-2
+excess-requires-2 c κs = search needs
+
 returns : tie.Need-returns
-returns c = step-is _ _ _ (c .before .excess .result) _ (omega arith) (omega arith)
+returns c = step-is _ _ _ (c .before .before .excess .result) _ _ (omega arith) (omega arith) (omega arith)
 
 pub step-spec : {M : Type 1} → statement M
 step-spec =
@@ -44,4 +47,5 @@ step-spec =
     excess-requires
     smaller-requires
     cast-t11
+    excess-requires-2
     returns)
