@@ -160,9 +160,10 @@ fn overshoots_of_worked_cases() {
     let p7 = plan_of_total([[15, 15, 30], [10, 30, 30], [10, 30, 30]]);
     let mut expected = vec![(Met, 10, 0), (Failed, 30, 5), (Failed, 30, 15)];
     expected.extend([(InStepThree, 0, 0); 5]);
-    assert_eq!(totals(p7.clone(), &[1, 4, 3, 2, 2, 1, 1, 1]), expected);
-    // A unit of step 3 is over the L of the lower plan: 1 + 7 - 3 = 5.
-    assert_eq!(totals(p7, &[1, 4, 3, 7])[3], (InStepThree, 30, 20));
+    assert_eq!(totals(p7, &[1, 4, 3, 2, 2, 1, 1, 1]), expected);
+    // The same, but L is 4 at B and C. A unit of step 3 is over that L: 1 + 8 - 3 = 6.
+    let lower = plan_of_total([[15, 15, 30], [10, 30, 40], [10, 30, 40]]);
+    assert_eq!(totals(lower, &[1, 4, 3, 8])[3], (InStepThree, 40, 20));
 }
 
 #[test]
