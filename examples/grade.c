@@ -44,15 +44,25 @@ static unsigned two(const uint8_t *bytes)
     return 256u * bytes[0] + bytes[1];
 }
 
-/* Prints a result record: mark, code, portion, code grade, plan, standing, four CuSums. */
+static unsigned long four(const uint8_t *bytes)
+{
+    return 65536ul * two(bytes) + two(bytes + 2);
+}
+
+/* Prints a result record: mark, code, portion, code grade, plan, standing, four CuSums, four
+ * overshoots. */
 static void print_record(const uint8_t *record)
 {
-    printf("%04x %04x %02x %02x %02x %02x %04x %04x %04x %04x\n",
+    printf("%04x %04x %02x %02x %02x %02x %04x %04x %04x %04x %08lx %08lx %08lx %08lx\n",
            two(record), two(record + HATMUYON_RESULT_CODE),
            record[HATMUYON_RESULT_PORTION_GRADE], record[HATMUYON_RESULT_CODE_GRADE],
            record[HATMUYON_RESULT_PLAN_GRADE], record[HATMUYON_RESULT_STANDING],
            two(record + HATMUYON_RESULT_CRITICAL), two(record + HATMUYON_RESULT_SEVERE),
-           two(record + HATMUYON_RESULT_MAJOR), two(record + HATMUYON_RESULT_TOTAL));
+           two(record + HATMUYON_RESULT_MAJOR), two(record + HATMUYON_RESULT_TOTAL),
+           four(record + HATMUYON_RESULT_CRITICAL_OVERSHOOT),
+           four(record + HATMUYON_RESULT_SEVERE_OVERSHOOT),
+           four(record + HATMUYON_RESULT_MAJOR_OVERSHOOT),
+           four(record + HATMUYON_RESULT_TOTAL_OVERSHOOT));
 }
 
 int main(int argc, char **argv)

@@ -20,9 +20,9 @@ extern "C" {
  * and of the functions and types in C or Rust. A program, the header and the archive of one version
  * belong together. The archive does not carry its version, so that nothing notices another one.
  */
-#define HATMUYON_VERSION "0.2.0"
+#define HATMUYON_VERSION "0.3.0"
 #define HATMUYON_VERSION_MAJOR 0
-#define HATMUYON_VERSION_MINOR 2
+#define HATMUYON_VERSION_MINOR 3
 #define HATMUYON_VERSION_PATCH 0
 
 /*
@@ -52,7 +52,7 @@ extern "C" {
 #define HATMUYON_UNIT_SIZE 14
 #define HATMUYON_REDESIGNATION_SIZE 3
 #define HATMUYON_BREAK_SIZE 2
-#define HATMUYON_RESULT_SIZE 16
+#define HATMUYON_RESULT_SIZE 32
 
 /* The most units, and the largest count, S, T and L, of a sheet. A result buffer for any sheet has
  * HATMUYON_RESULT_SIZE * HATMUYON_MOST_UNITS bytes. */
@@ -60,16 +60,28 @@ extern "C" {
 #define HATMUYON_LARGEST_COUNT 2000
 #define HATMUYON_LARGEST_PLAN_NUMBER 9999 /* of S, T and L, in tenths */
 
-/* Offsets of the fields of a result record, which opens with the mark 47 52. */
-#define HATMUYON_RESULT_CODE 2          /* 2 bytes: production code */
-#define HATMUYON_RESULT_PORTION_GRADE 4 /* 1 byte: grade of the portion */
-#define HATMUYON_RESULT_CODE_GRADE 5    /* 1 byte: worst portion grade of the code on the sheet */
-#define HATMUYON_RESULT_PLAN_GRADE 6    /* 1 byte: grade of the plan in force for the unit, 3 if none */
-#define HATMUYON_RESULT_STANDING 7      /* 1 byte: a standing, see below */
-#define HATMUYON_RESULT_CRITICAL 8      /* 2 bytes each: the CuSums in tenths, 0 if no plan is in force */
+/* Offsets of the fields of a result record, which opens with the mark 47 52. Numbers of four bytes
+ * have the high byte first, as those of two. */
+#define HATMUYON_RESULT_CODE 2                /* 2 bytes: production code */
+#define HATMUYON_RESULT_PORTION_GRADE 4       /* 1 byte: grade of the portion */
+#define HATMUYON_RESULT_CODE_GRADE 5          /* 1 byte: worst portion grade of the code on the sheet */
+#define HATMUYON_RESULT_PLAN_GRADE 6          /* 1 byte: grade of the plan in force for the unit, 3 if none */
+#define HATMUYON_RESULT_STANDING 7            /* 1 byte: a standing, see below */
+#define HATMUYON_RESULT_CRITICAL 8            /* 2 bytes each: the CuSums in tenths, 0 if no plan is in force */
 #define HATMUYON_RESULT_SEVERE 10
 #define HATMUYON_RESULT_MAJOR 12
 #define HATMUYON_RESULT_TOTAL 14
+#define HATMUYON_RESULT_CRITICAL_OVERSHOOT 16 /* 4 bytes each: the overshoots in tenths, see below */
+#define HATMUYON_RESULT_SEVERE_OVERSHOOT 20
+#define HATMUYON_RESULT_MAJOR_OVERSHOOT 24
+#define HATMUYON_RESULT_TOTAL_OVERSHOOT 28
+
+/*
+ * The overshoot of a class tells how far it is over its limit: the raw value less L, or 0 where the
+ * class met. The raw value is the old CuSum + ten times the count - T; T and L are those of the plan
+ * in force for the unit, and where there is none every overshoot is 0. A class failed exactly if its
+ * overshoot is not 0. None is above 80,000, which is ten times four of the largest counts.
+ */
 
 /* Grades, best first. */
 enum hatmuyon_grade_code {
@@ -109,7 +121,7 @@ enum hatmuyon_number {
     HATMUYON_REFUSED_BAD_NEW_GRADE = 10,           /* new grade above 2 */
     HATMUYON_REFUSED_SAME_GRADE = 11,              /* new grade equals the one designated just before this record */
     HATMUYON_REFUSED_TOO_MANY_UNITS = 12,          /* a unit after the 1,000th */
-    HATMUYON_REFUSED_RESULT_BUFFER_TOO_SHORT = 13, /* result buffer shorter than 16 times the units */
+    HATMUYON_REFUSED_RESULT_BUFFER_TOO_SHORT = 13, /* result buffer shorter than 32 times the units */
     HATMUYON_REFUSED_CUSUM_TOO_LARGE = 14          /* a CuSum too large for two bytes; no sheet leads to it */
 };
 

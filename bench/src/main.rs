@@ -9,7 +9,10 @@
 
 use grader::generate::{self, table, PEACH};
 use grader::sheet::{Record, Sheet, Unit};
-use hatmuyon::ffi::{RESULT_CODE, RESULT_CODE_GRADE, RESULT_PORTION_GRADE, RESULT_STANDING};
+use hatmuyon::ffi::{
+    RESULT_CODE, RESULT_CODE_GRADE, RESULT_CRITICAL_OVERSHOOT, RESULT_PORTION_GRADE,
+    RESULT_STANDING,
+};
 use hatmuyon::RESULT_SIZE;
 use std::hint::black_box;
 use std::time::Instant;
@@ -167,6 +170,11 @@ fn in_and_out() -> Vec<Record> {
     (0..1000).map(|i| unit(1, if i % 5 < 2 { FAILS } else { MEETS })).collect()
 }
 
+/// Every second unit fails, so that step 3 never begins.
+fn every_second_fails() -> Vec<Record> {
+    (0..1000).map(|i| unit(1, if i % 2 == 0 { FAILS } else { MEETS })).collect()
+}
+
 fn refused_last() -> Vec<Record> {
     let mut records = plain(1000, 1);
     records.push(Record::Redesignation(0));
@@ -226,20 +234,28 @@ fn main() {
     println!();
 
     head("sheet", "us");
-    // Each with its units, its expected number, and how many units must be recovered.
-    for (name, units, records, number, recovered) in [
-        ("40 units, 5 codes", 40, plain(40, 5), 0, 0),
-        ("1,000 units, 1 code", 1000, plain(1000, 1), 0, 0),
-        ("1,000 units, 1,000 codes; a map, a table by code", 1000, plain(1000, 1000), 0, 0),
-        ("1,000 units in and out of step 3, 600 recovered", 1000, in_and_out(), 0, 600),
-        ("1,000 units, refused at the last record", 1000, refused_last(), 11, 0),
-        ("1,000 units, 20,000 breaks", 1000, with_breaks(), 0, 0),
+    // Each with its units, its expected number, and how many units must be recovered and how many must
+    // have an overshoot.
+    for (name, units, records, number, recovered, over) in [
+        ("40 units, 5 codes", 40, plain(40, 5), 0, 0, 0),
+        ("1,000 units, 1 code", 1000, plain(1000, 1), 0, 0, 0),
+        ("1,000 units, 1,000 codes; a map, a table by code", 1000, plain(1000, 1000), 0, 0, 0),
+        ("1,000 units, every second fails", 1000, every_second_fails(), 0, 0, 500),
+        ("1,000 units in and out of step 3, 600 recovered", 1000, in_and_out(), 0, 600, 400),
+        ("1,000 units, refused at the last record", 1000, refused_last(), 11, 0, 0),
+        ("1,000 units, 20,000 breaks", 1000, with_breaks(), 0, 0, 0),
     ] {
         let contenders: [Contender; 3] = [&mut library, &mut grader, &mut tuned];
         let (times, answer, results) = times(contenders, &bytes(records), units, rounds);
-        let standings = results.chunks_exact(RESULT_SIZE).map(|record| record[RESULT_STANDING]);
-        let found = standings.filter(|&standing| standing == RECOVERED).count();
-        assert_eq!((answer.0, found), (number, recovered), "{name}");
+        let count = |holds: fn(&[u8]) -> bool| {
+            results.chunks_exact(RESULT_SIZE).filter(|record| holds(record)).count()
+        };
+        let found = (
+            answer.0,
+            count(|record| record[RESULT_STANDING] == RECOVERED),
+            count(|record| record[RESULT_CRITICAL_OVERSHOOT..].iter().any(|&byte| byte != 0)),
+        );
+        assert_eq!(found, (number, recovered, over), "{name}");
         row(name, times.map(|time| time.per(1000.0)));
     }
     let sheet = bytes(plain(1000, 1000));

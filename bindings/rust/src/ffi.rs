@@ -18,6 +18,14 @@ pub const RESULT_SEVERE: usize = 10;
 pub const RESULT_MAJOR: usize = 12;
 /// Offset of the CuSum of total defects.
 pub const RESULT_TOTAL: usize = 14;
+/// Offset of the overshoot of critical defects, 4 bytes with the high byte first, tenths.
+pub const RESULT_CRITICAL_OVERSHOOT: usize = 16;
+/// Offset of the overshoot of severe defects.
+pub const RESULT_SEVERE_OVERSHOOT: usize = 20;
+/// Offset of the overshoot of major defects.
+pub const RESULT_MAJOR_OVERSHOOT: usize = 24;
+/// Offset of the overshoot of total defects.
+pub const RESULT_TOTAL_OVERSHOOT: usize = 28;
 
 /// Bytes of stack that [`hatmuyon_grade`] needs at most; the header says how they were measured.
 pub const STACK_SIZE: usize = 2048;

@@ -13,23 +13,30 @@
 //! for _ in 0..12 {
 //!     sheet.extend([0, 0, 0, 50, 0, 50]);
 //! }
-//! // A sample unit with code 7 and six minor defects.
-//! sheet.extend([0x53, 0x55, 0, 7, 0, 0, 0, 0, 0, 0, 0, 6, 0, 0]);
-//!
-//! let mut results = [0; RESULT_SIZE];
-//! let graded = grade(&sheet, &mut results)?;
-//! assert_eq!(graded.units(), 1);
-//! for record in &graded {
-//!     assert_eq!(record.code, 7);
-//!     assert_eq!(record.portion_grade, Grade::A);
-//!     assert_eq!(record.standing, Standing::Met);
-//!     assert_eq!(record.cusums, [0, 0, 0, 10]); // tenths
+//! // Two sample units with code 7: six minor defects, then ten.
+//! for minor in [6, 10] {
+//!     sheet.extend([0x53, 0x55, 0, 7, 0, 0, 0, 0, 0, 0, 0, minor, 0, 0]);
 //! }
 //!
+//! let mut results = [0; 2 * RESULT_SIZE];
+//! let graded = grade(&sheet, &mut results)?;
+//! assert_eq!(graded.units(), 2);
+//! for record in &graded {
+//!     assert_eq!((record.code, record.code_grade), (7, Grade::B));
+//! }
+//! let mut records = graded.records();
+//! let first = records.next().unwrap();
+//! assert_eq!((first.portion_grade, first.standing), (Grade::A, Standing::Met));
+//! assert_eq!((first.cusums, first.overshoots), ([0, 0, 0, 10], [0; 4])); // tenths
+//! // 1.0 + 10 - 5.0 = 6.0 is 1.0 above L.
+//! let second = records.next().unwrap();
+//! assert_eq!((second.portion_grade, second.standing), (Grade::B, Standing::Failed));
+//! assert_eq!((second.cusums, second.overshoots), ([0, 0, 0, 50], [0, 0, 0, 10]));
+//!
 //! // The same without its last byte.
-//! let refusal = grade(&sheet[..88], &mut results).unwrap_err();
+//! let refusal = grade(&sheet[..102], &mut results).unwrap_err();
 //! assert_eq!(refusal.ground(), Some(Ground::CutShort));
-//! assert_eq!(refusal.offset, 75);
+//! assert_eq!(refusal.offset, 89);
 //! # Ok::<(), hatmuyon::Refusal>(())
 //! ```
 //!
@@ -82,7 +89,7 @@ pub const REDESIGNATION_SIZE: usize = 3;
 /// Bytes of a break in production.
 pub const BREAK_SIZE: usize = 2;
 /// Bytes of a result record.
-pub const RESULT_SIZE: usize = 16;
+pub const RESULT_SIZE: usize = 32;
 
 /// The most sample units on a sheet, so that `RESULT_SIZE * MOST_UNITS` bytes hold the results of
 /// any sheet.
@@ -220,6 +227,10 @@ pub struct Record {
     /// The CuSums of the classes critical, severe, major and total, in tenths of a defect; zero if
     /// no plan is in force.
     pub cusums: [u16; 4],
+    /// How far each class is over its limit, in the same order and in tenths: the raw value less L of
+    /// the plan in force, and zero if the class met or no plan is in force. A class failed exactly if
+    /// its overshoot is not zero.
+    pub overshoots: [u32; 4],
 }
 
 impl Record {
@@ -227,6 +238,7 @@ impl Record {
     fn from_bytes(bytes: &[u8]) -> Record {
         use ffi::*;
         let two = |at: usize| u16::from_be_bytes([bytes[at], bytes[at + 1]]);
+        let four = |at: usize| u32::from_be_bytes(std::array::from_fn(|i| bytes[at + i]));
         Record {
             code: two(RESULT_CODE),
             portion_grade: Grade::from_byte(bytes[RESULT_PORTION_GRADE]),
@@ -237,6 +249,13 @@ impl Record {
             },
             standing: Standing::from_byte(bytes[RESULT_STANDING]),
             cusums: [RESULT_CRITICAL, RESULT_SEVERE, RESULT_MAJOR, RESULT_TOTAL].map(two),
+            overshoots: [
+                RESULT_CRITICAL_OVERSHOOT,
+                RESULT_SEVERE_OVERSHOOT,
+                RESULT_MAJOR_OVERSHOOT,
+                RESULT_TOTAL_OVERSHOOT,
+            ]
+            .map(four),
         }
     }
 }
@@ -372,7 +391,7 @@ pub enum Ground {
     SameGrade = 11,
     /// A unit stands after the 1,000th.
     TooManyUnits = 12,
-    /// The result buffer is shorter than 16 times the units.
+    /// The result buffer is shorter than 32 times the units.
     ResultBufferTooShort = 13,
     /// A CuSum is too large for two bytes; no sheet leads to it.
     CusumTooLarge = 14,
@@ -432,7 +451,7 @@ impl fmt::Display for Ground {
             Ground::BadNewGrade => "new grade above 2",
             Ground::SameGrade => "new grade equals the one designated just before this record",
             Ground::TooManyUnits => "a unit after the 1,000th",
-            Ground::ResultBufferTooShort => "result buffer shorter than 16 times the units",
+            Ground::ResultBufferTooShort => "result buffer shorter than 32 times the units",
             Ground::CusumTooLarge => "a CuSum too large for two bytes",
         })
     }
@@ -471,7 +490,27 @@ mod tests {
     #[should_panic(expected = "an archive of another version")]
     fn more_records_than_any_room() {
         // Times RESULT_SIZE this would be 0.
-        let _ = outcome(Answer { number: 0, units: 1 << 60, offset: 75 }, &[]);
+        let units = usize::MAX / RESULT_SIZE + 1;
+        let _ = outcome(Answer { number: 0, units, offset: 75 }, &[]);
+    }
+
+    #[test]
+    fn each_field_from_its_bytes() {
+        let bytes: [u8; RESULT_SIZE] = [
+            0x47, 0x52, 0x12, 0x34, 2, 3, 1, 1, // mark, code, grades, standing
+            0, 1, 0, 2, 0x27, 0x0F, 1, 0, // CuSums
+            0, 0, 0, 1, 1, 2, 3, 4, 0, 0, 0xFF, 0xFF, 0, 1, 0x38, 0x80, // overshoots
+        ];
+        let expected = Record {
+            code: 0x1234,
+            portion_grade: Grade::C,
+            code_grade: Grade::Substandard,
+            plan_grade: Some(Grade::B),
+            standing: Standing::Failed,
+            cusums: [1, 2, 9999, 256],
+            overshoots: [1, 0x01020304, 65_535, 80_000],
+        };
+        assert_eq!(Record::from_bytes(&bytes), expected);
     }
 
     #[test]

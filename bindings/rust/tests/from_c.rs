@@ -81,6 +81,10 @@ fn same_as_in_c() {
     put("severe at", ffi::RESULT_SEVERE);
     put("major at", ffi::RESULT_MAJOR);
     put("total at", ffi::RESULT_TOTAL);
+    put("critical overshoot at", ffi::RESULT_CRITICAL_OVERSHOOT);
+    put("severe overshoot at", ffi::RESULT_SEVERE_OVERSHOOT);
+    put("major overshoot at", ffi::RESULT_MAJOR_OVERSHOOT);
+    put("total overshoot at", ffi::RESULT_TOTAL_OVERSHOOT);
     for grade in [Grade::A, Grade::B, Grade::C, Grade::Substandard] {
         put(&format!("{grade:?}"), grade as usize);
     }

@@ -23,6 +23,17 @@ fn plan_with(grade: usize, class: usize, number: usize, value: u16) -> Vec<u8> {
     plan
 }
 
+/// A plan with A designated and these S, T and L of total at A, B and C. In the other classes they
+/// are 0, and a unit with minor defects only is never over.
+fn plan_of_total(grades: [[u16; 3]; 3]) -> Vec<u8> {
+    let mut plan = vec![0x50, 0x4C, 0];
+    for numbers in grades {
+        plan.extend([0; 18]);
+        plan.extend(numbers.map(u16::to_be_bytes).concat());
+    }
+    plan
+}
+
 fn put(bytes: &mut [u8], at: usize, value: u16) {
     bytes[at..at + 2].copy_from_slice(&value.to_be_bytes());
 }
@@ -43,6 +54,24 @@ fn sheet(records: &[&[u8]]) -> Vec<u8> {
     [plan(), records.concat()].concat()
 }
 
+/// The records of a sheet that is accepted.
+fn records(sheet: &[u8]) -> Vec<Record> {
+    let mut results = vec![0xEE; RESULT_SIZE * MOST_UNITS];
+    grade(sheet, &mut results).expect("the sheet is refused").records().collect()
+}
+
+/// Standing, CuSum and overshoot of total at units that have minor defects only, so many each.
+fn totals(plan: Vec<u8>, minors: &[u16]) -> Vec<(Standing, u16, u32)> {
+    let units: Vec<u8> = minors.iter().flat_map(|&minor| unit(1, [0, 0, 0, minor])).collect();
+    let of_total = |record: Record| {
+        let ([0, 0, 0, cusum], [0, 0, 0, overshoot]) = (record.cusums, record.overshoots) else {
+            panic!("not in total alone: {record:?}")
+        };
+        (record.standing, cusum, overshoot)
+    };
+    records(&[plan, units].concat()).into_iter().map(of_total).collect()
+}
+
 /// Grades into a buffer of 0xEE, which a refusal must keep.
 fn refused(sheet: &[u8], room: usize) -> (u32, usize) {
     let mut results = vec![0xEE; room];
@@ -53,30 +82,31 @@ fn refused(sheet: &[u8], room: usize) -> (u32, usize) {
 
 #[test]
 fn peach_sheet() {
-    let record = |code, portion, code_grade, standing, plan, cusums| Record {
+    let record = |code, portion, code_grade, standing, plan, cusums, overshoot| Record {
         code,
         portion_grade: portion,
         code_grade,
         plan_grade: Some(plan),
         standing,
         cusums,
+        overshoots: [0, 0, 0, overshoot],
     };
     use Grade::{A, B};
     use Standing::{Failed, InStepThree, Met, Recovered};
     let expected = [
-        record(1, A, A, Met, A, [0, 0, 0, 20]),
-        record(2, B, B, Failed, A, [0, 5, 10, 40]),
-        record(3, B, B, Failed, A, [0, 0, 10, 40]),
-        record(4, A, A, Recovered, B, [0; 4]),
-        record(5, A, B, Recovered, B, [0; 4]),
-        record(5, B, B, InStepThree, B, [0; 4]),
-        record(7, B, B, Met, A, [5, 0, 0, 0]),
+        record(1, A, A, Met, A, [0, 0, 0, 20], 0),
+        record(2, B, B, Failed, A, [0, 5, 10, 40], 40),
+        record(3, B, B, Failed, A, [0, 0, 10, 40], 10),
+        record(4, A, A, Recovered, B, [0; 4], 0),
+        record(5, A, B, Recovered, B, [0; 4], 0),
+        record(5, B, B, InStepThree, B, [0; 4], 0),
+        record(7, B, B, Met, A, [5, 0, 0, 0], 0),
     ];
     let mut results = [0; 7 * RESULT_SIZE];
     let graded = grade(PEACH, &mut results).unwrap();
     assert_eq!(graded.units(), 7);
     assert_eq!(graded.records().collect::<Vec<_>>(), expected);
-    assert_eq!(graded.bytes().len(), 7 * RESULT_SIZE);
+    assert_eq!(graded.bytes().len(), 224);
 }
 
 #[test]
@@ -88,6 +118,9 @@ fn pea_sheet() {
     let [(23, unit)] = failed[..] else { panic!("not the 23rd unit alone: {failed:?}") };
     assert_eq!((unit.portion_grade, unit.cusums), (Grade::B, [0, 5, 10, 60]));
     assert_eq!(graded.records().nth(23).unwrap().cusums, [0, 0, 0, 30]);
+    // 3 + 22 - 15 = 10 is 4 above L, and no other unit is over.
+    assert_eq!(unit.overshoots, [0, 0, 0, 40]);
+    assert_eq!(graded.into_iter().filter(|unit| unit.overshoots != [0; 4]).count(), 1);
 }
 
 #[test]
@@ -97,16 +130,51 @@ fn damaged_sheet() {
 
 #[test]
 fn no_plan_in_force() {
-    // Two units fail to Substandard; then no plan is in force.
+    // Two units fail to Substandard; then no plan is in force, and there is no L to be over.
     let bad = unit(9, [2000, 0, 0, 0]);
-    let sheet = sheet(&[&bad, &bad, &unit(9, [0; 4])]);
-    let mut results = [0; 3 * RESULT_SIZE];
-    let last = grade(&sheet, &mut results).unwrap().records().next_back().unwrap();
+    let units = records(&sheet(&[&bad, &bad, &bad]));
+    let overshoots: Vec<_> = units.iter().map(|unit| unit.overshoots).collect();
+    assert_eq!(overshoots, [[19_900, 0, 0, 19_900], [19_950, 0, 0, 19_950], [0; 4]]);
+    let last = units[2];
     assert_eq!(
         (last.plan_grade, last.portion_grade, last.cusums),
         (None, Grade::Substandard, [0; 4])
     );
     assert_eq!(last.standing, Standing::InStepThree);
+}
+
+#[test]
+fn overshoots_of_worked_cases() {
+    use Standing::{Failed, InStepThree, Met};
+    // P1: 1/3/3, counts 8,3,2,1,12; T+L at B and C are those of P2.
+    let p1 = plan_of_total([[10, 30, 30], [10, 50, 50], [10, 65, 65]]);
+    assert_eq!(
+        totals(p1, &[8, 3, 2, 1, 12]),
+        [(Failed, 30, 30), (Met, 30, 0), (Met, 20, 0), (Met, 0, 0), (Failed, 30, 60)]
+    );
+    // P4: raw value L+0.1; a raw value of L is not over.
+    let p4 = |start| plan_of_total([[start, 30, 30]; 3]);
+    assert_eq!(totals(p4(1), &[6]), [(Failed, 30, 1)]);
+    assert_eq!(totals(p4(0), &[6]), [(Met, 30, 0)]);
+    // P7: 1.5/1.5/3, counts 1,4,3; P8: then 2,2,1,1,1 at the lower plan 1/3/3.
+    let p7 = plan_of_total([[15, 15, 30], [10, 30, 30], [10, 30, 30]]);
+    let mut expected = vec![(Met, 10, 0), (Failed, 30, 5), (Failed, 30, 15)];
+    expected.extend([(InStepThree, 0, 0); 5]);
+    assert_eq!(totals(p7, &[1, 4, 3, 2, 2, 1, 1, 1]), expected);
+    // The same, but L is 4 at B and C. A unit of step 3 is over that L: 1 + 8 - 3 = 6.
+    let lower = plan_of_total([[15, 15, 30], [10, 30, 40], [10, 30, 40]]);
+    assert_eq!(totals(lower, &[1, 4, 3, 8])[3], (InStepThree, 40, 20));
+}
+
+#[test]
+fn overshoots_by_class() {
+    // Raw values 6, 5, 8 and 31: that of severe is L.
+    let [record] = records(&sheet(&[&unit(1, [11, 10, 13, 2])]))[..] else { panic!("not one") };
+    assert_eq!((record.cusums, record.overshoots), ([50; 4], [10, 0, 30, 260]));
+    // The most there is: four of the largest counts, and S, T and L of 0.
+    let most = [plan_of_total([[0; 3]; 3]), unit(1, [2000; 4])].concat();
+    let [record] = records(&most)[..] else { panic!("not one") };
+    assert_eq!((record.cusums, record.overshoots), ([0; 4], [20_000, 20_000, 20_000, 80_000]));
 }
 
 #[test]
@@ -168,7 +236,7 @@ fn every_refusal() {
         }
     }
     let two = sheet(&[&ok, &ok]);
-    for room in [0, 1, 16, 31] {
+    for room in [0, 1, RESULT_SIZE, 2 * RESULT_SIZE - 1] {
         assert_eq!(refused(&two, room), (13, PLAN_SIZE + 2 * UNIT_SIZE));
     }
     // Every ground but 14, to which no sheet leads.
@@ -191,33 +259,33 @@ fn largest_sheet() {
 }
 
 #[test]
-fn fifteen_and_sixteen_result_bytes_for_one_unit() {
+fn thirty_one_and_thirty_two_result_bytes_for_one_unit() {
     let sheet = sheet(&[&unit(1, [0; 4])]);
-    let mut results = [0xEE; 16];
-    let refusal = grade(&sheet, &mut results[..15]).unwrap_err();
+    let mut results = [0xEE; 32];
+    let refusal = grade(&sheet, &mut results[..31]).unwrap_err();
     assert_eq!(
         (refusal.ground(), refusal.offset),
         (Some(Ground::ResultBufferTooShort), sheet.len())
     );
-    assert_eq!(results, [0xEE; 16]);
+    assert_eq!(results, [0xEE; 32]);
     assert_eq!(grade(&sheet, &mut results).unwrap().units(), 1);
 }
 
 #[test]
 fn bytes_behind_the_records_are_kept() {
     let sheet = sheet(&[&unit(1, [0; 4]), &BREAK, &unit(2, [0; 4])]);
-    let mut results = [0xEE; 60];
+    let mut results = [0xEE; 92];
     let graded = grade(&sheet, &mut results).unwrap();
-    assert_eq!((graded.units(), graded.bytes().len()), (2, 32));
-    assert_eq!(results[32..], [0xEE; 28]);
-    assert!(results[..32].iter().all(|&byte| byte != 0xEE));
+    assert_eq!((graded.units(), graded.bytes().len()), (2, 64));
+    assert_eq!(results[64..], [0xEE; 28]);
+    assert!(results[..64].iter().all(|&byte| byte != 0xEE));
 }
 
 #[test]
 fn records_from_both_ends() {
     let units: Vec<u8> = (1..=5).flat_map(|code| unit(code, [0; 4])).collect();
     let sheet = sheet(&[&units]);
-    let mut results = [0; 80];
+    let mut results = [0; 5 * RESULT_SIZE];
     let graded = grade(&sheet, &mut results).unwrap();
     let mut records = graded.records();
     assert_eq!(records.len(), 5);

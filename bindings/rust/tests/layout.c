@@ -56,6 +56,10 @@ int main(void)
     value("severe at", HATMUYON_RESULT_SEVERE);
     value("major at", HATMUYON_RESULT_MAJOR);
     value("total at", HATMUYON_RESULT_TOTAL);
+    value("critical overshoot at", HATMUYON_RESULT_CRITICAL_OVERSHOOT);
+    value("severe overshoot at", HATMUYON_RESULT_SEVERE_OVERSHOOT);
+    value("major overshoot at", HATMUYON_RESULT_MAJOR_OVERSHOOT);
+    value("total overshoot at", HATMUYON_RESULT_TOTAL_OVERSHOOT);
 
     value("A", HATMUYON_GRADE_A);
     value("B", HATMUYON_GRADE_B);
