@@ -7,7 +7,7 @@ use native.Mathlib.Omega.{arith}
 use lib.ListN.{length, length-append}
 use Rattle.encoding.specs.Bytes.{byte}
 use Rattle.units.specs.Words.{classes}
-use Rattle.results.specs.Record.{resultSize, codeOffset, cusumsOffset, codeIn, cusumIn}
+use Rattle.results.specs.Record.{resultSize, codeOffset, cusumsOffset, cusumWidth, codeIn, cusumIn}
 use Rattle.lines.specs.Ascii.{ascii}
 use Rattle.lines.specs.Lines.{decimal, restOfLine, lineWith, cusumField, cusumFields, lineOf, refusedLine}
 use Rattle.lines.specs.Wrote.{letterFields, wordSize, numberSize, cusumSize, lineSize}
@@ -38,7 +38,7 @@ short-fields field short (class ∷ others) =
 module _ (results : List ℕ) (bytes : (at : ℕ) → byte results at < 256) where
   short-cusum : (j class : ℕ) → length (cusumField results j class) ≤ cusumSize
   short-cusum j class =
-      let at = resultSize * j + (cusumsOffset + 2 * class) in
+      let at = resultSize * j + (cusumsOffset + cusumWidth * class) in
       let tenths = cusumIn results j class in
       omega (arith, length-tenths tenths, length-decimal (numberSize - 1) (tenths / 10) (omega arith) (omega (arith, bytes at, bytes (at + 1))))
 

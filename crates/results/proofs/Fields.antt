@@ -11,7 +11,7 @@ use Rattle.encoding.proofs.Numbers.{number-behind, high-low, wide-behind, numbe
 use Rattle.units.specs.Words.{classes, tenthsIn, overshootOfClass}
 use Rattle.units.proofs.Classes.{class-at}
 use Rattle.results.specs.declared.ResultRecord.{ResultRecord}
-use Rattle.results.specs.Record.{resultSize, markOffset, codeOffset, portionGradeOffset, codeGradeOffset, planGradeOffset, standingOffset, cusumsOffset, cusumSize, overshootsOffset, overshootSize, classBytes, resultBytes}
+use Rattle.results.specs.Record.{resultSize, markOffset, codeOffset, portionGradeOffset, codeGradeOffset, planGradeOffset, standingOffset, cusumsOffset, cusumWidth, overshootsOffset, overshootWidth, classBytes, resultBytes}
 
 -- ---- a number of each class
 
@@ -71,24 +71,24 @@ module _ (codeGrade : ℕ) (result : ResultRecord) where
     front = take cusumsOffset (resultBytes codeGrade result)
 
     abbrev cusumBytes : List ℕ
-    cusumBytes = classBytes cusumSize (tenthsIn (result .cusums)) classes
+    cusumBytes = classBytes cusumWidth (tenthsIn (result .cusums)) classes
 
     abbrev overshootBytes : List ℕ
-    overshootBytes = classBytes overshootSize (overshootOfClass (result .overshoots)) classes
+    overshootBytes = classBytes overshootWidth (overshootOfClass (result .overshoots)) classes
 
     pub cusum-read : (class : ℕ) → class < length classes → tenthsIn (result .cusums) class < 65536
-        → number (resultBytes codeGrade result ++ rest) (cusumsOffset + cusumSize * class) ≡ tenthsIn (result .cusums) class
+        → number (resultBytes codeGrade result ++ rest) (cusumsOffset + cusumWidth * class) ≡ tenthsIn (result .cusums) class
     unfolding resultBytes
     cusum-read class inside small =
-        number-behind front ((cusumBytes ++ overshootBytes) ++ rest) (cusumSize * class)
-        ∙ number-is-wide ((cusumBytes ++ overshootBytes) ++ rest) (cusumSize * class)
-        ∙ ap (λ (bytes : List ℕ). wideNumber cusumSize bytes (cusumSize * class)) (append-assoc cusumBytes overshootBytes rest)
-        ∙ class-read cusumSize (tenthsIn (result .cusums)) (overshootBytes ++ rest) class inside small
+        number-behind front ((cusumBytes ++ overshootBytes) ++ rest) (cusumWidth * class)
+        ∙ number-is-wide ((cusumBytes ++ overshootBytes) ++ rest) (cusumWidth * class)
+        ∙ ap (λ (bytes : List ℕ). wideNumber cusumWidth bytes (cusumWidth * class)) (append-assoc cusumBytes overshootBytes rest)
+        ∙ class-read cusumWidth (tenthsIn (result .cusums)) (overshootBytes ++ rest) class inside small
 
     pub overshoot-read : (class : ℕ) → class < length classes → overshootOfClass (result .overshoots) class < 4294967296
-        → wideNumber overshootSize (resultBytes codeGrade result ++ rest) (overshootsOffset + overshootSize * class)
+        → wideNumber overshootWidth (resultBytes codeGrade result ++ rest) (overshootsOffset + overshootWidth * class)
         ≡ overshootOfClass (result .overshoots) class
     unfolding resultBytes classBytes bytesOf
     overshoot-read class inside small =
-        wide-behind overshootSize (front ++ cusumBytes) (overshootBytes ++ rest) (overshootSize * class)
-        ∙ class-read overshootSize (overshootOfClass (result .overshoots)) rest class inside small
+        wide-behind overshootWidth (front ++ cusumBytes) (overshootBytes ++ rest) (overshootWidth * class)
+        ∙ class-read overshootWidth (overshootOfClass (result .overshoots)) rest class inside small

@@ -17,7 +17,7 @@ use Rattle.units.specs.declared.Entry.{Entry}
 use Rattle.units.specs.declared.Entry.the-variants.{UnitRecord, Redesignation, Break}
 use Rattle.units.proofs.Records.{units-next}
 use Rattle.results.specs.declared.ResultRecord.{ResultRecord}
-use Rattle.results.specs.Record.{resultSize, markOffset, codeOffset, portionGradeOffset, codeGradeOffset, planGradeOffset, standingOffset, cusumsOffset, cusumSize, overshootsOffset, overshootSize, resultBytes, markIn, codeIn, portionGradeIn, codeGradeIn, planGradeIn, standingIn, cusumIn, overshootIn}
+use Rattle.results.specs.Record.{resultSize, markOffset, codeOffset, portionGradeOffset, codeGradeOffset, planGradeOffset, standingOffset, cusumsOffset, cusumWidth, overshootsOffset, overshootWidth, resultBytes, markIn, codeIn, portionGradeIn, codeGradeIn, planGradeIn, standingIn, cusumIn, overshootIn}
 use Rattle.results.specs.Written.{bytesBy, written}
 use Rattle.results.proofs.Stores.{appended}
 use Rattle.results.proofs.Fields.{length-result, mark-read, portion-read, code-grade-read, plan-read, standing-read, code-read, cusum-read, overshoot-read}
@@ -158,11 +158,11 @@ module _ (recording : ℕ → SampleUnit → ResultRecord) (grades : ℕ → ℕ
       pub cusum-written : (class : ℕ) → class < length classes → tenthsIn (recording i unit .cusums) class < 65536
           → cusumIn (written recording grades entry n ++ rest) (unitsAmong entry i) class ≡ tenthsIn (recording i unit .cusums) class
       cusum-written class known small =
-          read-written number number-behind (cusumsOffset + cusumSize * class) _
+          read-written number number-behind (cusumsOffset + cusumWidth * class) _
           (λ more. cusum-read (grades (unit .code)) (recording i unit) more class known small)
 
       pub overshoot-written : (class : ℕ) → class < length classes → overshootOfClass (recording i unit .overshoots) class < 4294967296
           → overshootIn (written recording grades entry n ++ rest) (unitsAmong entry i) class ≡ overshootOfClass (recording i unit .overshoots) class
       overshoot-written class known small =
-          read-written (wideNumber overshootSize) (wide-behind overshootSize) (overshootsOffset + overshootSize * class) _
+          read-written (wideNumber overshootWidth) (wide-behind overshootWidth) (overshootsOffset + overshootWidth * class) _
           (λ more. overshoot-read (grades (unit .code)) (recording i unit) more class known small)

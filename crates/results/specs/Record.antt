@@ -31,17 +31,17 @@ abbrev pub cusumsOffset : ℕ
 cusumsOffset = 8
 
 -- bytes of a CuSum, and of an overshoot
-abbrev pub cusumSize : ℕ
-cusumSize = 2
+abbrev pub cusumWidth : ℕ
+cusumWidth = 2
 
-abbrev pub overshootSize : ℕ
-overshootSize = 4
+abbrev pub overshootWidth : ℕ
+overshootWidth = 4
 
 abbrev pub overshootsOffset : ℕ
-overshootsOffset = cusumsOffset + cusumSize * length classes
+overshootsOffset = cusumsOffset + cusumWidth * length classes
 
 abbrev pub resultSize : ℕ
-resultSize = overshootsOffset + overshootSize * length classes
+resultSize = overshootsOffset + overshootWidth * length classes
 
 -- ---- its bytes
 
@@ -55,7 +55,7 @@ unfoldable pub resultBytes : ℕ → ResultRecord → List ℕ
 resultBytes codeGrade result =
     0x47 ∷ 0x52 ∷ high (result .code) ∷ low (result .code)
     ∷ result .portion ∷ codeGrade ∷ result .plan ∷ result .standing
-    ∷ (classBytes cusumSize (tenthsIn (result .cusums)) classes ++ classBytes overshootSize (overshootOfClass (result .overshoots)) classes)
+    ∷ (classBytes cusumWidth (tenthsIn (result .cusums)) classes ++ classBytes overshootWidth (overshootOfClass (result .overshoots)) classes)
 
 -- ---- a field of the record of unit j, read back from the result buffer
 
@@ -80,8 +80,8 @@ standingIn results j = byte results (resultSize * j + standingOffset)
 
 -- the CuSum of a class
 abbrev pub cusumIn : List ℕ → ℕ → ℕ → ℕ
-cusumIn results j class = number results (resultSize * j + (cusumsOffset + cusumSize * class))
+cusumIn results j class = number results (resultSize * j + (cusumsOffset + cusumWidth * class))
 
 -- and its overshoot
 abbrev pub overshootIn : List ℕ → ℕ → ℕ → ℕ
-overshootIn results j class = wideNumber overshootSize results (resultSize * j + (overshootsOffset + overshootSize * class))
+overshootIn results j class = wideNumber overshootWidth results (resultSize * j + (overshootsOffset + overshootWidth * class))

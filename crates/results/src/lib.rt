@@ -10,7 +10,7 @@ use units::Cusums;
 use units::Overshoots;
 
 // Bytes of a result record, and offsets of its fields.
-pub const RESULT_SIZE: usize = OVERSHOOTS_OFFSET + OVERSHOOT_SIZE * CLASSES;
+pub const RESULT_SIZE: usize = OVERSHOOTS_OFFSET + OVERSHOOT_WIDTH * CLASSES;
 
 pub const CODE_OFFSET: usize = 2;
 
@@ -24,12 +24,12 @@ pub const STANDING_OFFSET: usize = 7;
 
 pub const CUSUMS_OFFSET: usize = 8;
 
-const OVERSHOOTS_OFFSET: usize = CUSUMS_OFFSET + CUSUM_SIZE * CLASSES;
+const OVERSHOOTS_OFFSET: usize = CUSUMS_OFFSET + CUSUM_WIDTH * CLASSES;
 
 // Bytes of a CuSum, and of an overshoot.
-pub const CUSUM_SIZE: usize = 2;
+pub const CUSUM_WIDTH: usize = 2;
 
-const OVERSHOOT_SIZE: usize = 4;
+const OVERSHOOT_WIDTH: usize = 4;
 
 // What a result record says of a unit, but for its code grade, which is known last.
 pub struct ResultRecord {

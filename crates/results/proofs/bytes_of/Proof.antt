@@ -6,7 +6,7 @@ use lib.ListN.{take}
 use Rattle.encoding.specs.Bytes.{byte, bytesOf}
 use Rattle.units.specs.Words.{overshootOfClass}
 use Rattle.results.specs.declared.ResultRecord.{ResultRecord}
-use Rattle.results.specs.Record.{overshootsOffset, overshootSize, resultBytes, classBytes}
+use Rattle.results.specs.Record.{overshootsOffset, overshootWidth, resultBytes, classBytes}
 use borrow.Author.Needs.{needs}
 use Rattle.results.proofs.bytes_of.Statement.{statement}
 use Rattle.results.proofs.bytes_of.Tie as tie
@@ -14,10 +14,10 @@ use Rattle.encoding.proofs.four_bytes.Reads as four-bytes-reads
 
 -- four bytes of each overshoot in their place
 bytes-are : (grade : ℕ) (result : ResultRecord) {critical severe major total : List ℕ}
-    → critical ≡ bytesOf overshootSize (overshootOfClass (result .overshoots) 0)
-    → severe ≡ bytesOf overshootSize (overshootOfClass (result .overshoots) 1)
-    → major ≡ bytesOf overshootSize (overshootOfClass (result .overshoots) 2)
-    → total ≡ bytesOf overshootSize (overshootOfClass (result .overshoots) 3)
+    → critical ≡ bytesOf overshootWidth (overshootOfClass (result .overshoots) 0)
+    → severe ≡ bytesOf overshootWidth (overshootOfClass (result .overshoots) 1)
+    → major ≡ bytesOf overshootWidth (overshootOfClass (result .overshoots) 2)
+    → total ≡ bytesOf overshootWidth (overshootOfClass (result .overshoots) 3)
     → take overshootsOffset (resultBytes grade result)
     ++ (byte critical 0 ∷ byte critical 1 ∷ byte critical 2 ∷ byte critical 3
     ∷ byte severe 0 ∷ byte severe 1 ∷ byte severe 2 ∷ byte severe 3
