@@ -1,10 +1,11 @@
 -- The layout in the paper's numbers: sizes and offsets by computing, the place of S, T and L by arithmetic, the next record by the mark of
 -- the one before it.
-use Prim.Native.Nat.{ℕ}
-use mathlib.Core.Path.{refl, ap}
+use Prim.Native.Nat.{ℕ, _+_, _*_}
+use mathlib.Core.Path.{_≡_, refl, ap}
 use mathlib.Core.List.{List}
+use native.Mathlib.Nat.{add-zero}
 use native.Mathlib.Omega.{arith}
-use Rattle.encoding.specs.Bytes.{number}
+use Rattle.encoding.specs.Bytes.{byte, number, wideNumber}
 use Rattle.layout.specs.Layout.{sizeOf, offset, unitsIn, unitsBefore}
 use Rattle.layout.specs.declared.Mark.the-variants.{UnitMark, RedesignationMark, BreakMark}
 use Rattle.layout.proofs.Units.{offset-behind, units-behind}
@@ -56,6 +57,12 @@ records bytes =
           let is-break = is-break-mark bytes i e in (offset-behind bytes i BreakMark is-break, omega (arith, units-behind bytes i BreakMark is-break));
     }
 
+-- a number of four bytes by the places of its bytes
+four-bytes : (bytes : List ℕ) (at first second third last : ℕ) → first ≡ at → second ≡ at + 1 → third ≡ at + 2 → last ≡ at + 3
+    → wideNumber 4 bytes at ≡ 16777216 * byte bytes first + 65536 * byte bytes second + 256 * byte bytes third + byte bytes last
+unfolding wideNumber
+four-bytes bytes at first second third last one two three four = rw (one, two, three, four, add-zero at) (omega arith)
+
 results : (buffer : List ℕ) (j : ℕ) → Results buffer j
 results buffer j =
     record {
@@ -66,6 +73,9 @@ results buffer j =
       plan-grade = refl;
       standing = refl;
       cusums = λ class. ap (number buffer) (omega arith);
+      overshoots = λ class.
+          four-bytes buffer _ (32 * j + 16 + 4 * class) (32 * j + 17 + 4 * class) (32 * j + 18 + 4 * class) (32 * j + 19 + 4 * class)
+          (omega arith) (omega arith) (omega arith) (omega arith);
     }
 
 pub paper-layout : PaperLayout

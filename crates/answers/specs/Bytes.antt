@@ -1,4 +1,4 @@
--- The layout in the paper's own numbers: "The tally sheet in bytes", sentence by sentence, in literals. The other statements call sizes,
+-- The layout in the paper's own numbers: "The tally sheet in bytes" and the overshoots, sentence by sentence, in literals. The other statements call sizes,
 -- offsets and fields by the names that definitions and code use, too; a number that is wrong in both alike is refused here.
 use Prim.Native.Nat.{ℕ, suc, _+_, _*_}
 use mathlib.Core.Path.{_≡_}
@@ -7,7 +7,7 @@ use lib.ListN.{length}
 use Rattle.encoding.specs.Bytes.{byte, number}
 use Rattle.units.specs.Words.{plannedGrades, classes}
 use Rattle.layout.specs.Layout.{markSize, gradeOffset, planSize, codeOffset, countsOffset, kinds, countOffset, prerequisiteOffset, recoverableOffset, unitSize, redesignationSize, offset, unitsBefore}
-use Rattle.results.specs.Record.{resultSize, markIn, codeIn, portionGradeIn, codeGradeIn, planGradeIn, standingIn, cusumIn}
+use Rattle.results.specs.Record.{resultSize, markIn, codeIn, portionGradeIn, codeGradeIn, planGradeIn, standingIn, cusumIn, overshootIn}
 use Rattle.answers.specs.Grounds.{startIn, toleranceIn, limitIn}
 
 -- how long each record is, and how many of each there are
@@ -20,8 +20,8 @@ pub record Sizes : Type 0 where
   pub redesignation : redesignationSize ≡ 3
   -- "Break in production, 42 4B, 2 bytes": its mark alone
   pub break-in-production : markSize ≡ 2
-  -- "Result, 47 52, 16 bytes a unit"
-  pub result : resultSize ≡ 16
+  -- "Result, 47 52", "32 bytes"
+  pub result : resultSize ≡ 32
   -- "a table of three grades by four classes"
   pub three-grades : length plannedGrades ≡ 3
   pub four-classes : length classes ≡ 4
@@ -62,15 +62,19 @@ pub record Records (bytes : List ℕ) : Type 0 where
 
 -- where the result of unit j stands, from 0 on: "each result record is written into the rest of the buffer after those before it"
 pub record Results (results : List ℕ) (j : ℕ) : Type 0 where
-  pub mark : markIn results j ≡ number results (16 * j)
+  pub mark : markIn results j ≡ number results (32 * j)
   -- "code (2), portion grade (1), code grade (1), grade of the plan in force for this unit (1, or 3 if none), standing (1)"
-  pub code : codeIn results j ≡ number results (16 * j + 2)
-  pub portion-grade : portionGradeIn results j ≡ byte results (16 * j + 4)
-  pub code-grade : codeGradeIn results j ≡ byte results (16 * j + 5)
-  pub plan-grade : planGradeIn results j ≡ byte results (16 * j + 6)
-  pub standing : standingIn results j ≡ byte results (16 * j + 7)
+  pub code : codeIn results j ≡ number results (32 * j + 2)
+  pub portion-grade : portionGradeIn results j ≡ byte results (32 * j + 4)
+  pub code-grade : codeGradeIn results j ≡ byte results (32 * j + 5)
+  pub plan-grade : planGradeIn results j ≡ byte results (32 * j + 6)
+  pub standing : standingIn results j ≡ byte results (32 * j + 7)
   -- "four CuSums (2 each, tenths)"
-  pub cusums : (class : ℕ) → cusumIn results j class ≡ number results (16 * j + 8 + 2 * class)
+  pub cusums : (class : ℕ) → cusumIn results j class ≡ number results (32 * j + 8 + 2 * class)
+  -- "after the CuSums come four overshoots in tenths, four bytes each, high byte first"
+  pub overshoots : (class : ℕ) → overshootIn results j class
+      ≡ 16777216 * byte results (32 * j + 16 + 4 * class) + 65536 * byte results (32 * j + 17 + 4 * class)
+      + 256 * byte results (32 * j + 18 + 4 * class) + byte results (32 * j + 19 + 4 * class)
 
 pub record PaperLayout : Type 0 where
   -- "Numbers of two bytes have the high byte first"

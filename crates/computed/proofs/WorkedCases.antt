@@ -1,11 +1,11 @@
 -- The worked cases P1 to P10. P3 to P5 are laws of rule 2, under any S, T and L; the others compute, P2 once T+L at B and at C are put
 -- in, P9 and P10 once the buffer is known to hold the records.
-use Prim.Native.Nat.{ℕ, _+_}
+use Prim.Native.Nat.{ℕ, _+_, _-_}
 use mathlib.Core.Path.{_≡_, refl, sym, ap}
 use native.Mathlib.Omega.{arith}
 use lib.IntN.{pos, negsuc}
 use borrow.Author.Tests.{lt-ltb}
-use Rattle.cusum.specs.Step.{tenthsOf, rawValue, aboveLimit, cusumOf, fails, newCusum, stepOf}
+use Rattle.cusum.specs.Step.{tenthsOf, rawValue, aboveLimit, cusumOf, overshootOf, fails, newCusum, overshoot, stepOf}
 use Rattle.cusum.specs.declared.PlanNumbers.{PlanNumbers}
 use Rattle.cusum.proofs.Laws.{step-within}
 use Rattle.tally.specs.Outcome.{Outcome}
@@ -18,12 +18,14 @@ module _ (numbers : PlanNumbers) where
   at-limit : (count : ℕ) → tenthsOf count ≡ numbers .tolerance → stepOf numbers (record { tenths = numbers .limit }) count ≡ met (numbers .limit)
   at-limit count h = sym (step-within numbers (record { tenths = numbers .limit }) count (numbers .limit) (omega arith) (omega arith))
 
-  one-above : (old count : ℕ) → rawValue numbers old count ≡ pos (numbers .limit + 1) → stepOf numbers (record { tenths = old }) count ≡ failed (numbers .limit)
-  unfolding aboveLimit cusumOf fails newCusum
-  one-above old count h = rw (h, lt-ltb (numbers .limit) (numbers .limit + 1) (omega arith))
+  one-above : (old count : ℕ) → rawValue numbers old count ≡ pos (numbers .limit + 1) → stepOf numbers (record { tenths = old }) count ≡ failed (numbers .limit) 1
+  unfolding aboveLimit cusumOf overshootOf fails newCusum overshoot
+  one-above old count h =
+      let by-one : numbers .limit + 1 - numbers .limit ≡ 1 = omega arith in
+      rw (h, lt-ltb (numbers .limit) (numbers .limit + 1) (omega arith), by-one)
 
   one-below : (old count : ℕ) → rawValue numbers old count ≡ negsuc 0 → stepOf numbers (record { tenths = old }) count ≡ met 0
-  unfolding aboveLimit cusumOf fails newCusum
+  unfolding aboveLimit cusumOf overshootOf fails newCusum overshoot
   one-below old count h = rw h
 
 pub worked-cases : WorkedCases

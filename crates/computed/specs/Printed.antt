@@ -10,7 +10,7 @@ use Rattle.lines.specs.Ascii.{ascii}
 use Rattle.lines.specs.Lines.{decimal, linesOf, textOf, printed}
 use Rattle.computed.specs.FurtherSheets.{PrintedSheets}
 
--- the result buffer that a sheet is graded into: 16 bytes for each of 1,000 units, filled with zeros
+-- the result buffer that a sheet is graded into: 32 bytes for each of 1,000 units, filled with zeros
 unfoldable pub emptyBuffer : List ℕ
 emptyBuffer = replicate 16000 0
 

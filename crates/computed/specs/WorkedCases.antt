@@ -21,12 +21,12 @@ use Rattle.tally.specs.Outcome.{outcome, refusal}
 
 -- ---- one class from unit to unit
 
--- a class that meets, and one that fails, with its new CuSum
+-- a class that meets, with its new CuSum, and one that fails, with its overshoot, too
 abbrev pub met : ℕ → Stepped
-met tenths = record { cusum = record { tenths = tenths }; fails = false }
+met tenths = record { cusum = record { tenths = tenths }; fails = false; overshoot = 0 }
 
-abbrev pub failed : ℕ → Stepped
-failed tenths = record { cusum = record { tenths = tenths }; fails = true }
+abbrev pub failed : ℕ → ℕ → Stepped
+failed tenths over = record { cusum = record { tenths = tenths }; fails = true; overshoot = over }
 
 -- rule 2 at one unit after the other
 unfoldable pub stepsFrom : PlanNumbers → Cusum → List ℕ → List Stepped
@@ -128,17 +128,24 @@ peachUnits =
 unfoldable pub peach : List ℕ
 peach = peachPlan ++ peachUnits
 
--- its result records: 47 52, code, portion grade, code grade, plan grade, standing; four CuSums. Behind each the printed line, which
--- has the standing before the plan grade
+-- its result records, two lines each: 47 52, code, portion grade, code grade, plan grade, standing, four CuSums, and behind them the
+-- printed line, which has the standing before the plan grade; then four overshoots: 4.0 and 1.0 in total at units 2 and 3
 unfoldable pub peachResults : List ℕ
 peachResults =
     0x47 ∷ 0x52 ∷ 0 ∷ 1 ∷ 0 ∷ 0 ∷ 0 ∷ 0 ∷ 0 ∷ 0 ∷ 0 ∷ 0 ∷ 0 ∷ 0 ∷ 0 ∷ 20  -- 1 1 A A m A 0.0 0.0 0.0 2.0
+    ∷ 0 ∷ 0 ∷ 0 ∷ 0 ∷ 0 ∷ 0 ∷ 0 ∷ 0 ∷ 0 ∷ 0 ∷ 0 ∷ 0 ∷ 0 ∷ 0 ∷ 0 ∷ 0
     ∷ 0x47 ∷ 0x52 ∷ 0 ∷ 2 ∷ 1 ∷ 1 ∷ 0 ∷ 1 ∷ 0 ∷ 0 ∷ 0 ∷ 5 ∷ 0 ∷ 10 ∷ 0 ∷ 40  -- 2 2 B B f A 0.0 0.5 1.0 4.0
+    ∷ 0 ∷ 0 ∷ 0 ∷ 0 ∷ 0 ∷ 0 ∷ 0 ∷ 0 ∷ 0 ∷ 0 ∷ 0 ∷ 0 ∷ 0 ∷ 0 ∷ 0 ∷ 40
     ∷ 0x47 ∷ 0x52 ∷ 0 ∷ 3 ∷ 1 ∷ 1 ∷ 0 ∷ 1 ∷ 0 ∷ 0 ∷ 0 ∷ 0 ∷ 0 ∷ 10 ∷ 0 ∷ 40  -- 3 3 B B f A 0.0 0.0 1.0 4.0
+    ∷ 0 ∷ 0 ∷ 0 ∷ 0 ∷ 0 ∷ 0 ∷ 0 ∷ 0 ∷ 0 ∷ 0 ∷ 0 ∷ 0 ∷ 0 ∷ 0 ∷ 0 ∷ 10
     ∷ 0x47 ∷ 0x52 ∷ 0 ∷ 4 ∷ 0 ∷ 0 ∷ 1 ∷ 3 ∷ 0 ∷ 0 ∷ 0 ∷ 0 ∷ 0 ∷ 0 ∷ 0 ∷ 0  -- 4 4 A A r B 0.0 0.0 0.0 0.0
+    ∷ 0 ∷ 0 ∷ 0 ∷ 0 ∷ 0 ∷ 0 ∷ 0 ∷ 0 ∷ 0 ∷ 0 ∷ 0 ∷ 0 ∷ 0 ∷ 0 ∷ 0 ∷ 0
     ∷ 0x47 ∷ 0x52 ∷ 0 ∷ 5 ∷ 0 ∷ 1 ∷ 1 ∷ 3 ∷ 0 ∷ 0 ∷ 0 ∷ 0 ∷ 0 ∷ 0 ∷ 0 ∷ 0  -- 5 5 A B r B 0.0 0.0 0.0 0.0
+    ∷ 0 ∷ 0 ∷ 0 ∷ 0 ∷ 0 ∷ 0 ∷ 0 ∷ 0 ∷ 0 ∷ 0 ∷ 0 ∷ 0 ∷ 0 ∷ 0 ∷ 0 ∷ 0
     ∷ 0x47 ∷ 0x52 ∷ 0 ∷ 5 ∷ 1 ∷ 1 ∷ 1 ∷ 2 ∷ 0 ∷ 0 ∷ 0 ∷ 0 ∷ 0 ∷ 0 ∷ 0 ∷ 0  -- 6 5 B B u B 0.0 0.0 0.0 0.0
+    ∷ 0 ∷ 0 ∷ 0 ∷ 0 ∷ 0 ∷ 0 ∷ 0 ∷ 0 ∷ 0 ∷ 0 ∷ 0 ∷ 0 ∷ 0 ∷ 0 ∷ 0 ∷ 0
     ∷ 0x47 ∷ 0x52 ∷ 0 ∷ 7 ∷ 1 ∷ 1 ∷ 0 ∷ 0 ∷ 0 ∷ 5 ∷ 0 ∷ 0 ∷ 0 ∷ 0 ∷ 0 ∷ 0  -- 7 7 B B m A 0.5 0.0 0.0 0.0
+    ∷ 0 ∷ 0 ∷ 0 ∷ 0 ∷ 0 ∷ 0 ∷ 0 ∷ 0 ∷ 0 ∷ 0 ∷ 0 ∷ 0 ∷ 0 ∷ 0 ∷ 0 ∷ 0
     ∷ []
 
 -- the peach plan and one unit with these counts of critical, severe, major, minor
@@ -152,18 +159,19 @@ oneUnit critical severe major minor =
 -- ---- the cases
 
 pub record WorkedCases : Type 0 where
-  -- "P1: 1/3/3, counts 8,3,2,1,12: CuSums 3 (fails),3,2,0,3 (fails)."
-  pub p1 : steps (record { start = 10; tolerance = 30; limit = 30 }) p1Counts ≡ failed 30 ∷ met 30 ∷ met 20 ∷ met 0 ∷ failed 30 ∷ []
+  -- "P1: 1/3/3, counts 8,3,2,1,12: CuSums 3 (fails),3,2,0,3 (fails)." The overshoots are 3 and 6
+  pub p1 : steps (record { start = 10; tolerance = 30; limit = 30 }) p1Counts ≡ failed 30 30 ∷ met 30 ∷ met 20 ∷ met 0 ∷ failed 30 60 ∷ []
   -- "P2: there, T+L at B 10 and at C 13: the 8 grades B, the 12 C." The three units between meet A
   pub p2 : (b c : PlanNumbers) → b .tolerance + b .limit ≡ 100 → c .tolerance + c .limit ≡ 130
       → map (λ i. minorGraded (p2Table b c) p1Counts i .grade) (0 ∷ 1 ∷ 2 ∷ 3 ∷ 4 ∷ []) ≡ 1 ∷ 0 ∷ 0 ∷ 0 ∷ 2 ∷ []
   -- "P3: CuSum at L, count equal to T: stays L, meets." Under any S, T and L; the second unit of P1 is a case
   pub p3 : (numbers : PlanNumbers) (count : ℕ) → tenthsOf count ≡ numbers .tolerance
       → stepOf numbers (record { tenths = numbers .limit }) count ≡ met (numbers .limit)
-  -- "P4: raw value L+0.1 fails." Under any S, T and L, and the CuSum becomes L; 1/3/3 with 6 defects from the CuSum 0.1 is a case
+  -- "P4: raw value L+0.1 fails." Under any S, T and L, and the CuSum becomes L, the overshoot 0.1; 1/3/3 with 6 defects from the CuSum
+  -- 0.1 is a case
   pub p4 :
       ((numbers : PlanNumbers) (old count : ℕ) → rawValue numbers old count ≡ pos (numbers .limit + 1)
-      → stepOf numbers (record { tenths = old }) count ≡ failed (numbers .limit))
+      → stepOf numbers (record { tenths = old }) count ≡ failed (numbers .limit) 1)
       × (rawValue (record { start = 10; tolerance = 30; limit = 30 }) 1 6 ≡ pos 31)
   -- "P5: raw -0.1 gives 0." Under any S, T and L, and the class meets; 1/3/3 with no defect from the CuSum 2.9 is a case. negsuc 0 is -1
   pub p5 :
@@ -172,8 +180,8 @@ pub record WorkedCases : Type 0 where
       × (rawValue (record { start = 10; tolerance = 30; limit = 30 }) 29 0 ≡ negsuc 0)
   -- "P6: 0/0.5/0.5, counts 1,0,1: 0.5,0,0.5."
   pub p6 : steps (record { start = 0; tolerance = 5; limit = 5 }) (1 ∷ 0 ∷ 1 ∷ []) ≡ met 5 ∷ met 0 ∷ met 5 ∷ []
-  -- "P7: 1.5/1.5/3, counts 1,4,3: 1, 3 (fails), 3 (fails)."
-  pub p7 : steps (record { start = 15; tolerance = 15; limit = 30 }) (1 ∷ 4 ∷ 3 ∷ []) ≡ met 10 ∷ failed 30 ∷ failed 30 ∷ []
+  -- "P7: 1.5/1.5/3, counts 1,4,3: 1, 3 (fails), 3 (fails)." The overshoots are 0.5 and 1.5
+  pub p7 : steps (record { start = 15; tolerance = 15; limit = 30 }) (1 ∷ 4 ∷ 3 ∷ []) ≡ met 10 ∷ failed 30 5 ∷ failed 30 15 ∷ []
   -- "P8: then 2,2,1,1,1 at lower plan 1/3/3 are all zero; the last three qualify, since 2 is above 1.5." Whatever the plan of C: the
   -- plan in force for each unit, and for one after them; the CuSums; which qualify; where step 3 ends
   pub p8 : (c : PlanNumbers) →
@@ -187,7 +195,7 @@ pub record WorkedCases : Type 0 where
       × (outcome (oneUnit 0 2001 0 0) buffer ≡ refusal 8 75 buffer)
       × (outcome (oneUnit 0 0 2001 0) buffer ≡ refusal 8 75 buffer)
       × (outcome (oneUnit 0 0 0 2001) buffer ≡ refusal 8 75 buffer)
-      × (16 ≤ length buffer → outcome (oneUnit 2000 2000 2000 2000) buffer .answer ≡ record { number = 0; units = 1; offset = 89 })
+      × (32 ≤ length buffer → outcome (oneUnit 2000 2000 2000 2000) buffer .answer ≡ record { number = 0; units = 1; offset = 89 })
   -- "P10: the seven lines above." In every buffer that holds them; bytes behind the last record keep theirs
-  pub p10 : (buffer : List ℕ) → 112 ≤ length buffer
-      → outcome peach buffer ≡ record { answer = record { number = 0; units = 7; offset = 173 }; buffer = peachResults ++ drop 112 buffer }
+  pub p10 : (buffer : List ℕ) → 224 ≤ length buffer
+      → outcome peach buffer ≡ record { answer = record { number = 0; units = 7; offset = 173 }; buffer = peachResults ++ drop 224 buffer }

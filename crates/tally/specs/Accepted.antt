@@ -7,7 +7,7 @@ use Rattle.units.specs.Words.{numbersOf}
 use Rattle.rules.specs.Sheet.{Sheet, inForceAt}
 use Rattle.layout.specs.Layout.{mark, unitsBefore}
 use Rattle.layout.specs.declared.Mark.the-variants.{UnitMark}
-use Rattle.results.specs.Record.{cusumIn, portionGradeIn, codeGradeIn}
+use Rattle.results.specs.Record.{cusumIn, overshootIn, portionGradeIn, codeGradeIn}
 use Rattle.recording.specs.Sheet.{sheetOf}
 use Rattle.tally.specs.declared.Answer.{Answer}
 use Rattle.tally.specs.Outcome.{Outcome, outcome, recordsIn}
@@ -26,9 +26,12 @@ pub record UnitAt (bytes : List ℕ) (i : ℕ) : Type 0 where
   pub inside : i < recordsIn bytes
   pub is-unit : mark bytes i ≡ UnitMark
 
--- as recorded for the unit that is record i: a class's CuSum, the portion grade, the code grade
+-- as recorded for the unit that is record i: a class's CuSum and overshoot, the portion grade, the code grade
 abbrev pub recordedCusum : List ℕ → List ℕ → ℕ → ℕ → ℕ
 recordedCusum bytes results i class = cusumIn results (unitsBefore bytes i) class
+
+abbrev pub recordedOvershoot : List ℕ → List ℕ → ℕ → ℕ → ℕ
+recordedOvershoot bytes results i class = overshootIn results (unitsBefore bytes i) class
 
 abbrev pub recordedPortionGrade : List ℕ → List ℕ → ℕ → ℕ
 recordedPortionGrade bytes results i = portionGradeIn results (unitsBefore bytes i)
