@@ -1,8 +1,11 @@
 //! Seeded random sheets: valid ones that go in and out of step 3, damaged ones for every refusal
 //! number from 1 to 13, messy ones, and monotone pairs; and counts of what happened in them.
 
-use crate::rules::{Event, Graded, Row, Stage, What, IN_STEP_3, RECOVERED};
-use crate::sheet::{Numbers, Record, Sheet, Table, Unit};
+use crate::rules::{Event, Graded, Row, Stage, What, IN_STEP_3, RECOVERED, RESULT_SIZE};
+use crate::sheet::{Numbers, Record, Sheet, Table, Unit, MOST_UNITS};
+
+/// Room for the result records of any sheet.
+pub const MOST_ROOM: usize = RESULT_SIZE * MOST_UNITS;
 
 /// A small generator of random numbers (splitmix64), with its seed.
 pub struct Dice(pub u64);
@@ -290,12 +293,12 @@ pub fn expecting(dice: &mut Dice, number: u32) -> Case {
     let mut draft = draft(dice, true, false);
     let full = number == 12 || dice.chance(1);
     draft.fill(if full { 1_000 } else { number.min(1) as usize });
-    let (mut sheet, needed) = (draft.bytes(), 16 * draft.units());
+    let (mut sheet, needed) = (draft.bytes(), RESULT_SIZE * draft.units());
     let (room, offset) = match number {
-        0 => (needed + dice.pick(&[0, 0, 1, 15, 16, 100]), sheet.len()),
-        13 => (dice.pick(&[0, needed / 2, needed - 16, needed - 1]), sheet.len()),
+        0 => (needed + dice.pick(&[0, 0, 1, RESULT_SIZE - 1, RESULT_SIZE, 100]), sheet.len()),
+        13 => (dice.pick(&[0, needed / 2, needed - RESULT_SIZE, needed - 1]), sheet.len()),
         // 13 is checked last, so that the buffer may be short for the others.
-        _ => (dice.pick(&[0, 16, 16_000]), damage(dice, &draft, &mut sheet, number)),
+        _ => (dice.pick(&[0, RESULT_SIZE, MOST_ROOM]), damage(dice, &draft, &mut sheet, number)),
     };
     Case { sheet, room, expected: Some((number, offset)) }
 }
@@ -318,7 +321,8 @@ pub fn messy(dice: &mut Dice) -> Case {
             _ => sheet[at] = dice.below(256) as u8,
         }
     }
-    Case { sheet, room: dice.pick(&[0, 15, 160, 16_000]), expected: None }
+    let room = dice.pick(&[0, RESULT_SIZE - 1, 10 * RESULT_SIZE, MOST_ROOM]);
+    Case { sheet, room, expected: None }
 }
 
 /// The seed of one case of a run.
