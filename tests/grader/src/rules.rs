@@ -94,6 +94,9 @@ pub struct Graded {
     pub table: Table,
     pub rows: Vec<Row>,
     pub events: Vec<Event>,
+    /// The grade of the plan in force behind the last record, and its CuSums.
+    pub next_plan: Grade,
+    pub next_cusums: [i64; 4],
 }
 
 const FRESH: Stage = Stage::Designated { failure: None };
@@ -157,7 +160,8 @@ pub fn grade_portions(sheet: &Sheet) -> Graded {
             events.push(event);
         }
     }
-    Graded { table: sheet.table, rows, events }
+    let next_plan = plan_in_force(stage, designated);
+    Graded { table: sheet.table, rows, events, next_plan, next_cusums: cusums }
 }
 
 /// "Last, the code grade: the worst portion grade among all units of the sheet with that code,

@@ -1,6 +1,6 @@
 //! The sheets of paper 01 by hand, every refusal, overshoots, the wrong readings, and random sheets.
 
-use crate::generate::{case, counted, pair, table, Counts, MOST_ROOM};
+use crate::generate::{case_with_overshoots, counted, pair, table, Counts, MOST_ROOM};
 use crate::peach::{p10, peach, peaches, P10_LINES};
 use crate::sheet::{Record, Sheet};
 use crate::{check, grade, grade_traced, print, print_checked, Answer, RESULT_SIZE};
@@ -216,6 +216,43 @@ fn overshoots_by_hand() {
 }
 
 #[test]
+fn overshoots_of_a_pair() {
+    // A 1 in place of the first 4: no overshoot is larger up to the second 4, with which the second
+    // sheet fails two in a row. Then the second is under B and the first under A, where the 9 is over
+    // by more: the claim ends before it.
+    let grades = [[0, 10, 10], [10, 30, 30], [20, 50, 50]];
+    let [first, second] = ["1 4 9", "4 4 9"].map(|script| majors_sheet(0, grades, script));
+    assert_eq!(overshoots_in(2, &first), [0, 20, 80]);
+    assert_eq!(overshoots_in(2, &second), [20, 30, 40]);
+    let graded = |sheet: &[u8]| grade_traced(sheet, &mut [0; MOST_ROOM], true).1.unwrap();
+    let (first, second) = (graded(&first), graded(&second));
+    assert_eq!(check::monotone(&first, &second), Ok(false));
+    // What the monotone half does with a larger one in the first: at the last unit compared, and
+    // behind it.
+    let larger = |unit: usize| {
+        let mut wrong = first.clone();
+        wrong.rows[unit].overshoots[2] = 31;
+        check::monotone(&wrong, &second)
+    };
+    assert_eq!(larger(1), Err("unit 2 class 2: a larger overshoot".to_string()));
+    assert_eq!(larger(2), Ok(false));
+}
+
+#[test]
+fn wrong_overshoots_are_noticed() {
+    // P10 with one overshoot another: of units that meet, that fail by 4 and by 1, that are under B.
+    let graded = grade_traced(&p10(), &mut [0; MOST_ROOM], true).1.unwrap();
+    for (unit, class, wrong) in
+        [(0, 3, 1), (1, 3, 39), (1, 3, 41), (1, 3, 0), (1, 2, 1), (2, 3, 9), (2, 3, 40), (3, 3, 1)]
+    {
+        let mut changed = graded.clone();
+        changed.rows[unit].overshoots[class] = wrong;
+        let noticed = std::panic::catch_unwind(|| check::overshoots_twice(&changed)).is_err();
+        assert!(noticed, "unit {} class {class}: {wrong}", unit + 1);
+    }
+}
+
+#[test]
 fn small_cases() {
     let none = peach(Vec::new()).bytes();
     assert_eq!(answer(&none[..74], 0), (1, 0, 0));
@@ -329,7 +366,7 @@ fn wrong_readings_are_not_taken() {
 fn random_sheets() {
     let mut counts = Counts::default();
     for seed in 0..20_000 {
-        let case = case(seed);
+        let case = case_with_overshoots(seed);
         let mut results = vec![0xA5; case.room];
         let (answer, graded) = grade_traced(&case.sheet, &mut results, true);
         if let Some(expected) = case.expected {
@@ -338,6 +375,7 @@ fn random_sheets() {
         let behind = &results[RESULT_SIZE * answer.units..];
         assert!(behind.iter().all(|&byte| byte == 0xA5), "seed {seed}");
         counts.note(answer.number, graded.as_ref());
+        counts.note_overshoots(graded.as_ref());
     }
     println!("{counts}");
     assert_eq!(counts.missing().next(), None);
@@ -346,6 +384,7 @@ fn random_sheets() {
 #[test]
 fn monotone_pairs() {
     let (mut unequal, mut calm) = (0, 0);
+    let mut counts = Counts::default();
     for seed in 0..5_000 {
         let (first, second) = pair(seed);
         unequal += usize::from(first != second);
@@ -353,11 +392,13 @@ fn monotone_pairs() {
             let (_, graded) = grade_traced(&sheet, &mut [0; MOST_ROOM], true);
             graded.unwrap_or_else(|| panic!("seed {seed}: refused"))
         });
+        counts.note_pair(&first, &second);
         match check::monotone(&first, &second) {
             Ok(never_two_in_a_row) => calm += usize::from(never_two_in_a_row),
             Err(violated) => panic!("seed {seed}: {violated}"),
         }
     }
-    println!("5000 pairs, {unequal} unequal, {calm} with never two in a row in the second");
+    println!("{counts}5000 pairs, {unequal} unequal, {calm} with never two in a row in the second");
     assert!(unequal > 2_000 && calm > 1_000 && calm < 4_500);
+    assert_eq!(counts.missing().next(), None);
 }
