@@ -10,7 +10,7 @@ mod refusals;
 mod small;
 mod text;
 
-use grader::generate::{self, Counts};
+use grader::generate::{self, Counts, MOST_ROOM};
 use std::io::Write;
 
 /// Seeds of the random sheets.
@@ -95,7 +95,7 @@ fn all() -> (Cases, Vec<(&'static str, usize)>) {
 fn covered(cases: &Cases) -> Counts {
     let mut counts = Counts::default();
     for (_, sheet) in &cases.0 {
-        let (answer, graded) = grader::grade_traced(sheet, &mut [0; 16_000], false);
+        let (answer, graded) = grader::grade_traced(sheet, &mut [0; MOST_ROOM], false);
         counts.note(answer.number, graded.as_ref());
     }
     // Number 13 is left to the differential test.

@@ -1,7 +1,7 @@
 //! "Small sheets by hand" of paper 01, and the two sheets of the demands.
 
 use crate::Cases;
-use grader::generate::counted;
+use grader::generate::{counted, MOST_ROOM};
 use grader::peach::{p10, peach, P10_LINES};
 use grader::sheet::Record;
 
@@ -183,7 +183,7 @@ pub fn add_demands(cases: &mut Cases) {
     // "Forty sample units, grade A, one failure in total defects, the next unit back inside
     // tolerance." Filled in: all else, as told in examples/README.md.
     let pea = read("pea.sheet");
-    let (_, graded) = grader::grade_traced(&pea, &mut [0; 16_000], true);
+    let (_, graded) = grader::grade_traced(&pea, &mut [0; MOST_ROOM], true);
     let rows = graded.expect("the pea sheet is accepted").rows;
     assert!(rows.len() == 40 && rows.iter().all(|row| row.plan == 0), "the pea sheet");
     let failed: Vec<usize> = (0..40).filter(|&unit| rows[unit].fails()).collect();

@@ -1,6 +1,7 @@
 //! The proved library, called over its boundary, against the independent grader: number, units,
 //! offset and every byte of the buffer with guard bytes before and behind it, on seeded random
-//! sheets, which must be kept; and both halves of demand 3 on the bytes that the library left.
+//! sheets, which must be kept; and both halves of demand 3, with what A.1 of paper 02 adds of
+//! overshoots, on the bytes that the library left.
 //!
 //! `differential [CASES [SEED]]`. A sheet on which the two differ is written to a file and named. A
 //! run of 10,000 cases or more also fails if one of the things that it counts never came up.
@@ -13,6 +14,9 @@ use std::fmt::Debug;
 use std::time::Instant;
 
 const GUARD: usize = 32;
+/// Offset of the overshoot of critical defects in a result record, four bytes with the high byte
+/// first; the other three follow.
+const OVERSHOOTS: usize = 16;
 /// From so many cases on, everything that is counted must come up.
 const WHOLE: u64 = 10_000;
 
@@ -48,6 +52,7 @@ fn report(what: &str, seed: u64, sheet: &[u8], ours: &dyn Debug, theirs: &dyn De
 /// Counts what [`Counts::note`] does not see: how the buffer fits, and who shares a code or a recovery.
 fn note(counts: &mut Counts, sheet: &[u8], room: usize, answer: Answer, graded: Option<&Graded>) {
     counts.note(answer.number, graded);
+    counts.note_overshoots(graded);
     let mut add = |name: &str, times: usize| counts.add(name, times);
     let needed = RESULT_SIZE * sheet::read(sheet).map_or(0, |sheet| sheet.units());
     let accepted = answer.number == 0;
@@ -88,8 +93,8 @@ fn note(counts: &mut Counts, sheet: &[u8], room: usize, answer: Answer, graded: 
     add("code of recovered units only", with([true, false]));
 }
 
-/// Compares one sheet, and hands out the grader's trace with the grades and CuSums that the library
-/// recorded.
+/// Compares one sheet, and hands out the grader's trace with the grades, CuSums and overshoots that
+/// the library recorded.
 fn compare(seed: u64, sheet: &[u8], room: usize, counts: &mut Counts) -> Option<Graded> {
     let fill = (seed % 251) as u8;
     let mut expected = vec![fill; room];
@@ -111,15 +116,23 @@ fn compare(seed: u64, sheet: &[u8], room: usize, counts: &mut Counts) -> Option<
             let at = ffi::RESULT_CRITICAL + 2 * class;
             *cusum = i64::from(u16::from_be_bytes([record[at], record[at + 1]]));
         }
+        let recorded = record[OVERSHOOTS..].chunks_exact(4);
+        for (overshoot, bytes) in row.overshoots.iter_mut().zip(recorded) {
+            *overshoot = i64::from(u32::from_be_bytes(bytes.try_into().expect("four bytes")));
+        }
     }
     graded
 }
 
 /// Demand 3, first half, on recorded bytes: the grader's 'largest of' form, with the anchor found by
-/// its place, against the CuSums that the library recorded.
+/// its place, against the CuSums that the library recorded; and its overshoots against what follows
+/// from these CuSums and from sums of the same form.
 fn largest_of(seed: u64, sheet: &[u8], graded: &Graded) {
     if std::panic::catch_unwind(|| check::cusums_twice(graded)).is_err() {
         report("the 'largest of' form", seed, sheet, &"recorded", &"computed");
+    }
+    if std::panic::catch_unwind(|| check::overshoots_twice(graded)).is_err() {
+        report("an overshoot by sums", seed, sheet, &"recorded", &"computed");
     }
 }
 
@@ -129,6 +142,7 @@ fn monotone(seed: u64, first: &[u8], second: &[u8], counts: &mut Counts) -> bool
         let room = RESULT_SIZE * sheet.len() / UNIT_SIZE;
         compare(seed, sheet, room, counts).expect("a pair is accepted")
     });
+    counts.note_pair(&sides[0], &sides[1]);
     check::monotone(&sides[0], &sides[1]).unwrap_or_else(|what| {
         report(&format!("the monotone half: {what}"), seed, second, &"first", &"second")
     })
@@ -138,13 +152,16 @@ fn main() {
     let mut arguments = std::env::args().skip(1).map(|word| word.parse().expect("a number"));
     let cases: u64 = arguments.next().unwrap_or(200_000);
     let seed: u64 = arguments.next().unwrap_or(19_780_801);
+    assert_eq!(RESULT_SIZE, grader::RESULT_SIZE, "bytes of a result record, library and grader");
     let start = Instant::now();
     let mut counts = Counts::default();
     let (mut checked, mut pairs, mut graded_pairs) = (0, 0, 0);
     for case in 0..cases {
         let seed = seed_of(seed, case);
-        let mut made = generate::case(seed);
-        if case % 500 == 0 && made.sheet.len() > 75 {
+        let long = case % 500 == 0;
+        let make = if long { generate::case } else { generate::case_with_overshoots };
+        let mut made = make(seed);
+        if long && made.sheet.len() > 75 {
             // Breaks behind the plan take the records beyond 65,536 bytes.
             let breaks = 32_000 + Dice(seed).below(50_000);
             made.sheet.splice(75..75, [0x42, 0x4B].repeat(breaks));
@@ -161,7 +178,7 @@ fn main() {
         }
     }
     print!("{counts}");
-    println!("{checked:>9}  sheets whose recorded CuSums are the 'largest of' form");
+    println!("{checked:>9}  sheets whose recorded CuSums and overshoots are the 'largest of' form");
     println!("{pairs:>9}  pairs alike but for fewer counts, {graded_pairs} with grades compared");
     // A short run need not have everything.
     if let Some(name) = counts.missing().find(|_| cases >= WHOLE) {

@@ -1,7 +1,14 @@
-//! Both halves of demand 3, over whole graded sheets.
+//! Both halves of demand 3, over whole graded sheets, and overshoots computed a second time.
 
 use crate::rules::{Graded, What, FAILED};
 use crate::sheet::SUBSTANDARD;
+
+/// "An anchor S lies at the last restart before the unit, or at the opening of the sheet if there is
+/// none." Here: the number of units before it.
+fn last_restart(graded: &Graded, unit: usize) -> usize {
+    let mut restarts = graded.events.iter().rev().filter(|event| event.is_restart());
+    restarts.find(|event| event.units_before <= unit).map_or(0, |event| event.units_before)
+}
 
 /// Computes every CuSum a second time, as "the largest of zero, the anchor plus the sum of defects
 /// less T since it, and every such sum, without the anchor, over a run of units that starts after the
@@ -10,11 +17,7 @@ pub fn cusums_twice(graded: &Graded) {
     let rows = &graded.rows;
     // "at any unit that has a plan in force"
     for unit in (0..rows.len()).filter(|&unit| rows[unit].plan != SUBSTANDARD) {
-        // "An anchor S lies at the last restart before the unit, or at the opening of the sheet if
-        // there is none." Here: the number of units before it.
-        let mut restarts = graded.events.iter().rev().filter(|event| event.is_restart());
-        let restart =
-            restarts.find(|event| event.units_before <= unit).map_or(0, |event| event.units_before);
+        let restart = last_restart(graded, unit);
         for class in 0..4 {
             // "S, T and L are those of the class in the plan in force for this unit."
             let numbers = graded.table[usize::from(rows[unit].plan)][class];
@@ -37,6 +40,42 @@ pub fn cusums_twice(graded: &Graded) {
             let old = if unit == restart { numbers.s } else { rows[unit - 1].cusums[class] };
             let fails = old + less_t(unit) > numbers.l;
             assert_eq!(rows[unit].class_fails[class], fails, "failure at {place}");
+        }
+    }
+}
+
+/// Computes every overshoot a second time, from the CuSum recorded before it and from counts alone,
+/// and panics if one differs from the first. Quadratic in the units.
+pub fn overshoots_twice(graded: &Graded) {
+    let rows = &graded.rows;
+    for (unit, row) in rows.iter().enumerate() {
+        // "zero where no plan is in force" (paper 02, A.1)
+        if row.plan == SUBSTANDARD {
+            assert_eq!(row.overshoots, [0; 4], "overshoots at unit {} without a plan", unit + 1);
+            continue;
+        }
+        let restart = last_restart(graded, unit);
+        for class in 0..4 {
+            let numbers = graded.table[usize::from(row.plan)][class];
+            let less_t = |at: usize| rows[at].unit.defects()[class] - numbers.t;
+            let place = format!("unit {} class {class}", unit + 1);
+            // "the overshoot, raw value less L, or zero where the class met" (paper 02, A.1)
+            let overshoot = row.overshoots[class];
+            let old = if unit == restart { numbers.s } else { rows[unit - 1].cusums[class] };
+            let above = (old + less_t(unit) - numbers.l).max(0);
+            assert_eq!(overshoot, above, "overshoot after the CuSum before {place}");
+            assert_eq!(row.class_fails[class], overshoot > 0, "failure and overshoot at {place}");
+            // The raw value is the 'largest of' form without zero, with the anchor before this unit:
+            // this unit's defects less T added to each sum in that of the CuSum before it.
+            let failure = (restart..unit).rev().find(|&at| rows[at].class_fails[class]);
+            let (anchor, start) = failure.map_or((numbers.s, restart), |at| (numbers.l, at + 1));
+            let (mut raw, mut sum) = (less_t(unit), 0);
+            for at in (start..=unit).rev() {
+                sum += less_t(at);
+                raw = raw.max(sum);
+            }
+            raw = raw.max(anchor + sum);
+            assert_eq!(overshoot, (raw - numbers.l).max(0), "overshoot by sums at {place}");
         }
     }
 }
@@ -66,6 +105,10 @@ pub fn monotone(first: &Graded, second: &Graded) -> Result<bool, String> {
             }
             if x.class_fails[class] && !y.class_fails[class] {
                 return Err(format!("unit {} class {class}: fails in the first only", unit + 1));
+            }
+            // "up to the same unit no overshoot of the first sheet is larger" (paper 02, A.1)
+            if x.overshoots[class] > y.overshoots[class] {
+                return Err(format!("unit {} class {class}: a larger overshoot", unit + 1));
             }
         }
         // "If the second never fails two in a row, no portion or code of the first grades lower than

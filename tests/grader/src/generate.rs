@@ -1,8 +1,13 @@
 //! Seeded random sheets: valid ones that go in and out of step 3, damaged ones for every refusal
-//! number from 1 to 13, messy ones, and monotone pairs; and counts of what happened in them.
+//! number from 1 to 13, messy ones, ones for overshoots, and monotone pairs; and counts of what
+//! happened in them.
 
-use crate::rules::{Event, Graded, Row, Stage, What, IN_STEP_3, RECOVERED};
-use crate::sheet::{Numbers, Record, Sheet, Table, Unit};
+use crate::check::first_two_in_a_row;
+use crate::rules::{self, Event, Graded, Row, Stage, What, IN_STEP_3, RECOVERED, RESULT_SIZE};
+use crate::sheet::{Numbers, Record, Sheet, Table, Unit, MOST_UNITS, SUBSTANDARD};
+
+/// Room for the result records of any sheet.
+pub const MOST_ROOM: usize = RESULT_SIZE * MOST_UNITS;
 
 /// A small generator of random numbers (splitmix64), with its seed.
 pub struct Dice(pub u64);
@@ -149,6 +154,11 @@ fn unit(dice: &mut Dice, draft: &mut Sheet, mood: Mood) {
             counts = counts.map(|_| dice.between(0, most));
         }
     }
+    push_unit(dice, draft, counts);
+}
+
+/// A unit with these counts, or 2,000 where they are above it.
+fn push_unit(dice: &mut Dice, draft: &mut Sheet, counts: [i64; 4]) {
     let next = draft.units() as u16;
     draft.records.push(Record::Unit(Unit {
         code: dice.pick(&[next, next, next / 2, next / 4, 1, 2, 3, 0, 256, u16::MAX]),
@@ -208,6 +218,82 @@ pub fn draft(dice: &mut Dice, redesignations: bool, calm: bool) -> Sheet {
     }
     while draft.units() > 1_000 {
         draft.records.pop();
+    }
+    draft
+}
+
+/// Where the raw value of a class is to lie above L: at it, a tenth over, and over by the largest and
+/// the next number of one byte and of two.
+const ABOVE: [i64; 6] = [0, 1, 255, 256, 65_535, 65_536];
+
+/// A plan as [`plan`] makes it, but with each S, if its L allows, such that some count takes the raw
+/// value from there to one of [`ABOVE`].
+fn plan_to_the_tenth(dice: &mut Dice) -> Table {
+    let mut table = plan(dice);
+    for Numbers { s, t, l } in table.iter_mut().flatten() {
+        let least = (*t + *l + dice.pick(&ABOVE)) % 10;
+        if least <= *l {
+            *s = least + 10 * dice.between(0, (*l - least) / 10);
+        }
+    }
+    table
+}
+
+/// How far over a unit is to be under the plan in force: around L in one class, or in every class; or
+/// so far that the overshoot in total is around the largest number of two bytes, or above it.
+#[derive(Clone, Copy)]
+enum Over {
+    OneClass,
+    EveryClass,
+    Far,
+}
+
+fn over(dice: &mut Dice, draft: &mut Sheet, how: Over) {
+    let graded = rules::grade_portions(draft);
+    let mut counts = [0; 4];
+    if let Over::Far = how {
+        let least = dice.pick(&[1_500, 1_900, 2_000]);
+        counts = counts.map(|_| dice.between(least, 2_000));
+    }
+    // Without a plan there is no L: counts go by C.
+    let plan = draft.table[usize::from(graded.next_plan.min(2))];
+    let class_alone = dice.below(4);
+    for (class, Numbers { t, l, .. }) in plan.into_iter().enumerate() {
+        let above = match how {
+            Over::OneClass if class == class_alone => dice.pick(&ABOVE[..4]),
+            Over::EveryClass => dice.pick(&[0, 1, 10, 255, 256, 300]),
+            Over::Far if class == 3 && dice.chance(60) => dice.pick(&ABOVE[4..]),
+            _ => continue,
+        };
+        // The fourth place is total as a class and minor as a count.
+        let others: i64 = if class == 3 { counts[..3].iter().sum() } else { 0 };
+        let defects = (t + l + above - graded.next_cusums[class]).max(0);
+        counts[class] = ((defects + 9) / 10 - others).max(0);
+    }
+    push_unit(dice, draft, counts);
+}
+
+/// A valid sheet of few units, around L and far over it, under the designated plan, a lower one and
+/// none. A calm one never fails two in a row, as in [`draft`].
+fn draft_over(dice: &mut Dice, redesignations: bool, calm: bool) -> Sheet {
+    let (table, designated) = (plan_to_the_tenth(dice), dice.pick(&[0, 0, 0, 1, 1, 2]));
+    let mut draft = Sheet { designated, table, records: Vec::new() };
+    for _ in 0..dice.between(1, 5) {
+        if dice.chance(40) && !calm {
+            failure(dice, &mut draft);
+            failure(dice, &mut draft);
+        }
+        for _ in 0..dice.between(1, 3) {
+            let how = dice.pick(&[Over::OneClass, Over::OneClass, Over::EveryClass, Over::Far]);
+            over(dice, &mut draft, how);
+            perhaps_parted(dice, &mut draft, 15, redesignations);
+            if calm || dice.chance(20) {
+                unit(dice, &mut draft, Mood::Clean);
+            }
+        }
+        for _ in 0..dice.pick(&[0, 0, 1, 3]) {
+            unit(dice, &mut draft, Mood::Clean);
+        }
     }
     draft
 }
@@ -290,12 +376,12 @@ pub fn expecting(dice: &mut Dice, number: u32) -> Case {
     let mut draft = draft(dice, true, false);
     let full = number == 12 || dice.chance(1);
     draft.fill(if full { 1_000 } else { number.min(1) as usize });
-    let (mut sheet, needed) = (draft.bytes(), 16 * draft.units());
+    let (mut sheet, needed) = (draft.bytes(), RESULT_SIZE * draft.units());
     let (room, offset) = match number {
-        0 => (needed + dice.pick(&[0, 0, 1, 15, 16, 100]), sheet.len()),
-        13 => (dice.pick(&[0, needed / 2, needed - 16, needed - 1]), sheet.len()),
+        0 => (needed + dice.pick(&[0, 0, 1, RESULT_SIZE - 1, RESULT_SIZE, 100]), sheet.len()),
+        13 => (dice.pick(&[0, needed / 2, needed - RESULT_SIZE, needed - 1]), sheet.len()),
         // 13 is checked last, so that the buffer may be short for the others.
-        _ => (dice.pick(&[0, 16, 16_000]), damage(dice, &draft, &mut sheet, number)),
+        _ => (dice.pick(&[0, RESULT_SIZE, MOST_ROOM]), damage(dice, &draft, &mut sheet, number)),
     };
     Case { sheet, room, expected: Some((number, offset)) }
 }
@@ -318,7 +404,8 @@ pub fn messy(dice: &mut Dice) -> Case {
             _ => sheet[at] = dice.below(256) as u8,
         }
     }
-    Case { sheet, room: dice.pick(&[0, 15, 160, 16_000]), expected: None }
+    let room = dice.pick(&[0, RESULT_SIZE - 1, 10 * RESULT_SIZE, MOST_ROOM]);
+    Case { sheet, room, expected: None }
 }
 
 /// The seed of one case of a run.
@@ -336,12 +423,28 @@ pub fn case(seed: u64) -> Case {
     }
 }
 
+/// The case of this seed with one in six made for overshoots, by dice of their own; the others are as
+/// in [`case`]. The stored cases are of [`case`] alone, which must not change.
+pub fn case_with_overshoots(seed: u64) -> Case {
+    let dice = &mut Dice(!seed);
+    if dice.below(6) > 0 {
+        return case(seed);
+    }
+    let draft = draft_over(dice, true, false);
+    let (sheet, needed) = (draft.bytes(), RESULT_SIZE * draft.units());
+    let room = needed + dice.pick(&[0, 0, 1, RESULT_SIZE - 1, RESULT_SIZE, 100]);
+    let expected = Some((0, sheet.len()));
+    Case { sheet, room, expected }
+}
+
 /// A monotone pair: two valid sheets "alike except that no count in the first exceeds its fellow in
-/// the second, without redesignation". In half of them the second never fails two in a row.
+/// the second, without redesignation". In half of them the second never fails two in a row; a third
+/// are made for overshoots.
 pub fn pair(seed: u64) -> (Vec<u8>, Vec<u8>) {
     let dice = &mut Dice(seed);
     let (calm, percent) = (dice.chance(50), dice.pick(&[10, 30, 80]));
-    let second = draft(dice, false, calm);
+    let make = if dice.below(3) > 0 { draft } else { draft_over };
+    let second = make(dice, false, calm);
     let mut first = second.clone();
     for record in &mut first.records {
         if let Record::Unit(unit) = record {
@@ -427,6 +530,77 @@ impl Counts {
         for (name, what, test) in kinds {
             count_events(name, &|event| event.what == what && test(event.stage));
         }
+    }
+}
+
+/// What is counted of overshoots, apart from the rest: the stored cases are of what is printed, and
+/// need not have it.
+impl Counts {
+    /// As [`Counts::note`]; each by units.
+    pub fn note_overshoots(&mut self, graded: Option<&Graded>) {
+        let rows: &[Row] = graded.map_or(&[], |graded| &graded.rows);
+        let mut count = |name: &str, test: &dyn Fn(&Row) -> bool| {
+            self.add(name, rows.iter().filter(|row| test(row)).count());
+        };
+        let over = |row: &Row| row.overshoots.iter().filter(|&&overshoot| overshoot > 0).count();
+        count("overshoot of a tenth", &|row| row.overshoots.contains(&1));
+        count("overshoot of 255 tenths", &|row| row.overshoots.contains(&255));
+        count("overshoot of 256 tenths", &|row| row.overshoots.contains(&256));
+        count("overshoot of 65,535 tenths", &|row| row.overshoots.contains(&65_535));
+        count("overshoot of 65,536 tenths", &|row| row.overshoots.contains(&65_536));
+        count("overshoot above 65,535 tenths", &|row| row.overshoots.iter().any(|&x| x > 65_535));
+        count("overshoots in several classes", &|row| over(row) > 1);
+        count("overshoots in every class", &|row| over(row) == 4);
+        count("overshoot under a lower plan", &|row| row.standing == IN_STEP_3 && over(row) > 0);
+        let table = graded.map(|graded| graded.table);
+        let numbers = |grade: u8| table.expect("a row has a table")[usize::from(grade)];
+        count("raw value of exactly L", &|row| {
+            // A CuSum of zero does not tell the raw value.
+            let exactly = |class: usize| {
+                let l = numbers(row.plan)[class].l;
+                l > 0 && row.cusums[class] == l && !row.class_fails[class]
+            };
+            row.plan < SUBSTANDARD && (0..4).any(exactly)
+        });
+        count("no overshoot without a plan, with counts above T+L of C", &|row| {
+            let defects = row.unit.defects().into_iter().zip(numbers(2));
+            let above = defects.filter(|(defects, c)| *defects > c.t + c.l).count();
+            row.plan == SUBSTANDARD && over(row) == 0 && above > 0
+        });
+        // In the same class at two units, one after the other with no restart between them.
+        let events: &[Event] = graded.map_or(&[], |graded| &graded.events);
+        let restarts = events.iter().filter(|event| event.is_restart());
+        let restarts: std::collections::BTreeSet<usize> =
+            restarts.map(|event| event.units_before).collect();
+        let (mut over_again, mut over_no_more) = (0, 0);
+        for unit in (1..rows.len()).filter(|unit| !restarts.contains(unit)) {
+            let both = || rows[unit - 1].overshoots.into_iter().zip(rows[unit].overshoots);
+            over_again += usize::from(both().any(|(before, now)| before > 0 && now > 0));
+            over_no_more += usize::from(both().any(|(before, now)| before > 0 && now == 0));
+        }
+        self.add("overshoot after an overshoot", over_again);
+        self.add("no overshoot after an overshoot", over_no_more);
+    }
+
+    /// Takes in a monotone pair: the overshoots of fellow classes.
+    pub fn note_pair(&mut self, first: &Graded, second: &Graded) {
+        let fellows =
+            |unit: usize| first.rows[unit].overshoots.into_iter().zip(second.rows[unit].overshoots);
+        let two_in_a_row = first_two_in_a_row(second);
+        let reach = two_in_a_row.map_or(second.rows.len(), |unit| unit + 1);
+        let compared = || (0..reach).flat_map(fellows);
+        let last_compared = two_in_a_row.into_iter().flat_map(fellows);
+        let behind = (reach..second.rows.len()).flat_map(fellows);
+        let smaller = |&(x, y): &(i64, i64)| 0 < x && x < y;
+        let large = |&(x, y): &(i64, i64)| smaller(&(x, y)) && x <= 65_535 && y > 65_535;
+        let mut add = |name: &str, times: usize| self.add(&format!("pair: {name}"), times);
+        add("smaller overshoot in the first", compared().filter(smaller).count());
+        add("overshoots up to 65,535 tenths and above", compared().filter(large).count());
+        add("equal overshoots", compared().filter(|&(x, y)| x > 0 && x == y).count());
+        add("overshoot in the second only", compared().filter(|&(x, y)| x == 0 && y > 0).count());
+        add("smaller at the second of two failures", last_compared.filter(smaller).count());
+        // Why the claim ends there: behind it the sheets may be under different plans.
+        add("larger in the first, not compared", behind.filter(|(x, y)| x > y).count());
     }
 }
 

@@ -1,6 +1,7 @@
-//! An independent grader of tally sheets, written from paper 01 (`01-scope.md`) alone. It is plain
-//! on purpose: the whole sheet is read, then graded, then written. The paper's sentences stand in
-//! quotation marks at the code that follows them.
+//! An independent grader of tally sheets, written from paper 01 (`01-scope.md`) and A.1 of paper 02
+//! (`02-change-requests.md`) alone. It is plain on purpose: the whole sheet is read, then graded,
+//! then written. The papers' sentences stand in quotation marks at the code that follows them; they
+//! are those of paper 01 where no paper is named.
 
 pub mod check;
 pub mod failure;
@@ -10,6 +11,8 @@ pub mod rules;
 pub mod sheet;
 #[cfg(test)]
 mod tests;
+
+pub use rules::RESULT_SIZE;
 
 /// Number 0 for acceptance, else 1 to 14 as in "Where a sheet is turned away".
 #[derive(Clone, Copy, Debug, PartialEq, Eq)]
@@ -31,7 +34,8 @@ pub fn grade_but_codes(sheet: &[u8], results: &mut [u8]) -> Answer {
 }
 
 /// As [`grade`], and hands out the trace of an accepted sheet. With `check`, every CuSum is also
-/// computed by the 'largest of' formula of demand 3, and a difference panics.
+/// computed by the 'largest of' formula of demand 3 and every overshoot by sums like those, and a
+/// difference panics.
 pub fn grade_traced(
     sheet: &[u8],
     results: &mut [u8],
@@ -55,10 +59,11 @@ fn grade_by(
     let graded = grade_sheet(&tally);
     if check {
         check::cusums_twice(&graded);
+        check::overshoots_twice(&graded);
     }
     let units = graded.rows.len();
-    // "Result buffer | 13 | shorter than 16 times the units"
-    if results.len() < 16 * units {
+    // "Number 13 counts 32 bytes a unit" (paper 02, A.1).
+    if results.len() < RESULT_SIZE * units {
         return refuse(13, sheet.len());
     }
     // "Result buffer | 14 | a CuSum too large for two bytes": cannot occur, as no CuSum exceeds L.
@@ -66,7 +71,7 @@ fn grade_by(
         return refuse(14, sheet.len());
     }
     // "bytes behind the last result record keep theirs."
-    for (row, place) in graded.rows.iter().zip(results.chunks_exact_mut(16)) {
+    for (row, place) in graded.rows.iter().zip(results.chunks_exact_mut(RESULT_SIZE)) {
         place.copy_from_slice(&row.result());
     }
     // "Acceptance returns 0, the number of units and the sheet's length".
@@ -84,17 +89,18 @@ pub fn print_checked(sheet: &[u8], check: bool) -> String {
     if sheet.len() > 65_536 {
         return "refused 15 65536\n".to_string();
     }
-    let mut results = vec![0; 16 * sheet::MOST_UNITS];
+    let mut results = vec![0; RESULT_SIZE * sheet::MOST_UNITS];
     let (answer, _) = grade_traced(sheet, &mut results, check);
     if answer.number != 0 {
         return format!("refused {} {}\n", answer.number, answer.offset);
     }
     // "unit number from 1, code, both in decimal, portion grade, code grade (A, B, C, S), standing
-    // (m, f, u, r for 0 to 3), plan grade (S for none), four CuSums with one decimal." The line is
-    // made from the record's bytes, so that these are tested too.
+    // (m, f, u, r for 0 to 3), plan grade (S for none), four CuSums with one decimal." "The printed
+    // lines don't change" (paper 02, A.1): no overshoots. The line is made from the record's bytes, so
+    // that these are tested too.
     let letter = |letters: &[u8; 4], byte: u8| char::from(letters[usize::from(byte)]);
     let mut lines = String::new();
-    for (unit, record) in results.chunks_exact(16).take(answer.units).enumerate() {
+    for (unit, record) in results.chunks_exact(RESULT_SIZE).take(answer.units).enumerate() {
         let two = |at: usize| u16::from_be_bytes([record[at], record[at + 1]]);
         lines += &format!("{} {}", unit + 1, two(2));
         for (at, letters) in [(4, b"ABCS"), (5, b"ABCS"), (7, b"mfur"), (6, b"ABCS")] {

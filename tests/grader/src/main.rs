@@ -1,5 +1,5 @@
 //! Reads a sheet from standard input and prints its lines. `grader --check` also computes every
-//! CuSum by the formula of demand 3 and panics if one differs.
+//! CuSum by the formula of demand 3, every overshoot by sums like those, and panics if one differs.
 
 use std::io::{Read, Write};
 

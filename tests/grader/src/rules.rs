@@ -8,6 +8,9 @@ pub const FAILED: u8 = 1;
 pub const IN_STEP_3: u8 = 2;
 pub const RECOVERED: u8 = 3;
 
+/// "The result record grows from 16 to 32 bytes" (paper 02, A.1).
+pub const RESULT_SIZE: usize = 32;
+
 /// One unit as graded: its result record and the trace behind it.
 #[derive(Clone, Copy, Debug)]
 pub struct Row {
@@ -16,6 +19,7 @@ pub struct Row {
     pub plan: Grade,
     pub class_fails: [bool; 4],
     pub cusums: [i64; 4],
+    pub overshoots: [i64; 4],
     pub defect_grade: Grade,
     pub qualifies: bool,
     pub standing: u8,
@@ -29,16 +33,21 @@ impl Row {
         self.class_fails.contains(&true)
     }
 
-    /// "Result, 47 52, 16 bytes a unit: code (2), portion grade (1), code grade (1), grade of the
-    /// plan in force [...] (1 [...]), standing (1), four CuSums (2 each, tenths; zero if no plan)."
-    pub fn result(&self) -> [u8; 16] {
-        let mut record = [0; 16];
+    /// "Result, 47 52, [...]: code (2), portion grade (1), code grade (1), grade of the plan in force
+    /// [...] (1 [...]), standing (1), four CuSums (2 each, tenths; zero if no plan)." "after the
+    /// CuSums come four overshoots in tenths, four bytes each, high byte first, zero where no plan is
+    /// in force" (paper 02, A.1).
+    pub fn result(&self) -> [u8; RESULT_SIZE] {
+        let mut record = [0; RESULT_SIZE];
         record[..2].copy_from_slice(&[0x47, 0x52]);
         record[2..4].copy_from_slice(&self.unit.code.to_be_bytes());
         (record[4], record[5]) = (self.portion_grade, self.code_grade);
         (record[6], record[7]) = (self.plan, self.standing);
-        for (place, cusum) in record[8..].chunks_exact_mut(2).zip(self.cusums) {
+        for (place, cusum) in record[8..16].chunks_exact_mut(2).zip(self.cusums) {
             place.copy_from_slice(&(cusum as u16).to_be_bytes());
+        }
+        for (place, overshoot) in record[16..].chunks_exact_mut(4).zip(self.overshoots) {
+            place.copy_from_slice(&(overshoot as u32).to_be_bytes());
         }
         record
     }
@@ -85,6 +94,9 @@ pub struct Graded {
     pub table: Table,
     pub rows: Vec<Row>,
     pub events: Vec<Event>,
+    /// The grade of the plan in force behind the last record, and its CuSums.
+    pub next_plan: Grade,
+    pub next_cusums: [i64; 4],
 }
 
 const FRESH: Stage = Stage::Designated { failure: None };
@@ -148,7 +160,8 @@ pub fn grade_portions(sheet: &Sheet) -> Graded {
             events.push(event);
         }
     }
-    Graded { table: sheet.table, rows, events }
+    let next_plan = plan_in_force(stage, designated);
+    Graded { table: sheet.table, rows, events, next_plan, next_cusums: cusums }
 }
 
 /// "Last, the code grade: the worst portion grade among all units of the sheet with that code,
@@ -214,15 +227,13 @@ fn after_unit(stage: Stage, row: &Row) -> (Stage, Option<What>) {
 fn grade_unit(table: &Table, unit: Unit, designated: Grade, stage: Stage, old: [i64; 4]) -> Row {
     let plan = plan_in_force(stage, designated);
     let defects = unit.defects();
-    let mut class_fails = [false; 4];
-    let mut cusums = [0; 4];
     // "If that is Substandard there is no plan: each unit has defect grade Substandard."
-    if plan != SUBSTANDARD {
-        for class in 0..4 {
-            let numbers = table[usize::from(plan)][class];
-            (cusums[class], class_fails[class]) = step(old[class], defects[class], numbers);
-        }
-    }
+    let steps = match table.get(usize::from(plan)) {
+        Some(numbers) => [0, 1, 2, 3].map(|class| step(old[class], defects[class], numbers[class])),
+        None => [Step { cusum: 0, fails: false, overshoot: 0 }; 4],
+    };
+    let class_fails = steps.map(|step| step.fails);
+    let cusums = steps.map(|step| step.cusum);
     // "Its defect grade is the grade of the plan in force if it meets."
     let fails = class_fails.contains(&true);
     let defect_grade = if fails { lower_grade(table, plan, defects) } else { plan };
@@ -236,6 +247,7 @@ fn grade_unit(table: &Table, unit: Unit, designated: Grade, stage: Stage, old: [
         plan,
         class_fails,
         cusums,
+        overshoots: steps.map(|step| step.overshoot),
         defect_grade,
         qualifies: in_step_3 && cusums == [0; 4] && within,
         standing: match (in_step_3, fails) {
@@ -249,16 +261,26 @@ fn grade_unit(table: &Table, unit: Unit, designated: Grade, stage: Stage, old: [
     }
 }
 
+/// What a class comes to at a unit.
+#[derive(Clone, Copy)]
+struct Step {
+    cusum: i64,
+    fails: bool,
+    overshoot: i64,
+}
+
 /// "Raw value = old CuSum + ten times the count - T. If it is above L, the class fails and the CuSum
-/// becomes L. If it is below zero, the CuSum becomes 0. Otherwise it is the CuSum."
-fn step(old: i64, defects: i64, numbers: Numbers) -> (i64, bool) {
+/// becomes L. If it is below zero, the CuSum becomes 0. Otherwise it is the CuSum." "The step that
+/// gives a new CuSum shall also give the overshoot, raw value less L, or zero where the class met"
+/// (paper 02, A.1).
+fn step(old: i64, defects: i64, numbers: Numbers) -> Step {
     let raw = old + defects - numbers.t;
     if raw > numbers.l {
-        (numbers.l, true)
+        Step { cusum: numbers.l, fails: true, overshoot: raw - numbers.l }
     } else if raw < 0 {
-        (0, false)
+        Step { cusum: 0, fails: false, overshoot: 0 }
     } else {
-        (raw, false)
+        Step { cusum: raw, fails: false, overshoot: 0 }
     }
 }
 

@@ -1,15 +1,14 @@
-//! The sheets of paper 01 by hand, every refusal, the wrong readings, and random sheets.
+//! The sheets of paper 01 by hand, every refusal, overshoots, the wrong readings, and random sheets.
 
-use crate::generate::{case, counted, pair, table, Counts};
+use crate::generate::{case_with_overshoots, counted, pair, table, Counts, MOST_ROOM};
 use crate::peach::{p10, peach, peaches, P10_LINES};
 use crate::sheet::{Record, Sheet};
-use crate::{check, grade, grade_traced, print, print_checked, Answer};
+use crate::{check, grade, grade_traced, print, print_checked, Answer, RESULT_SIZE};
 
-/// Grades, with the self check, recoverable units of major defects; S/T/L of major at A, B and C, the
-/// other classes being so wide that they neither fail nor hinder. The script lists counts (with a
-/// code behind "@", else 1, 2, ...), "|" for a break and A, B, C for redesignations. Returns for
-/// each unit "portion code standing plan", without spaces, and the CuSum.
-fn majors(designated: u8, grades: [[i64; 3]; 3], script: &str) -> String {
+/// Recoverable units of major defects; S/T/L of major at A, B and C, the other classes being so wide
+/// that they neither fail nor hinder. The script lists counts (with a code behind "@", else 1, 2,
+/// ...), "|" for a break and A, B, C for redesignations.
+fn majors_sheet(designated: u8, grades: [[i64; 3]; 3], script: &str) -> Vec<u8> {
     let tenths = grades.map(|major| [[0, 9_999, 0], [0, 9_999, 0], major, [0, 9_999, 0]]);
     let mut draft = Sheet { designated, table: table(tenths), records: Vec::new() };
     for word in script.split_whitespace() {
@@ -23,19 +22,48 @@ fn majors(designated: u8, grades: [[i64; 3]; 3], script: &str) -> String {
             }
         });
     }
+    draft.bytes()
+}
+
+/// Grades such a sheet, with the self check. Returns for each unit "portion code standing plan",
+/// without spaces, and the CuSum.
+fn majors(designated: u8, grades: [[i64; 3]; 3], script: &str) -> String {
     let short = |line: &str| {
         let fields: Vec<&str> = line.split(' ').collect();
         format!("{} {}", fields[2..6].concat(), fields[8])
     };
-    let printed = print_checked(&draft.bytes(), true);
+    let printed = print_checked(&majors_sheet(designated, grades, script), true);
     printed.lines().map(short).collect::<Vec<_>>().join(", ")
+}
+
+/// The overshoots of each unit in tenths, class by class, from the bytes recorded for them: "after the
+/// CuSums come four overshoots in tenths, four bytes each, high byte first" (paper 02, A.1). Graded
+/// with the self check.
+fn overshoots(sheet: &[u8]) -> Vec<[u32; 4]> {
+    let mut results = vec![0xA5; MOST_ROOM];
+    let (answer, _) = grade_traced(sheet, &mut results, true);
+    assert_eq!(answer.number, 0);
+    let of_record = |record: &[u8]| {
+        [16, 20, 24, 28].map(|at| u32::from_be_bytes(record[at..at + 4].try_into().unwrap()))
+    };
+    results.chunks_exact(RESULT_SIZE).take(answer.units).map(of_record).collect()
+}
+
+/// Of each unit the overshoot in one class, the others being zero.
+fn overshoots_in(class: usize, sheet: &[u8]) -> Vec<u32> {
+    let alone = |mut all: [u32; 4]| {
+        let overshoot = std::mem::take(&mut all[class]);
+        assert_eq!(all, [0; 4], "another class than {class}");
+        overshoot
+    };
+    overshoots(sheet).into_iter().map(alone).collect()
 }
 
 /// Number, units and offset, with a buffer of `room` bytes, of which no other byte changes.
 fn answer(sheet: &[u8], room: usize) -> (u32, usize, usize) {
     let mut results = vec![0xA5; room];
     let Answer { number, units, offset } = grade(sheet, &mut results);
-    assert!(results[16 * units..].iter().all(|&byte| byte == 0xA5));
+    assert!(results[RESULT_SIZE * units..].iter().all(|&byte| byte == 0xA5));
     (number, units, offset)
 }
 
@@ -43,10 +71,14 @@ fn answer(sheet: &[u8], room: usize) -> (u32, usize, usize) {
 fn peach_sheet() {
     let sheet = p10();
     assert_eq!(print_checked(&sheet, true), P10_LINES);
-    let mut results = [0xA5; 16 * 7 + 1];
+    let mut results = [0xA5; 224 + 1];
     assert_eq!(grade(&sheet, &mut results), Answer { number: 0, units: 7, offset: 75 + 7 * 14 });
-    assert_eq!(results[64..80], [0x47, 0x52, 0, 5, 0, 1, 1, 3, 0, 0, 0, 0, 0, 0, 0, 0]);
-    assert_eq!(results[112], 0xA5);
+    // Unit 2 fails in total by 2 + 12 - 6 - 4 = 4, unit 5 is recovered.
+    assert_eq!(results[32..48], [0x47, 0x52, 0, 2, 1, 1, 0, 1, 0, 0, 0, 5, 0, 10, 0, 40]);
+    assert_eq!(results[48..64], [0, 0, 0, 0, 0, 0, 0, 0, 0, 0, 0, 0, 0, 0, 0, 40]);
+    assert_eq!(results[128..144], [0x47, 0x52, 0, 5, 0, 1, 1, 3, 0, 0, 0, 0, 0, 0, 0, 0]);
+    assert_eq!(results[144..160], [0; 16]);
+    assert_eq!(results[224], 0xA5);
 }
 
 #[test]
@@ -125,8 +157,99 @@ fn p1_to_p9() {
     let (before, recovered) = ("BBmB 1.0, CCfB 3.0, CCfB 3.0, CCuC 0.0, CCuC 0.0", "BBrC 0.0");
     assert_eq!(p8, format!("{before}, {recovered}, {recovered}, {recovered}, BBmB 1.0"));
     // P9: "count 2,001 is refused with 8, 2,000 is not".
-    assert_eq!(answer(&peach(vec![counted(1, [0, 0, 2_001, 0])]).bytes(), 16), (8, 0, 75));
-    assert_eq!(answer(&peach(vec![counted(1, [2_000; 4])]).bytes(), 16), (0, 1, 89));
+    assert_eq!(answer(&peach(vec![counted(1, [0, 0, 2_001, 0])]).bytes(), 32), (8, 0, 75));
+    assert_eq!(answer(&peach(vec![counted(1, [2_000; 4])]).bytes(), 32), (0, 1, 89));
+}
+
+#[test]
+fn overshoots_of_p1_to_p10() {
+    // P1: 1+8-3-3 = 3, and from the 0 of the unit before 0+12-3-3 = 6; "zero where the class met",
+    // also with the CuSum at L (the 3) and below it (the 2).
+    let p1 = majors_sheet(0, [[10, 30, 30]; 3], "8 3 2 1 12");
+    assert_eq!(overshoots_in(2, &p1), [30, 0, 0, 0, 60]);
+    // P3, P4, P5, P6: L is met, L+0.1 is over by 0.1, and a raw value below zero is not over.
+    assert_eq!(overshoots_in(2, &majors_sheet(0, [[30, 30, 30]; 3], "3 3")), [0, 0]);
+    assert_eq!(overshoots_in(2, &majors_sheet(0, [[0, 9, 0]; 3], "1")), [1]);
+    assert_eq!(overshoots_in(2, &majors_sheet(0, [[0, 9, 1]; 3], "1")), [0]);
+    assert_eq!(overshoots_in(2, &majors_sheet(0, [[0, 1, 9]; 3], "0 1")), [0, 0]);
+    assert_eq!(overshoots_in(2, &majors_sheet(0, [[0, 5, 5]; 3], "1 0 1")), [0, 0, 0]);
+    // P7: 1+4-1.5-3 = 0.5, then from L 3+3-1.5-3 = 1.5; P8: all met.
+    let p8 = majors_sheet(1, [[10, 5, 20], [15, 15, 30], [10, 30, 30]], "1 4 3 2 2 1 1 1");
+    assert_eq!(overshoots_in(2, &p8), [0, 5, 15, 0, 0, 0, 0, 0]);
+    // P10: in total 2+12-6-4 = 4, then from L 4+7-6-4 = 1.
+    assert_eq!(overshoots_in(3, &p10()), [0, 40, 10, 0, 0, 0, 0]);
+}
+
+#[test]
+fn overshoots_by_hand() {
+    // P9: 2,000 of each, a total of 8,000. In total 1+8,000-6-4 = 7,991.0, 01 38 26 in tenths.
+    let sheet = peach(vec![counted(1, [2_000; 4])]).bytes();
+    assert_eq!(overshoots(&sheet), [[19_990, 19_970, 19_950, 79_910]]);
+    let mut results = [0xA5; 32];
+    grade(&sheet, &mut results);
+    assert_eq!(results[16..24], [0, 0, 0x4E, 0x16, 0, 0, 0x4E, 0x02]);
+    assert_eq!(results[24..], [0, 0, 0x4D, 0xEE, 0, 1, 0x38, 0x26]);
+    // The largest there is: no T and no L. The smallest of a count of 2,000: the largest T and L.
+    let wide = |number| Sheet { table: table([[[0, number, number]; 4]; 3]), ..peach(vec![]) };
+    let of = |number, counts| {
+        overshoots(&Sheet { records: vec![counted(1, counts)], ..wide(number) }.bytes())
+    };
+    assert_eq!(of(0, [2_000; 4]), [[20_000, 20_000, 20_000, 80_000]]);
+    assert_eq!(of(9_999, [2_000, 0, 0, 0]), [[2, 0, 0, 2]]);
+    // All classes at once, each by its own S, T and L, then from L; at B by the numbers of B: against
+    // the L of A the third unit would be over by 15, 40, 20 and 90.
+    let [first, second, third] = [[2, 5, 8, 2], [1, 4, 5, 6], [3, 8, 9, 3]];
+    let records = vec![counted(1, first), counted(2, second), counted(3, third)];
+    let expected = [[10, 20, 30, 80], [5, 25, 20, 100], [10, 30, 20, 80]];
+    assert_eq!(overshoots(&peach(records).bytes()), expected);
+    // The raw value starts from S after a restart: a break, a redesignation, step 3 and its end.
+    let grades = [[0, 10, 10], [10, 30, 30], [20, 50, 50]];
+    let majors_over = |script: &str| overshoots_in(2, &majors_sheet(0, grades, script));
+    assert_eq!(majors_over("4 4 | 9"), [20, 30, 40]);
+    assert_eq!(majors_over("4 | 4 B 9 9"), [20, 20, 40, 60]);
+    assert_eq!(majors_over("4 4 8 8 0 0 0 0 4"), [20, 30, 30, 50, 0, 0, 0, 0, 20]);
+    // In step 3 a redesignation to a better grade keeps the CuSums, from which the 9 is over.
+    assert_eq!(majors_over("9 9 9 B 9"), [70, 80, 10, 40]);
+    // "zero where no plan is in force"; a recovered portion has none, and those that failed before
+    // keep theirs.
+    assert_eq!(majors_over("99 99 99 0 0 0 3"), [970, 980, 0, 0, 0, 0, 10]);
+}
+
+#[test]
+fn overshoots_of_a_pair() {
+    // A 1 in place of the first 4: no overshoot is larger up to the second 4, with which the second
+    // sheet fails two in a row. Then the second is under B and the first under A, where the 9 is over
+    // by more: the claim ends before it.
+    let grades = [[0, 10, 10], [10, 30, 30], [20, 50, 50]];
+    let [first, second] = ["1 4 9", "4 4 9"].map(|script| majors_sheet(0, grades, script));
+    assert_eq!(overshoots_in(2, &first), [0, 20, 80]);
+    assert_eq!(overshoots_in(2, &second), [20, 30, 40]);
+    let graded = |sheet: &[u8]| grade_traced(sheet, &mut [0; MOST_ROOM], true).1.unwrap();
+    let (first, second) = (graded(&first), graded(&second));
+    assert_eq!(check::monotone(&first, &second), Ok(false));
+    // What the monotone half does with a larger one in the first: at the last unit compared, and
+    // behind it.
+    let larger = |unit: usize| {
+        let mut wrong = first.clone();
+        wrong.rows[unit].overshoots[2] = 31;
+        check::monotone(&wrong, &second)
+    };
+    assert_eq!(larger(1), Err("unit 2 class 2: a larger overshoot".to_string()));
+    assert_eq!(larger(2), Ok(false));
+}
+
+#[test]
+fn wrong_overshoots_are_noticed() {
+    // P10 with one overshoot another: of units that meet, that fail by 4 and by 1, that are under B.
+    let graded = grade_traced(&p10(), &mut [0; MOST_ROOM], true).1.unwrap();
+    for (unit, class, wrong) in
+        [(0, 3, 1), (1, 3, 39), (1, 3, 41), (1, 3, 0), (1, 2, 1), (2, 3, 9), (2, 3, 40), (3, 3, 1)]
+    {
+        let mut changed = graded.clone();
+        changed.rows[unit].overshoots[class] = wrong;
+        let noticed = std::panic::catch_unwind(|| check::overshoots_twice(&changed)).is_err();
+        assert!(noticed, "unit {} class {class}: {wrong}", unit + 1);
+    }
 }
 
 #[test]
@@ -137,13 +260,14 @@ fn small_cases() {
     assert_eq!(print(&none), "");
     let mut many = peach(Vec::new());
     many.fill(1_000);
-    assert_eq!(answer(&many.bytes(), 16_000), (0, 1_000, 14_075));
+    assert_eq!(answer(&many.bytes(), 31_999), (13, 0, 14_075));
+    assert_eq!(answer(&many.bytes(), 32_000), (0, 1_000, 14_075));
     many.records.push(counted(1, [2_001, 0, 0, 0]));
-    assert_eq!(answer(&many.bytes(), 16_000), (12, 0, 14_075));
-    assert_eq!(answer(&many.bytes()[..14_088], 16_000), (7, 0, 14_075));
+    assert_eq!(answer(&many.bytes(), 32_000), (12, 0, 14_075));
+    assert_eq!(answer(&many.bytes()[..14_088], 32_000), (7, 0, 14_075));
     let one = peach(vec![counted(1, [0; 4])]).bytes();
-    assert_eq!(answer(&one, 15), (13, 0, 89));
-    assert_eq!(answer(&one, 16), (0, 1, 89));
+    assert_eq!(answer(&one, 31), (13, 0, 89));
+    assert_eq!(answer(&one, 32), (0, 1, 89));
     // A break between two failures: both fail, and step 3 does not begin.
     let grades = [[10, 30, 30], [10, 60, 40], [10, 90, 40]];
     assert_eq!(majors(0, grades, "8 | 8 0"), "BBfA 3.0, BBfA 3.0, AAmA 0.0");
@@ -191,7 +315,7 @@ fn every_refusal_with_its_offset() {
         counted(2, [0; 4]),
     ]);
     let sheet = base.bytes();
-    assert_eq!(answer(&sheet, 32), (0, 2, 108));
+    assert_eq!(answer(&sheet, 64), (0, 2, 108));
     // Bytes put at an offset, and the refusal's number and offset.
     #[rustfmt::skip]
     let cases: [(usize, &[u8], u32, usize); 24] = [
@@ -214,9 +338,9 @@ fn every_refusal_with_its_offset() {
     }
     let cuts = [(0, 1, 0), (76, 6, 75), (77, 7, 75), (88, 7, 75), (90, 6, 89), (93, 7, 91)];
     for (length, number, offset) in cuts {
-        assert_eq!(answer(&sheet[..length], 32), (number, 0, offset), "length {length}");
+        assert_eq!(answer(&sheet[..length], 64), (number, 0, offset), "length {length}");
     }
-    assert_eq!(answer(&sheet, 31), (13, 0, 108));
+    assert_eq!(answer(&sheet, 63), (13, 0, 108));
     // 11 goes by the grade designated just before, also with no unit between.
     let twice = peach([1, 0, 0].map(Record::Redesignation).to_vec());
     assert_eq!(answer(&twice.bytes(), 0), (11, 0, 81));
@@ -242,14 +366,16 @@ fn wrong_readings_are_not_taken() {
 fn random_sheets() {
     let mut counts = Counts::default();
     for seed in 0..20_000 {
-        let case = case(seed);
+        let case = case_with_overshoots(seed);
         let mut results = vec![0xA5; case.room];
         let (answer, graded) = grade_traced(&case.sheet, &mut results, true);
         if let Some(expected) = case.expected {
             assert_eq!((answer.number, answer.offset), expected, "seed {seed}");
         }
-        assert!(results[16 * answer.units..].iter().all(|&byte| byte == 0xA5), "seed {seed}");
+        let behind = &results[RESULT_SIZE * answer.units..];
+        assert!(behind.iter().all(|&byte| byte == 0xA5), "seed {seed}");
         counts.note(answer.number, graded.as_ref());
+        counts.note_overshoots(graded.as_ref());
     }
     println!("{counts}");
     assert_eq!(counts.missing().next(), None);
@@ -258,18 +384,21 @@ fn random_sheets() {
 #[test]
 fn monotone_pairs() {
     let (mut unequal, mut calm) = (0, 0);
+    let mut counts = Counts::default();
     for seed in 0..5_000 {
         let (first, second) = pair(seed);
         unequal += usize::from(first != second);
         let [first, second] = [first, second].map(|sheet| {
-            let (_, graded) = grade_traced(&sheet, &mut [0; 16_000], true);
+            let (_, graded) = grade_traced(&sheet, &mut [0; MOST_ROOM], true);
             graded.unwrap_or_else(|| panic!("seed {seed}: refused"))
         });
+        counts.note_pair(&first, &second);
         match check::monotone(&first, &second) {
             Ok(never_two_in_a_row) => calm += usize::from(never_two_in_a_row),
             Err(violated) => panic!("seed {seed}: {violated}"),
         }
     }
-    println!("5000 pairs, {unequal} unequal, {calm} with never two in a row in the second");
+    println!("{counts}5000 pairs, {unequal} unequal, {calm} with never two in a row in the second");
     assert!(unequal > 2_000 && calm > 1_000 && calm < 4_500);
+    assert_eq!(counts.missing().next(), None);
 }

@@ -1,10 +1,12 @@
 //! Prints `crates/computed/specs/FurtherSheets.antt`: whole sheets in bytes, with the answers and the
 //! result bytes that the independent grader gives for them, to be proved of the definitions by
-//! computation. Sizes and bytes are the grader's. What stands with each sheet by hand, from paper 01,
-//! holds the grader to what the sheet is to show: letters for an accepted one, else the number.
+//! computation. Sizes and bytes are the grader's. What stands with each sheet by hand, from the papers,
+//! holds the grader to what the sheet is to show: letters and overshoots for an accepted one, else the
+//! number.
 
 use grader::peach::peach;
 use grader::sheet::{Numbers, Record, Sheet, Unit, MOST_UNITS};
+use grader::RESULT_SIZE;
 
 /// Grades and classes by their places.
 const GRADES: [&str; 4] = ["A", "B", "C", "S"];
@@ -24,10 +26,14 @@ struct Part {
     comment: String,
 }
 
+/// A unit, counted from 1, a class, and how far over it is, in tenths.
+type Overshoot = (usize, usize, u32);
+
 /// What is known of the answer by hand.
 enum Expected {
-    /// Accepted. For each unit portion grade, code grade, standing and plan grade, as printed.
-    Letters(&'static str),
+    /// Accepted. For each unit portion grade, code grade, standing and plan grade, as printed; and the
+    /// overshoots that are not zero, by unit and class.
+    Accepted(&'static str, &'static [Overshoot]),
     /// Refused, whatever the buffer.
     Number(u32),
     /// Refused in a buffer without room for the result records.
@@ -109,17 +115,17 @@ fn minor(code: u16, count: i64) -> Record {
     unit(code, [0, 0, 0, count])
 }
 
-/// Fails A and grades B, from any CuSums, in total alone.
+/// Fails A and grades B, from any CuSums, in total alone: by 3.0 from S, by 6.0 from L.
 fn fails(code: u16) -> Record {
     minor(code, 12)
 }
 
-/// Fails A and grades C.
+/// Fails A and grades C, in total alone: by 9.0 from S, by 12.0 from L.
 fn fails_to_c(code: u16) -> Record {
     minor(code, 18)
 }
 
-/// Fails A and grades Substandard, in critical alone.
+/// Fails A and grades Substandard, in critical alone: by 4.0 from S, by 4.5 from L.
 fn fails_to_s(code: u16) -> Record {
     unit(code, [5, 0, 0, 0])
 }
@@ -181,9 +187,11 @@ fn accepted(
     plan: Vec<u8>,
     records: &[Record],
     letters: &'static str,
+    overshoots: &'static [Overshoot],
 ) -> Case {
     let parts = records.iter().map(part).collect();
-    Case { name, shows, plan, parts, full: false, expected: Expected::Letters(letters) }
+    let expected = Expected::Accepted(letters, overshoots);
+    Case { name, shows, plan, parts, full: false, expected }
 }
 
 fn refused(
@@ -234,6 +242,12 @@ fn groups() -> Vec<Group> {
             cases: step_three(),
         },
         Group {
+            name: "OvershootSheets",
+            field: "overshoots",
+            title: "how far a class is over",
+            cases: overshoots(),
+        },
+        Group {
             name: "FewerDefectSheets",
             field: "fewer-defects",
             title: "sheets with a defect fewer than another",
@@ -263,6 +277,7 @@ fn breaks() -> Vec<Case> {
             plan(),
             &[unit(1, [0, 1, 4, 4]), BREAK, unit(2, [0, 1, 4, 4]), unit(3, [0, 0, 3, 3])],
             "AAmA AAmA AAmA",
+            &[],
         ),
         accepted(
             "a break between failures",
@@ -270,6 +285,7 @@ fn breaks() -> Vec<Case> {
             plan(),
             &[fails(1), BREAK, fails(2), unit(3, [0, 0, 3, 3])],
             "BBfA BBfA AAmA",
+            &[(1, TOTAL, 30), (2, TOTAL, 30)],
         ),
         accepted(
             "a break in step three",
@@ -278,6 +294,7 @@ fn breaks() -> Vec<Case> {
             plan(),
             &[fails(1), fails(2), unit(3, [0, 4, 6, 4]), BREAK, unit(4, [0, 4, 6, 4])],
             "BBfA BBfA BBuB BBuB",
+            &[(1, TOTAL, 30), (2, TOTAL, 60)],
         ),
         accepted(
             "a break in a run",
@@ -286,6 +303,7 @@ fn breaks() -> Vec<Case> {
             plan(),
             &[fails(1), fails(2), clean(3), clean(4), BREAK, clean(5), clean(6)],
             "BBfA BBfA BBuB BBuB BBuB BBuB",
+            &[(1, TOTAL, 30), (2, TOTAL, 60)],
         ),
         accepted(
             "a break without a plan",
@@ -303,6 +321,7 @@ fn breaks() -> Vec<Case> {
                 clean(7),
             ],
             "SSfA SSfA SSuS SSuS AArS AArS AArS",
+            &[(1, CRITICAL, 40), (2, CRITICAL, 45)],
         ),
         accepted(
             "no unit",
@@ -310,6 +329,7 @@ fn breaks() -> Vec<Case> {
             plan(),
             &[],
             "",
+            &[],
         ),
         accepted(
             "no unit but records",
@@ -317,6 +337,7 @@ fn breaks() -> Vec<Case> {
             plan(),
             &[BREAK, to(B), BREAK, to(A)],
             "",
+            &[],
         ),
     ]
 }
@@ -330,6 +351,7 @@ fn redesignations() -> Vec<Case> {
             plan(),
             &[unit(1, [0, 1, 4, 9]), to(B), unit(2, [0, 3, 6, 9]), unit(3, [0, 3, 5, 3])],
             "BBfA CCfB BBmB",
+            &[(1, TOTAL, 50), (2, TOTAL, 30)],
         ),
         accepted(
             "a redesignation in step three",
@@ -338,6 +360,7 @@ fn redesignations() -> Vec<Case> {
             plan(),
             &[fails_to_c(1), fails(2), unit(3, [0, 6, 7, 5]), to(B), unit(4, [0, 5, 6, 6])],
             "CCfA BBfA CCuC CCuC",
+            &[(1, TOTAL, 90), (2, TOTAL, 60)],
         ),
         accepted(
             "a redesignation in a run",
@@ -355,6 +378,7 @@ fn redesignations() -> Vec<Case> {
                 unit(7, [0, 2, 4, 2]),
             ],
             "BBfA CCfA CCuC CCuC BBrC BBrC BBrC",
+            &[(1, TOTAL, 30), (2, TOTAL, 120)],
         ),
         accepted(
             "a redesignation to the lower grade",
@@ -363,6 +387,7 @@ fn redesignations() -> Vec<Case> {
             plan(),
             &[fails(1), fails(2), unit(3, [0, 4, 6, 4]), to(B), unit(4, [0, 4, 6, 4])],
             "BBfA BBfA BBuB BBmB",
+            &[(1, TOTAL, 30), (2, TOTAL, 60)],
         ),
         accepted(
             "a redesignation below the lower grade",
@@ -370,6 +395,7 @@ fn redesignations() -> Vec<Case> {
             plan(),
             &[fails(1), fails(2), unit(3, [0, 4, 6, 4]), to(C), unit(4, [0, 6, 7, 5])],
             "BBfA BBfA BBuB CCmC",
+            &[(1, TOTAL, 30), (2, TOTAL, 60)],
         ),
         accepted(
             "a redesignation without a plan",
@@ -386,6 +412,7 @@ fn redesignations() -> Vec<Case> {
                 unit(6, [2, 5, 6, 4]),
             ],
             "SSfA BBfA SSuS CCrS CCrS CCrS",
+            &[(1, CRITICAL, 40), (2, TOTAL, 20)],
         ),
         accepted(
             "a redesignation after step three",
@@ -402,6 +429,7 @@ fn redesignations() -> Vec<Case> {
                 unit(6, [0, 3, 5, 5]),
             ],
             "BBfA BBfA AArB AArB AArB BBmB",
+            &[(1, TOTAL, 30), (2, TOTAL, 60)],
         ),
         accepted(
             "every kind of record",
@@ -420,6 +448,7 @@ fn redesignations() -> Vec<Case> {
                 clean(300),
             ],
             "CSfA BBfA CCuC SSfC SSfC SSuS",
+            &[(1, TOTAL, 90), (2, TOTAL, 60), (4, SEVERE, 10), (5, SEVERE, 30)],
         ),
     ]
 }
@@ -441,6 +470,7 @@ fn units() -> Vec<Case> {
                 unit(4, [0, 0, 0, 25]),
             ],
             "CCfA BBfA CCfA SSfA",
+            &[(1, SEVERE, 40), (2, CRITICAL, 10), (2, SEVERE, 30), (2, MAJOR, 30), (2, TOTAL, 80), (3, CRITICAL, 30), (3, SEVERE, 50), (3, MAJOR, 50), (3, TOTAL, 150), (4, TOTAL, 160)],
         ),
         accepted(
             "designated C failed twice",
@@ -449,6 +479,7 @@ fn units() -> Vec<Case> {
             designated(C),
             &[unit(1, [0, 8, 0, 0]), unit(2, [0, 8, 0, 0]), clean(3)],
             "SSfC SSfC SSuS",
+            &[(1, SEVERE, 10), (2, SEVERE, 30)],
         ),
         accepted(
             "prerequisite Substandard",
@@ -461,6 +492,7 @@ fn units() -> Vec<Case> {
                 unit_as(3, [0, 1, 4, 5], C, true),
             ],
             "SSmA SSmA CCmA",
+            &[],
         ),
         accepted(
             "prerequisites of two failures",
@@ -472,6 +504,7 @@ fn units() -> Vec<Case> {
                 unit(3, [0, 3, 5, 5]),
             ],
             "CCfA SSfA BBuB",
+            &[(1, TOTAL, 30), (2, TOTAL, 60)],
         ),
         accepted(
             "total alone fails",
@@ -480,6 +513,7 @@ fn units() -> Vec<Case> {
             plan(),
             &[unit(1, [0, 0, 0, 9]), BREAK, unit(2, [0, 0, 0, 10]), BREAK, unit(3, [0, 2, 3, 5])],
             "AAmA BBfA BBfA",
+            &[(2, TOTAL, 10), (3, TOTAL, 10)],
         ),
         accepted(
             "two classes fail in turn",
@@ -487,6 +521,7 @@ fn units() -> Vec<Case> {
             plan(),
             &[unit(1, [0, 4, 0, 0]), unit(2, [0, 0, 7, 0]), unit(3, [0, 3, 5, 5])],
             "BBfA BBfA BBuB",
+            &[(1, SEVERE, 10), (2, MAJOR, 10)],
         ),
         accepted(
             "a unit that meets between failures",
@@ -494,6 +529,7 @@ fn units() -> Vec<Case> {
             plan(),
             &[fails(1), unit(2, [0, 0, 0, 0]), fails(3), unit(4, [0, 0, 3, 3])],
             "BBfA AAmA BBfA AAmA",
+            &[(1, TOTAL, 30), (3, TOTAL, 20)],
         ),
         accepted(
             "a code met again",
@@ -507,6 +543,7 @@ fn units() -> Vec<Case> {
                 unit_as(300, [0, 0, 1, 2], C, true),
             ],
             "ACmA BBmA SSmA CCmA",
+            &[],
         ),
         accepted(
             "start equal to limit",
@@ -520,6 +557,7 @@ fn units() -> Vec<Case> {
             ]),
             &[unit(1, [0, 1, 3, 2]), unit(2, [0, 1, 4, 1])],
             "AAmA BBfA",
+            &[(2, MAJOR, 10)],
         ),
         accepted(
             "cusums of two bytes",
@@ -531,6 +569,7 @@ fn units() -> Vec<Case> {
             ]),
             &[unit(1, [0, 0, 0, 6]), unit(2, [0, 0, 0, 40]), unit(3, [0, 0, 0, 7])],
             "AAmA AAmA BBfA",
+            &[(3, TOTAL, 6)],
         ),
         accepted(
             "P1 in bytes",
@@ -543,6 +582,7 @@ fn units() -> Vec<Case> {
             ]),
             &[minor(1, 8), minor(2, 3), minor(3, 2), minor(4, 1), minor(5, 12)],
             "BBfA AAmA AAmA AAmA CCfA",
+            &[(1, TOTAL, 30), (5, TOTAL, 60)],
         ),
     ]
 }
@@ -556,6 +596,7 @@ fn step_three() -> Vec<Case> {
             plan(),
             &[fails(1), fails(2), unit(3, [0, 9, 0, 0]), unit(4, [0, 3, 0, 0])],
             "BBfA BBfA SSuB BBuB",
+            &[(1, TOTAL, 30), (2, TOTAL, 60), (3, SEVERE, 40)],
         ),
         accepted(
             "lower than the plan in force",
@@ -564,6 +605,7 @@ fn step_three() -> Vec<Case> {
             plan(),
             &[fails(1), fails(2), unit(3, [0, 5, 0, 0]), unit(4, [0, 5, 0, 0])],
             "BBfA BBfA BBuB CCuB",
+            &[(1, TOTAL, 30), (2, TOTAL, 60), (4, SEVERE, 20)],
         ),
         accepted(
             "two failures in step three",
@@ -577,6 +619,7 @@ fn step_three() -> Vec<Case> {
                 unit(5, [0, 3, 0, 0]),
             ],
             "BBfA BBfA CCuB CCuB BBuB",
+            &[(1, TOTAL, 30), (2, TOTAL, 60), (3, SEVERE, 20), (4, SEVERE, 40)],
         ),
         accepted(
             "above the tolerance",
@@ -585,6 +628,7 @@ fn step_three() -> Vec<Case> {
             plan(),
             &[fails(1), fails(2), clean(3), unit(4, [0, 2, 0, 0]), clean(5), clean(6)],
             "BBfA BBfA BBuB BBuB BBuB BBuB",
+            &[(1, TOTAL, 30), (2, TOTAL, 60)],
         ),
         accepted(
             "cusum above zero",
@@ -593,6 +637,7 @@ fn step_three() -> Vec<Case> {
             plan(),
             &[fails(1), fails(2), unit(3, [0, 7, 0, 0]), unit(4, [0, 1, 0, 0]), clean(5), clean(6)],
             "BBfA BBfA CCuB BBuB BBuB BBuB",
+            &[(1, TOTAL, 30), (2, TOTAL, 60), (3, SEVERE, 20)],
         ),
         accepted(
             "recovery",
@@ -608,6 +653,7 @@ fn step_three() -> Vec<Case> {
                 clean(3),
             ],
             "BBfA CCfA BBrC CCuC ACrC ABmA",
+            &[(1, TOTAL, 30), (2, TOTAL, 120)],
         ),
         accepted(
             "recovery without a plan",
@@ -624,6 +670,7 @@ fn step_three() -> Vec<Case> {
                 unit(7, [0, 1, 3, 3]),
             ],
             "SSfA SSfA SSuS AArS AArS AArS AAmA",
+            &[(1, CRITICAL, 40), (2, CRITICAL, 45)],
         ),
         accepted(
             "after step three",
@@ -640,6 +687,7 @@ fn step_three() -> Vec<Case> {
                 unit(7, [0, 0, 3, 3]),
             ],
             "BBfA BBfA AArB AArB AArB BBfA AAmA",
+            &[(1, TOTAL, 30), (2, TOTAL, 60), (6, TOTAL, 40)],
         ),
         accepted(
             "P7 and P8 in bytes",
@@ -658,6 +706,78 @@ fn step_three() -> Vec<Case> {
                 minor(8, 1),
             ],
             "AAmA BBfA BBfA BBuB BBuB AArB AArB AArB",
+            &[(2, TOTAL, 5), (3, TOTAL, 15)],
+        ),
+    ]
+}
+
+fn overshoots() -> Vec<Case> {
+    vec![
+        accepted(
+            "overshoot above two bytes",
+            "As many defects as there may be. Over in total by 1+8,000-6-4 = 7,991.0, which is 01 38 26 in\n\
+             tenths; in the others by 1,999.0, 1,997.0 and 1,995.0.",
+            plan(),
+            &[unit(1, [2_000, 2_000, 2_000, 2_000])],
+            "SSfA",
+            &[(1, CRITICAL, 19_990), (1, SEVERE, 19_970), (1, MAJOR, 19_950), (1, TOTAL, 79_910)],
+        ),
+        accepted(
+            "overshoots around two bytes",
+            "Total of unit 1 is the least overshoot that has three bytes, 1.1+6,563-6.5-4 = 6,553.6. That of\n\
+             unit 2, from L, is the largest that has two, 4+6,560-6.5-4 = 6,553.5.",
+            plan_with(&[(A, TOTAL, [11, 65, 40])]),
+            &[unit(1, [2_000, 2_000, 2_000, 563]), unit(2, [2_000, 2_000, 2_000, 560])],
+            "SSfA SSfA",
+            &[
+                (1, CRITICAL, 19_990),
+                (1, SEVERE, 19_970),
+                (1, MAJOR, 19_950),
+                (1, TOTAL, 65_536),
+                (2, CRITICAL, 19_995),
+                (2, SEVERE, 19_985),
+                (2, MAJOR, 19_970),
+                (2, TOTAL, 65_535),
+            ],
+        ),
+        accepted(
+            "overshoots in every class",
+            "Unit 1 fails in every class from S, unit 2 from L, each by its own T and L. Unit 3 fails B, from\n\
+             the S of B: against the L of A it would be over by 1.5, 4.0, 2.0 and 9.0.",
+            plan(),
+            &[unit(1, [2, 5, 8, 2]), unit(2, [1, 4, 5, 6]), unit(3, [3, 8, 9, 3])],
+            "BBfA BBfA CCuB",
+            &[
+                (1, CRITICAL, 10),
+                (1, SEVERE, 20),
+                (1, MAJOR, 30),
+                (1, TOTAL, 80),
+                (2, CRITICAL, 5),
+                (2, SEVERE, 25),
+                (2, MAJOR, 20),
+                (2, TOTAL, 100),
+                (3, CRITICAL, 10),
+                (3, SEVERE, 30),
+                (3, MAJOR, 20),
+                (3, TOTAL, 80),
+            ],
+        ),
+        accepted(
+            "raw value at the limit",
+            "The raw value of unit 1 is 0.9+4-0.9 = 4, which is L and meets; that of unit 2 is 4+1-0.9 = 4.1,\n\
+             a tenth above it.",
+            plan_with(&[(A, TOTAL, [9, 9, 40])]),
+            &[minor(1, 4), minor(2, 1)],
+            "AAmA BBfA",
+            &[(2, TOTAL, 1)],
+        ),
+        accepted(
+            "no overshoot without a plan",
+            "Without a plan nothing is over, however many defects there are.",
+            plan(),
+            &[fails_to_s(1), fails_to_s(2), unit(3, [2_000, 2_000, 2_000, 2_000])],
+            "SSfA SSfA SSuS",
+            &[(1, CRITICAL, 40), (2, CRITICAL, 45)],
         ),
     ]
 }
@@ -671,6 +791,7 @@ fn fewer() -> Vec<Case> {
             plan(),
             &[fails(1), BREAK, fails(2), unit(3, [0, 0, 3, 2])],
             "BBfA BBfA AAmA",
+            &[(1, TOTAL, 30), (2, TOTAL, 30)],
         ),
         accepted(
             "one severe defect fewer",
@@ -686,6 +807,7 @@ fn fewer() -> Vec<Case> {
                 unit_as(7, [1, 0, 0, 0], B, false),
             ],
             "AAmA BBfA BBfA AArB ABrB BBuB BBmA",
+            &[(2, TOTAL, 30), (3, TOTAL, 10)],
         ),
     ]
 }
@@ -892,6 +1014,7 @@ fn twelve_units() -> Case {
             unit(65_535, [0, 0, 10, 0]),
         ],
         "ABmA BBmA CCmA SSmA SSfA SSfA SSuS AArS SSuS CCrS CCmC BBmB",
+        &[(5, CRITICAL, 11_001), (5, TOTAL, 2), (6, SEVERE, 10_981), (6, TOTAL, 10_021)],
     )
 }
 
@@ -899,7 +1022,7 @@ fn twelve_units() -> Case {
 
 const HEAD: &str = "\
 -- Further sheets in bytes beside the worked cases, as one group: the record at the end. Each is held to the answer and the result bytes
--- that the independent grader gives for it (tests/grader, written from paper 01 alone), so that a rule which is wrong on one of them
+-- that the independent grader gives for it (tests/grader, written from the papers alone), so that a rule which is wrong on one of them
 -- alike in a definition and in the code that meets it is refused here. This file is printed by tests/cases/src/bin/computed_sheets.rs.
 use Prim.Native.Nat.{ℕ, zero, suc, _*_, _<_, _≤_}
 use mathlib.Core.Path.{_≡_}
@@ -948,23 +1071,34 @@ struct Graded {
     records: Vec<(Vec<u8>, String)>,
 }
 
+/// The overshoots in result bytes that are not zero, by unit and class: "after the CuSums come four
+/// overshoots in tenths, four bytes each, high byte first" (paper 02, A.1).
+fn overshoots_in(results: &[u8]) -> Vec<Overshoot> {
+    let of_record = |(unit, record): (usize, &'_ [u8])| {
+        let numbers =
+            record[16..].chunks(4).map(|four| u32::from_be_bytes(four.try_into().unwrap()));
+        numbers.enumerate().map(|(class, tenths)| (unit + 1, class, tenths)).collect::<Vec<_>>()
+    };
+    let all = results.chunks(RESULT_SIZE).enumerate().flat_map(of_record);
+    all.filter(|(_, _, tenths)| *tenths > 0).collect()
+}
+
 /// Grades a sheet, and sees that the grader does as is known by hand and keeps what it has to keep.
 fn graded(case: &Case) -> Graded {
     let (name, sheet) = (case.name, case.bytes());
     let mut buffer = vec![0xEE; 4_096];
-    let (answer, trace) = grader::grade_traced(&sheet, &mut buffer, true);
-    let rows = trace.map_or(Vec::new(), |trace| trace.rows);
-    let size = rows.first().map_or(0, |row| row.result().len());
-    let (results, rest) = buffer.split_at(size * answer.units);
+    let (answer, _) = grader::grade_traced(&sheet, &mut buffer, true);
+    let (results, rest) = buffer.split_at(RESULT_SIZE * answer.units);
     assert!(rest.iter().all(|&byte| byte == 0xEE), "{name}: bytes behind the records");
     match case.expected {
-        Expected::Letters(letters) => {
+        Expected::Accepted(letters, overshoots) => {
             assert_eq!(answer.number, 0, "{name}");
+            assert_eq!(overshoots_in(results), overshoots, "{name}: overshoots");
             let printed = grader::print(&sheet);
             let found = printed.lines().map(|line| line.split(' ').skip(2).take(4).collect());
             assert_eq!(found.collect::<Vec<String>>().join(" "), letters, "{name}");
             let lines = printed.lines().map(str::to_string);
-            let records = results.chunks(size.max(1)).map(<[u8]>::to_vec).zip(lines).collect();
+            let records = results.chunks(RESULT_SIZE).map(<[u8]>::to_vec).zip(lines).collect();
             Graded { answer, records }
         }
         Expected::Number(number) => {
@@ -974,7 +1108,7 @@ fn graded(case: &Case) -> Graded {
         }
         Expected::WithoutRoom(number) => {
             assert_eq!(answer.number, 0, "{name}");
-            let mut short = vec![0xEE; size * answer.units - 1];
+            let mut short = vec![0xEE; RESULT_SIZE * answer.units - 1];
             let refused = grader::grade(&sheet, &mut short);
             assert_eq!(refused.number, number, "{name}");
             assert_eq!(grader::grade(&sheet, &mut []), refused, "{name}: without a buffer");
@@ -1074,7 +1208,7 @@ fn definitions(case: &Case, graded: &Graded) -> String {
         let parts = case.parts.iter().map(|part| (&part.bytes[..], part.comment.as_str()));
         text += &format!("\n    {}\n    ++ ({})\n", plan_text(&case.plan), lines(parts));
     }
-    if let Expected::Letters(_) = case.expected {
+    if let Expected::Accepted(..) = case.expected {
         text += &format!("\n{}", results(case, graded));
     }
     text
@@ -1107,7 +1241,7 @@ fn printed(groups: &[Group]) -> String {
         let (field, name) = (case.field(), case.definition());
         record += &format!("  pub {field} : printed {name} ≡ ");
         record += &match case.expected {
-            Expected::Letters(_) => {
+            Expected::Accepted(..) => {
                 text += &format!("\n{}", printed_lines(case));
                 format!("{name}Lines\n")
             }
@@ -1128,7 +1262,7 @@ fn statement(case: &Case, graded: &Graded) -> String {
     let (field, name) = (case.field(), case.definition());
     let grader::Answer { number, units, offset } = graded.answer;
     match case.expected {
-        Expected::Letters(_) => {
+        Expected::Accepted(..) => {
             format!("  pub {field} : Graded {name} {units} {offset} {name}Results\n")
         }
         Expected::Number(_) => format!("  pub {field} : RefusedWith {number} {name} {offset}\n"),
