@@ -5,7 +5,7 @@ use mathlib.Core.Path.{refl}
 use lib.Dec.{lit<}
 use Rattle.tally.proofs.Computing.{computing}
 use Rattle.computed.specs.WorkedCases.{peachPlan}
-use Rattle.computed.specs.FurtherSheets.{BreakSheets, RedesignationSheets, UnitSheets, StepThreeSheets, FewerDefectSheets, RefusedSheets, FullSheets, FurtherSheets, ground12, grounds12And8, grounds7And12, breakBetweenUnits, breakBetweenUnitsResults, breakBetweenFailures, breakBetweenFailuresResults, breakInStepThree, breakInStepThreeResults, breakInRun, breakInRunResults, breakWithoutPlan, breakWithoutPlanResults, noUnit, noUnitResults, noUnitButRecords, noUnitButRecordsResults, redesignationOutsideStepThree, redesignationOutsideStepThreeResults, redesignationInStepThree, redesignationInStepThreeResults, redesignationInRun, redesignationInRunResults, redesignationToLowerGrade, redesignationToLowerGradeResults, redesignationBelowLowerGrade, redesignationBelowLowerGradeResults, redesignationWithoutPlan, redesignationWithoutPlanResults, redesignationAfterStepThree, redesignationAfterStepThreeResults, everyKindOfRecord, everyKindOfRecordResults, bestLowerGrade, bestLowerGradeResults, designatedCFailedTwice, designatedCFailedTwiceResults, prerequisiteSubstandard, prerequisiteSubstandardResults, prerequisitesOfTwoFailures, prerequisitesOfTwoFailuresResults, totalAloneFails, totalAloneFailsResults, twoClassesFailInTurn, twoClassesFailInTurnResults, unitThatMeetsBetweenFailures, unitThatMeetsBetweenFailuresResults, codeMetAgain, codeMetAgainResults, startEqualToLimit, startEqualToLimitResults, cusumsOfTwoBytes, cusumsOfTwoBytesResults, p1InBytes, p1InBytesResults, failureInStepThree, failureInStepThreeResults, lowerThanPlanInForce, lowerThanPlanInForceResults, twoFailuresInStepThree, twoFailuresInStepThreeResults, aboveTolerance, aboveToleranceResults, cusumAboveZero, cusumAboveZeroResults, recovery, recoveryResults, recoveryWithoutPlan, recoveryWithoutPlanResults, afterStepThree, afterStepThreeResults, p7AndP8InBytes, p7AndP8InBytesResults, oneMinorDefectFewer, oneMinorDefectFewerResults, oneSevereDefectFewer, oneSevereDefectFewerResults, planCutShort, grounds1And2, grounds2And3, grounds3And4, grounds4And5, ground5BySum, ground5ByTolerance, oneByteLeft, secondPlan, markAlone, grounds7And8, grounds8And9, ground9Before8, recoverableAbove1, newGradeAboveC, ground11Before10, ground11ByLastRedesignation, ground11InStepThree, bufferWithoutRoom}
+use Rattle.computed.specs.FurtherSheets.{BreakSheets, RedesignationSheets, UnitSheets, StepThreeSheets, OvershootSheets, FewerDefectSheets, RefusedSheets, FullSheets, FurtherSheets, ground12, grounds12And8, grounds7And12, breakBetweenUnits, breakBetweenUnitsResults, breakBetweenFailures, breakBetweenFailuresResults, breakInStepThree, breakInStepThreeResults, breakInRun, breakInRunResults, breakWithoutPlan, breakWithoutPlanResults, noUnit, noUnitResults, noUnitButRecords, noUnitButRecordsResults, redesignationOutsideStepThree, redesignationOutsideStepThreeResults, redesignationInStepThree, redesignationInStepThreeResults, redesignationInRun, redesignationInRunResults, redesignationToLowerGrade, redesignationToLowerGradeResults, redesignationBelowLowerGrade, redesignationBelowLowerGradeResults, redesignationWithoutPlan, redesignationWithoutPlanResults, redesignationAfterStepThree, redesignationAfterStepThreeResults, everyKindOfRecord, everyKindOfRecordResults, bestLowerGrade, bestLowerGradeResults, designatedCFailedTwice, designatedCFailedTwiceResults, prerequisiteSubstandard, prerequisiteSubstandardResults, prerequisitesOfTwoFailures, prerequisitesOfTwoFailuresResults, totalAloneFails, totalAloneFailsResults, twoClassesFailInTurn, twoClassesFailInTurnResults, unitThatMeetsBetweenFailures, unitThatMeetsBetweenFailuresResults, codeMetAgain, codeMetAgainResults, startEqualToLimit, startEqualToLimitResults, cusumsOfTwoBytes, cusumsOfTwoBytesResults, p1InBytes, p1InBytesResults, failureInStepThree, failureInStepThreeResults, lowerThanPlanInForce, lowerThanPlanInForceResults, twoFailuresInStepThree, twoFailuresInStepThreeResults, aboveTolerance, aboveToleranceResults, cusumAboveZero, cusumAboveZeroResults, recovery, recoveryResults, recoveryWithoutPlan, recoveryWithoutPlanResults, afterStepThree, afterStepThreeResults, p7AndP8InBytes, p7AndP8InBytesResults, overshootAboveTwoBytes, overshootAboveTwoBytesResults, overshootsAroundTwoBytes, overshootsAroundTwoBytesResults, overshootsInEveryClass, overshootsInEveryClassResults, rawValueAtLimit, rawValueAtLimitResults, noOvershootWithoutPlan, noOvershootWithoutPlanResults, oneMinorDefectFewer, oneMinorDefectFewerResults, oneSevereDefectFewer, oneSevereDefectFewerResults, planCutShort, grounds1And2, grounds2And3, grounds3And4, grounds4And5, ground5BySum, ground5ByTolerance, oneByteLeft, secondPlan, markAlone, grounds7And8, grounds8And9, ground9Before8, recoverableAbove1, newGradeAboveC, ground11Before10, ground11ByLastRedesignation, ground11InStepThree, bufferWithoutRoom}
 use Rattle.computed.proofs.Computed.{accepts, without-room}
 use Rattle.computed.proofs.FullSheet.{cut-short, one-too-many}
 
@@ -78,6 +78,18 @@ step-three-sheets =
       p7-and-p8-in-bytes = λ buffer holds. accepts p7AndP8InBytes buffer 8 8 refl holds refl;
     }
 
+overshoot-sheets : OvershootSheets
+unfolding computing peachPlan overshootAboveTwoBytes overshootAboveTwoBytesResults overshootsAroundTwoBytes overshootsAroundTwoBytesResults
+    overshootsInEveryClass overshootsInEveryClassResults rawValueAtLimit rawValueAtLimitResults noOvershootWithoutPlan noOvershootWithoutPlanResults
+overshoot-sheets =
+    record {
+      overshoot-above-two-bytes = λ buffer holds. accepts overshootAboveTwoBytes buffer 1 1 refl holds refl;
+      overshoots-around-two-bytes = λ buffer holds. accepts overshootsAroundTwoBytes buffer 2 2 refl holds refl;
+      overshoots-in-every-class = λ buffer holds. accepts overshootsInEveryClass buffer 3 3 refl holds refl;
+      raw-value-at-limit = λ buffer holds. accepts rawValueAtLimit buffer 2 2 refl holds refl;
+      no-overshoot-without-plan = λ buffer holds. accepts noOvershootWithoutPlan buffer 3 3 refl holds refl;
+    }
+
 fewer-defect-sheets : FewerDefectSheets
 unfolding computing peachPlan oneMinorDefectFewer oneMinorDefectFewerResults oneSevereDefectFewer oneSevereDefectFewerResults
 fewer-defect-sheets =
@@ -129,6 +141,7 @@ further-sheets =
       redesignations = redesignation-sheets;
       units = unit-sheets;
       step-three = step-three-sheets;
+      overshoots = overshoot-sheets;
       fewer-defects = fewer-defect-sheets;
       refusals = refused-sheets;
       full = full-sheets;

@@ -12,7 +12,7 @@ use Rattle.computed.specs.FurtherSheets.{PrintedSheets}
 
 -- the result buffer that a sheet is graded into: 32 bytes for each of 1,000 units, filled with zeros
 unfoldable pub emptyBuffer : List ℕ
-emptyBuffer = replicate 16000 0
+emptyBuffer = replicate 32000 0
 
 -- a text is a number in decimal: one digit, or the digits of a number above zero and the last digit
 pub data InDecimal : List ℕ → ℕ → Type 0 where
