@@ -26,7 +26,7 @@ use Rattle.results.specs.Record.{resultSize}
 use Rattle.tally.specs.declared.Answer.{Answer}
 use Rattle.tally.specs.Outcome.{recordsIn}
 use Rattle.tally.specs.Accepted.{AcceptedAs, sheetIn, UnitAt, recordedPortionGrade, recordedCodeGrade, numbersInForce}
-use Rattle.demands.specs.Course.{Course, prerequisite, RuleTwo}
+use Rattle.demands.specs.Course.{Course, prerequisite, ClassFails, RuleTwo}
 use Rattle.demands.specs.Demand2.{GradedByRules, UnitRecorded, recordedStanding, codeOf}
 use Rattle.demands.specs.Demand3.{LargestOf, NoHigherAt, NeverWorse}
 use Rattle.demands.specs.Instances.{left, Each, Standing, met, failed, notRecovered, recovered, standingByte, StandingSays, gradeBy, UnitInstance, CourseInstance, CodeInstance, LargestInstance, LargestNumber, NoHigherInstance, NoLowerInstance}
@@ -128,12 +128,20 @@ module _ (bytes buffer : List ℕ) (answer : Answer) (results : List ℕ) (accep
           code = unit .code (all-bytes bytes small);
           plan-grade = unit .plan-grade;
           cusums = unit .cusums;
+          overshoots = unit .overshoots;
           standing = standing;
           standing-says = standing-says bytes results (by-rules .course) i unit given standing;
           portion = portion-by bytes results (by-rules .course) i unit given standing;
-          above = λ class in-range planned exceeds. rule class in-range .fails (record { planned = planned; above = exceeds });
+          above = λ class in-range planned exceeds.
+              let failed : ClassFails bytes (by-rules .course) i class = record { planned = planned; above = exceeds } in
+              (rule class in-range .fails failed, rule class in-range .over failed);
           below = λ class in-range. rule class in-range .below;
           between = λ class in-range. rule class in-range .between;
+          not-above = λ class in-range within. rule class in-range .not-over (λ fails. omega (arith, fails .above, within));
+          without-plan = λ class in-range none.
+              (rule class in-range .no-plan none, rule class in-range .not-over (λ fails. omega (arith, fails .planned, none)));
+          overshoot-tells = unit .overshoot-tells;
+          overshoot-at-most = unit .overshoot-at-most;
         }
 
     pub course-recorded : (standings : List (ℕ × Standing))
@@ -241,6 +249,7 @@ module _ (bytes bytes' results results' : List ℕ) (compared : NeverWorse bytes
   none-higher last never so =
       record {
         cusums = each _ (λ i e. at i (unit-and bytes records counted i _ e) .cusums) units so;
+        overshoots = each _ (λ i e. at i (unit-and bytes records counted i _ e) .overshoots) units so;
         failures = each _ (λ i e. at i (unit-and bytes records counted i _ e) .failures) units so;
       }
     where

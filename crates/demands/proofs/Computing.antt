@@ -2,6 +2,7 @@
 use Prim.Native.Nat.{ℕ}
 use Rattle.cusum.specs.Integers.{largestOfZeroAnd, sumℤ, runsToEnd}
 use Rattle.cusum.specs.LargestForm.{defectsLessT, largestForm}
+use Rattle.encoding.specs.Bytes.{wideNumber}
 use Rattle.rules.specs.TwoInARow.{failsDesignated, unitFailsAt, unitFailsBefore, secondInARow}
 use Rattle.rules.specs.ThreeInARow.{recordQualifies, unitQualifiesAt, thirdInARow}
 use Rattle.rules.specs.Anchor.{failsAt, countAt, restartBy, restartAt, classFailsAt, countsFrom, anchorValue}
@@ -9,6 +10,6 @@ use Rattle.tally.specs.Accepted.{sheetIn}
 use Rattle.tally.proofs.Computing as tally
 
 unfoldable pub computing : ℕ
-unfolding tally.computing largestOfZeroAnd sumℤ runsToEnd defectsLessT largestForm failsDesignated unitFailsAt unitFailsBefore secondInARow
-    recordQualifies unitQualifiesAt thirdInARow failsAt countAt restartBy restartAt classFailsAt countsFrom anchorValue sheetIn
+unfolding tally.computing wideNumber largestOfZeroAnd sumℤ runsToEnd defectsLessT largestForm failsDesignated unitFailsAt unitFailsBefore
+    secondInARow recordQualifies unitQualifiesAt thirdInARow failsAt countAt restartBy restartAt classFailsAt countsFrom anchorValue sheetIn
 computing = 0

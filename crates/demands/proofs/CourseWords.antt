@@ -14,7 +14,7 @@ use Rattle.cusum.specs.declared.Cusum.{Cusum}
 use Rattle.cusum.proofs.Laws.{fails-true, fails-false}
 use Rattle.encoding.specs.Bytes.{number}
 use Rattle.units.specs.Words.{substandard, classes, hasPlan, numbersOf, countsOf, countIn, tenthsIn}
-use Rattle.units.specs.Unit.{classFails, classCusum, unitFails, allZero, noneAbove, withinTolerance, qualifies}
+use Rattle.units.specs.Unit.{classFails, classCusum, classOvershoot, unitFails, allZero, noneAbove, withinTolerance, qualifies}
 use Rattle.units.specs.declared.SampleUnit.{SampleUnit}
 use Rattle.units.specs.declared.Entry.{Entry}
 use Rattle.units.specs.declared.Entry.the-variants.{UnitRecord, Redesignation, Break}
@@ -58,6 +58,8 @@ courseOf bytes =
       cusum = λ i class. tenthsIn (before (sheetIn bytes) i .cusums) class;
       newCusum = λ i class.
           classCusum (sheetIn bytes .table) (inForceAt (sheetIn bytes) i) (before (sheetIn bytes) i .cusums) (countsOf (unitIn bytes i)) class;
+      overshoot = λ i class.
+          classOvershoot (sheetIn bytes .table) (inForceAt (sheetIn bytes) i) (before (sheetIn bytes) i .cusums) (countsOf (unitIn bytes i)) class;
       defectGrade = λ i. gradedAt (sheetIn bytes) i (unitIn bytes i) .grade;
     }
 

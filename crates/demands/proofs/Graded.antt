@@ -3,16 +3,18 @@
 use Prim.Native.Nat.{ℕ, suc, _+_, _-_, _<_, _≤_, min}
 use mathlib.Core.Path.{_≡_, refl, sym, _∙_, ap}
 use mathlib.Core.Bool.{Bool, true, false, cond, not, _&&_, true≢false, false≢true}
+use mathlib.Core.Logic.{_↔_, ⊎-elim}
 use mathlib.Core.List.{List}
 use native.Mathlib.Omega.{arith}
 use lib.Dec.{eqb, ltb}
 use lib.ListN.{length}
 use borrow.Author.Tests.{lt-ltb, le-ltb, eqb-true, eqb-false, eq-eqb}
-use Rattle.cusum.specs.Step.{newCusum}
-use Rattle.cusum.proofs.Laws.{new-cusum-is}
+use Rattle.cusum.specs.declared.PlanNumbers.{PlanNumbers}
+use Rattle.cusum.specs.Step.{newCusum, overshoot}
+use Rattle.cusum.proofs.Laws.{new-cusum-is, overshoot-is, overshoot-met}
 use Rattle.encoding.specs.Bytes.{byte}
 use Rattle.units.specs.Words.{substandard, hasPlan, classes, worse, rowOf, inClass, numbersOf, countsOf, countIn, tenthsIn}
-use Rattle.units.specs.Unit.{starting, classCusum, unitFails, defectGrade, portionGradeOf}
+use Rattle.units.specs.Unit.{starting, classFails, classCusum, classOvershoot, unitFails, defectGrade, portionGradeOf}
 use Rattle.units.specs.BestLower.{BestLower}
 use Rattle.units.specs.Records.{worstBefore}
 use Rattle.units.specs.declared.SampleUnit.{SampleUnit}
@@ -40,19 +42,19 @@ use Rattle.sheet.proofs.Ranges.{designated-le}
 use Rattle.recording.specs.Sheet.{sheetOf}
 use Rattle.tally.specs.declared.Answer.{Answer}
 use Rattle.tally.specs.Outcome.{recordsIn}
-use Rattle.tally.specs.Accepted.{AcceptedAs, sheetIn, UnitAt, recordedPortionGrade, recordedCodeGrade}
+use Rattle.tally.specs.Accepted.{AcceptedAs, sheetIn, UnitAt, recordedOvershoot, recordedPortionGrade, recordedCodeGrade}
 use Rattle.tally.proofs.AcceptedSheet.{accepted-sheet}
 use Rattle.tally.proofs.Entries.{unit-is, new-grades}
 use Rattle.tally.proofs.Overfull.{cusum-graded}
 use Rattle.answers.specs.Grounds.{startIn, toleranceIn, limitIn, newGrade, IsBreak, IsRedesignation}
-use Rattle.demands.specs.Course.{Course, tenTimes, prerequisite, SecondFails, Qualifies, AmongThree, Recovered, Restart, RuleTwo, BestLowerGrade, RuleThree, Rules, SameBefore, SameAt}
+use Rattle.demands.specs.Course.{Course, tenTimes, prerequisite, ClassFails, SecondFails, Qualifies, AmongThree, Recovered, Restart, RuleTwo, BestLowerGrade, RuleThree, Rules, SameBefore, SameAt}
 use Rattle.demands.specs.Demand2.{recordedStanding, UnitRecorded, WorstOfCode, SameRecords, SameWords, Demand2Records}
 use Rattle.answers.proofs.Tells.{told, not-told}
 use Rattle.answers.proofs.Rows.{designated-just-before, is-redesignation-mark, redesignation-mark-is}
 use Rattle.demands.proofs.CourseWords as words
 use Rattle.demands.proofs.CourseWords.{unitIn, courseOf, break-entry, redesignation-entry}
 use Rattle.demands.proofs.OneCourse.{settled, one-course}
-use Rattle.demands.proofs.Recorded.{recorded-portion, recorded-code-grade, recorded-plan, recorded-standing, recorded-code, recorded-cusum, recorded-mark}
+use Rattle.demands.proofs.Recorded.{recorded-portion, recorded-code-grade, recorded-plan, recorded-standing, recorded-code, recorded-cusum, recorded-overshoot, recorded-mark, overshoot-at-most}
 
 -- ---- of a phase
 
@@ -106,6 +108,31 @@ module _ (bytes : List ℕ) (facts : Facts bytes (recordsIn bytes)) where
   unfolding classCusum hasPlan
   no-plan-cusum i class none = rw (le-ltb (inForceAt sheet i) substandard (omega arith))
 
+  -- what is above T+L
+  planned-overshoot : (i class : ℕ) → class < length classes → inForceAt sheet i < substandard
+      → course .overshoot i class
+      ≡ course .cusum i class + tenTimes bytes i class - toleranceIn bytes (inForceAt sheet i) class - limitIn bytes (inForceAt sheet i) class
+  unfolding classOvershoot hasPlan sampleUnitAt
+  planned-overshoot i class known planned =
+      let (start, tolerance, limit) = words.numbers-in bytes facts (inForceAt sheet i) class planned known in
+      rw (lt-ltb (inForceAt sheet i) substandard planned, ← tolerance, ← limit)
+      (overshoot-is (numbersOf (sheet .table) (inForceAt sheet i) class) (course .cusum i class) (countIn (countsOf (unitIn bytes i)) class))
+
+  not-over : (i class : ℕ) → class < length classes → (ClassFails bytes course i class → ⊥) → course .overshoot i class ≡ 0
+  unfolding classOvershoot
+  not-over i class known none = go (hasPlan (inForceAt sheet i)) refl
+    where
+      numbers : PlanNumbers
+      numbers = numbersOf (sheet .table) (inForceAt sheet i) class
+
+      meets : classFails (sheet .table) (inForceAt sheet i) (before sheet i .cusums) (countsOf (unitIn bytes i)) class ≡ false
+      meets = not-told (words.tells-class bytes facts i class known) none
+
+      go : (planned : Bool) → hasPlan (inForceAt sheet i) ≡ planned
+          → cond planned (overshoot numbers (course .cusum i class) (countIn (countsOf (unitIn bytes i)) class)) 0 ≡ 0
+      go true planned = overshoot-met numbers (course .cusum i class) (countIn (countsOf (unitIn bytes i)) class) (unfold classFails in rw planned at meets)
+      go false no-plan = refl
+
   rule-two : (i class : ℕ) → UnitAt bytes i → class < length classes → RuleTwo bytes course i class
   rule-two i class at known =
       record {
@@ -113,6 +140,8 @@ module _ (bytes : List ℕ) (facts : Facts bytes (recordsIn bytes)) where
         below = λ planned small. omega (arith, planned-cusum i class known planned, small);
         between = λ planned from to. omega (arith, planned-cusum i class known planned, from, to);
         no-plan = no-plan-cusum i class;
+        over = λ here. omega (arith, planned-overshoot i class known (here .planned), here .above);
+        not-over = not-over i class known;
       }
 
   -- ---- rule 3
@@ -368,6 +397,16 @@ module _ (bytes buffer : List ℕ) (answer : Answer) (results : List ℕ) (accep
         ∙ standing-outside (before graded-sheet i .phase) (failing bytes passed i) out
         ∙ ap (λ (b : Bool). cond b 1 0) e
 
+    overshoot-tells : (class : ℕ) → class < length classes → ClassFails bytes its-course i class ↔ (0 < recordedOvershoot bytes results i class)
+    overshoot-tells class known =
+        let rule = rule-two bytes passed i class at known in
+        let is = recorded-overshoot bytes buffer answer results accepted i at class known in (
+          λ fails. omega (arith, is, rule .over fails, fails .above),
+          λ positive.
+              ⊎-elim (λ fails. fails) (λ none. absurd (omega (arith, is, positive, rule .not-over none)))
+              (settled (words.tells-class bytes passed i class known)),
+        )
+
     pub unit-recorded : UnitRecorded bytes results its-course i
     unfolding sampleUnitAt
     unit-recorded =
@@ -376,6 +415,14 @@ module _ (bytes buffer : List ℕ) (answer : Answer) (results : List ℕ) (accep
           code = recorded-code bytes buffer answer results accepted i at;
           plan-grade = recorded-plan bytes buffer answer results accepted i at;
           cusums = recorded-cusum bytes buffer answer results accepted i at;
+          overshoots = recorded-overshoot bytes buffer answer results accepted i at;
+          overshoot-tells = overshoot-tells;
+          overshoot-at-most = λ class known.
+              omega (
+                arith,
+                recorded-overshoot bytes buffer answer results accepted i at class known,
+                overshoot-at-most bytes buffer answer results accepted i at class known,
+              );
           portion = λ none. portion-is false (not-recovered bytes passed i none);
           recovered-portion = λ here.
               portion-is true (recovered-is bytes passed i here)

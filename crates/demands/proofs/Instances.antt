@@ -147,6 +147,7 @@ fewer-defects-twice buffer buffer' holds holds' =
       no-higher = none-higher _ _ _ _ (severe-compared buffer buffer' holds holds') 7 refl _ 2 (in-none 2 (secondInARow (sheetIn peach)) refl) refl;
       fails = (refl, refl);
       smaller = lit< tt;
+      less-over = (refl, refl);
     }
 
 -- ---- and once more the first half

@@ -1,4 +1,4 @@
--- Demand 3's second half, as recorded: no higher CuSum and no new failure up to two failures in a row; without these no lower grade.
+-- Demand 3's second half, as recorded: no higher CuSum, no larger overshoot and no new failure up to two failures in a row; without these no lower grade.
 -- From the same laws over records: the second sheet is told with the plan and the number of records of the first.
 use Prim.Native.Nat.{ℕ, _≤_, _<_}
 use mathlib.Core.Path.{_≡_, refl, sym, _∙_, subst⁻¹}
@@ -8,7 +8,7 @@ use native.Mathlib.Omega.{arith}
 use lib.Dec.{leb}
 use borrow.Author.Tests.{leb-true, leb-false}
 use Rattle.units.specs.Words.{tableOf, countsOf}
-use Rattle.units.specs.Unit.{classCusum}
+use Rattle.units.specs.Unit.{classCusum, classOvershoot}
 use Rattle.rules.specs.Sheet.{Sheet, before, inForceAt, portionGrade, codeGrade}
 use Rattle.rules.specs.Anchor.{classFailsAt}
 use Rattle.rules.specs.TwoInARow.{secondInARow}
@@ -26,7 +26,7 @@ use Rattle.tally.specs.Outcome.{recordsIn}
 use Rattle.tally.specs.Accepted.{sheetIn, UnitAt}
 use Rattle.demands.specs.Demand3.{FewerDefects, NoHigherAt, NoLowerAt, Demand3FewerDefects}
 use Rattle.tally.proofs.AcceptedSheet.{accepted-sheet}
-use Rattle.demands.proofs.Recorded.{recorded-cusum, recorded-portion, recorded-code-grade}
+use Rattle.demands.proofs.Recorded.{recorded-cusum, recorded-overshoot, recorded-portion, recorded-code-grade}
 use Rattle.demands.proofs.AlikeSheets.{same-plans, same-marks, same-records, fellows-below, no-redesignations}
 
 -- behind the last record no unit fails
@@ -79,16 +79,20 @@ module _ (bytes bytes' buffer buffer' : List ℕ) (answer answer' : Answer) (res
     abbrev unit' : SampleUnit
     unit' = sampleUnitAt bytes' (offset bytes' i)
 
-    -- CuSums and failures, over records
+    -- CuSums, overshoots and failures, over records
     compared : ((j : ℕ) → j < i → secondInARow (sheetIn bytes') j ≡ false) → (class : ℕ)
         → (classCusum (sheetIn bytes .table) (inForceAt (sheetIn bytes) i) (before (sheetIn bytes) i .cusums) (countsOf unit) class
         ≤ classCusum (sheetIn bytes' .table) (inForceAt (sheetIn bytes') i) (before (sheetIn bytes') i .cusums) (countsOf unit') class)
+        × (classOvershoot (sheetIn bytes .table) (inForceAt (sheetIn bytes) i) (before (sheetIn bytes) i .cusums) (countsOf unit) class
+        ≤ classOvershoot (sheetIn bytes' .table) (inForceAt (sheetIn bytes') i) (before (sheetIn bytes') i .cusums) (countsOf unit') class)
         × (classFailsAt (sheetIn bytes) class i ≡ true → classFailsAt (sheetIn bytes') class i ≡ true)
     unfolding sheetIn sheetOf
     compared =
         subst⁻¹ (λ (s : Sheet). ((j : ℕ) → j < i → secondInARow s j ≡ false) → (class : ℕ)
         → (classCusum (sheetIn bytes .table) (inForceAt (sheetIn bytes) i) (before (sheetIn bytes) i .cusums) (countsOf unit) class
         ≤ classCusum (s .table) (inForceAt s i) (before s i .cusums) (countsOf unit') class)
+        × (classOvershoot (sheetIn bytes .table) (inForceAt (sheetIn bytes) i) (before (sheetIn bytes) i .cusums) (countsOf unit) class
+        ≤ classOvershoot (s .table) (inForceAt s i) (before s i .cusums) (countsOf unit') class)
         × (classFailsAt (sheetIn bytes) class i ≡ true → classFailsAt s class i ≡ true)) is-fellow
         (fewer-cusums (tableOf (planOf bytes)) (planOf bytes .designated) (entryAt bytes) (entryAt bytes') (recordsIn bytes) fellows none i unit unit'
         (entry-unit bytes i (at .is-unit)) (entry-unit bytes' i (unit-fellow i at .is-unit)))
@@ -103,7 +107,14 @@ module _ (bytes bytes' buffer buffer' : List ℕ) (answer answer' : Answer) (res
                 recorded-cusum bytes buffer answer results (pair .first) i at class in-range,
                 recorded-cusum bytes' buffer' answer' results' (pair .second) i (unit-fellow i at) class in-range,
               );
-          failures = λ class in-range. compared never class .1;
+          overshoots = λ class in-range.
+              omega (
+                arith,
+                compared never class .1,
+                recorded-overshoot bytes buffer answer results (pair .first) i at class in-range,
+                recorded-overshoot bytes' buffer' answer' results' (pair .second) i (unit-fellow i at) class in-range,
+              );
+          failures = λ class in-range. compared never class .2;
         }
 
     -- grades, over records

@@ -2,7 +2,7 @@
 -- course that agrees up to a record has the same failures, qualifying units and restarts there, and so agrees behind it.
 use Prim.Native.Nat.{ℕ, zero, suc, _+_, _<_, _≤_}
 use mathlib.Core.Path.{_≡_, refl, sym, _∙_, ap, ap₂, subst, subst⁻¹}
-use mathlib.Core.Bool.{Bool, true, false, true≢false}
+use mathlib.Core.Bool.{Bool, true, false, _&&_, true≢false}
 use mathlib.Core.List.{List}
 use mathlib.Core.Logic.{_⊎_, inl, inr, ⊎-elim}
 use native.Mathlib.Nat.{eq-or-lt-of-le}
@@ -14,7 +14,8 @@ use Rattle.units.specs.Words.{substandard, classes, worse}
 use Rattle.tally.specs.Accepted.{UnitAt}
 use Rattle.answers.specs.Tells.{Tells}
 use Rattle.answers.specs.Grounds.{startIn, toleranceIn, limitIn, IsBreak, IsRedesignation}
-use Rattle.demands.specs.Course.{Course, tenTimes, ClassFails, UnitFails, FailsDesignated, SecondFails, Qualifies, ThirdQualifies, KeepsStepThree, Restart, at-break, step-three-begins, step-three-ends, at-redesignation, BestLowerGrade, Rules, SameBefore, SameAt}
+use Rattle.demands.specs.Course.{Course, tenTimes, reached, toleranceAt, limitAt, ClassFails, UnitFails, FailsDesignated, SecondFails, Qualifies, ThirdQualifies, KeepsStepThree, Restart, at-break, step-three-begins, step-three-ends, at-redesignation, BestLowerGrade, Rules, SameBefore, SameAt}
+use Rattle.answers.proofs.Tells.{tells-lt, tells-as, tells-and}
 use Rattle.answers.proofs.Rows.{one-designated}
 
 -- a test settles what it tells
@@ -97,6 +98,32 @@ module _ (bytes : List ℕ) (course other : Course) (rules : Rules bytes course)
         go false e =
             let none : course .planGrade i ≡ substandard = omega (arith, ltb-false (course .planGrade i) substandard e, bounded) in
             rules .rule-two i class at known .no-plan none ∙ sym (others .rule-two i class at known .no-plan (sym (same .plan-grade) ∙ none))
+
+    class-from : (class : ℕ) → class < length classes → ClassFails bytes other i class → ClassFails bytes course i class
+    class-from class known here =
+        let planned : course .planGrade i < substandard = omega (arith, same .plan-grade, here .planned) in
+        record {
+          planned = planned;
+          above = omega (arith, tolerance-same class, limit-same class, same .cusums planned class known, here .above);
+        }
+
+    overshoot-same : (class : ℕ) → UnitAt bytes i → class < length classes → course .overshoot i class ≡ other .overshoot i class
+    overshoot-same class at known = go (settled tells)
+      where
+        tells : Tells (ltb (course .planGrade i) substandard
+            && ltb (toleranceAt bytes course i class + limitAt bytes course i class) (reached bytes course i class)) (ClassFails bytes course i class)
+        tells =
+            tells-as (λ (planned, above). record { planned = planned; above = above }) (λ here. (here .planned, here .above))
+            (tells-and (tells-lt _ _) (tells-lt _ _))
+
+        go : ClassFails bytes course i class ⊎ (ClassFails bytes course i class → ⊥) → course .overshoot i class ≡ other .overshoot i class
+        go (inl fails) =
+            let one = rules .rule-two i class at known .over fails in
+            let two = others .rule-two i class at known .over (class-to class known fails) in
+            omega (arith, one, two, tolerance-same class, limit-same class, same .cusums (fails .planned) class known)
+        go (inr none) =
+            rules .rule-two i class at known .not-over none
+            ∙ sym (others .rule-two i class at known .not-over (λ here. none (class-from class known here)))
 
     qualifies-to : Qualifies bytes course i → Qualifies bytes other i
     qualifies-to here =
@@ -329,6 +356,7 @@ module _ (bytes : List ℕ) (size : ℕ) (course other : Course) (rules : Rules 
         plan-grade = same .plan-grade;
         old-cusums = same .cusums;
         new-cusums = λ class known. new-same bytes course other rules others i same (bounded i) class at known;
+        overshoots = λ class known. overshoot-same bytes course other rules others i same (bounded i) class at known;
         defect-grade = defect-same i same at;
       }
 

@@ -1,14 +1,18 @@
--- What the result buffer of an accepted sheet records of a unit: code, grades, standing, plan grade and CuSums of the rules; bounds.
--- From where the result record of the unit stands in the buffer; no CuSum is too large for its two bytes, by number 14.
+-- What the result buffer of an accepted sheet records of a unit: code, grades, standing, plan grade, CuSums and overshoots of the
+-- rules; bounds. From where the result record of the unit stands in the buffer. No CuSum is too large for its two bytes, by number 14;
+-- no overshoot for its four: a CuSum is never above its L, so that a class is over by no more than the unit's own defects.
 use Prim.Native.Nat.{ℕ, _*_, _≤_, _<_}
-use mathlib.Core.Path.{_≡_, _∙_, ap₂}
+use mathlib.Core.Path.{_≡_, refl, _∙_, ap₂}
+use mathlib.Core.Bool.{Bool, true, false, cond}
 use mathlib.Core.List.{List, _++_}
 use native.Mathlib.Omega.{arith}
 use lib.ListN.{length, drop}
-use Rattle.cusum.specs.Step.{largestTenths}
+use Rattle.cusum.specs.Step.{tenthsOf, largestTenths, overshoot}
+use Rattle.cusum.specs.declared.PlanNumbers.{PlanNumbers}
+use Rattle.cusum.proofs.Laws.{overshoot-le-tenths}
 use Rattle.encoding.specs.Bytes.{byte}
-use Rattle.units.specs.Words.{substandard, classes, tenthsIn, countsOf}
-use Rattle.units.specs.Unit.{classCusum}
+use Rattle.units.specs.Words.{substandard, hasPlan, classes, numbersOf, tenthsIn, countsOf, countIn}
+use Rattle.units.specs.Unit.{classCusum, classOvershoot}
 use Rattle.units.specs.Records.{unitsAmong}
 use Rattle.units.specs.declared.SampleUnit.{SampleUnit}
 use Rattle.units.specs.declared.Entry.{Entry}
@@ -16,19 +20,20 @@ use Rattle.units.specs.declared.Entry.the-variants.{UnitRecord}
 use Rattle.units.proofs.Bounds.{class-cusum-le}
 use Rattle.rules.specs.Sheet.{before, inForceAt, gradedAt, portionGrade, standing, codeGrade}
 use Rattle.rules.proofs.Grades.{code-grade-at-most}
+use Rattle.rules.proofs.LargestForm.{within-limit}
 use Rattle.layout.specs.Layout.{sampleUnitAt, offset, unitsBefore}
 use Rattle.layout.proofs.Units.{entry-unit, units-among}
-use Rattle.sheet.proofs.Ranges.{designated-le, prerequisite-le}
-use Rattle.results.specs.Record.{resultSize, markIn, codeIn, portionGradeIn, codeGradeIn, planGradeIn, standingIn, cusumIn}
+use Rattle.sheet.proofs.Ranges.{designated-le, start-le-limit, prerequisite-le, count-le}
+use Rattle.results.specs.Record.{resultSize, markIn, codeIn, portionGradeIn, codeGradeIn, planGradeIn, standingIn, cusumIn, overshootIn}
 use Rattle.results.specs.declared.ResultRecord.{ResultRecord}
-use Rattle.results.proofs.Written.{mark-written, portion-written, code-grade-written, plan-written, standing-written, code-written, cusum-written}
+use Rattle.results.proofs.Written.{mark-written, portion-written, code-grade-written, plan-written, standing-written, code-written, cusum-written, overshoot-written}
 use Rattle.recording.specs.Sheet.{sheetOf, resultWith, resultOf}
 use Rattle.tally.specs.declared.Answer.{Answer}
 use Rattle.tally.specs.Outcome.{resultsOf, recordsIn}
-use Rattle.tally.specs.Accepted.{AcceptedAs, sheetIn, UnitAt, recordedCusum, recordedPortionGrade, recordedCodeGrade, numbersInForce}
+use Rattle.tally.specs.Accepted.{AcceptedAs, sheetIn, UnitAt, recordedCusum, recordedOvershoot, recordedPortionGrade, recordedCodeGrade, numbersInForce}
 use Rattle.tally.proofs.AcceptedSheet.{AcceptedSheet, accepted-sheet}
 use Rattle.tally.proofs.Entries.{code-fits, new-grades, portion-le}
-use Rattle.tally.proofs.Overfull.{cusum-graded, cusum-fits}
+use Rattle.tally.proofs.Overfull.{cusum-graded, overshoot-graded, cusum-fits}
 
 module _ (bytes buffer : List ℕ) (answer : Answer) (results : List ℕ) (accepted : AcceptedAs bytes buffer answer results) where
   sheet-accepted : AcceptedSheet bytes buffer answer results
@@ -109,6 +114,37 @@ module _ (bytes buffer : List ℕ) (answer : Answer) (results : List ℕ) (accep
         read-there (λ (l : List ℕ) (j : ℕ). cusumIn l j class)
         ∙ cusum-written recording grades entries size behind i inside-here unit unit-here class inside (omega arith)
         ∙ cusum-graded (sheetIn bytes) i unit class inside
+
+    -- an overshoot is at most the unit's own defects
+    pub overshoot-at-most : (class : ℕ) → class < length classes
+        → classOvershoot (sheetIn bytes .table) (inForceAt (sheetIn bytes) i) (before (sheetIn bytes) i .cusums) (countsOf (sampleUnitAt bytes (offset bytes i))) class
+        ≤ tenthsOf (countIn (countsOf (sampleUnitAt bytes (offset bytes i))) class)
+    unfolding classOvershoot sheetIn sheetOf
+    overshoot-at-most class inside = go (hasPlan (inForceAt (sheetIn bytes) i)) refl
+      where
+        numbers : PlanNumbers
+        numbers = numbersOf (sheetIn bytes .table) (inForceAt (sheetIn bytes) i) class
+
+        go : (planned : Bool) → hasPlan (inForceAt (sheetIn bytes) i) ≡ planned
+            → cond planned (overshoot numbers (tenthsIn (before (sheetIn bytes) i .cusums) class) (countIn (countsOf unit) class)) 0
+            ≤ tenthsOf (countIn (countsOf unit) class)
+        go true planned =
+            overshoot-le-tenths numbers (tenthsIn (before (sheetIn bytes) i .cusums) class) (countIn (countsOf unit) class)
+            (within-limit (sheetIn bytes) class inside i planned
+            (start-le-limit bytes (recordsIn bytes) (sheet-accepted .facts) (inForceAt (sheetIn bytes) i) class))
+        go false none = omega arith
+
+    pub recorded-overshoot : (class : ℕ) → class < length classes
+        → recordedOvershoot bytes results i class
+        ≡ classOvershoot (sheetIn bytes .table) (inForceAt (sheetIn bytes) i) (before (sheetIn bytes) i .cusums) (countsOf (sampleUnitAt bytes (offset bytes i))) class
+    unfolding resultOf resultWith
+    recorded-overshoot class inside =
+        let is = overshoot-graded (sheetIn bytes) i unit class inside in
+        let most = overshoot-at-most class inside in
+        let counts = count-le bytes (recordsIn bytes) (sheet-accepted .facts) i (at .is-unit) class in
+        read-there (λ (l : List ℕ) (j : ℕ). overshootIn l j class)
+        ∙ overshoot-written recording grades entries size behind i inside-here unit unit-here class inside (omega (arith, is, most, counts))
+        ∙ is
 
     -- ---- bounds
 

@@ -12,13 +12,14 @@ use Rattle.tally.specs.Accepted.{UnitAt}
 use Rattle.answers.specs.Grounds.{startIn, toleranceIn, limitIn, IsRedesignation, IsBreak, newGrade, DesignatedJustBefore}
 
 -- before record i: whether step 3 stands, the designated grade, the grade of the plan in force (3 if none), the CuSum of each class.
--- Of the unit that is record i: its CuSums and its defect grade. CuSums are tenths
+-- Of the unit that is record i: its CuSums, its overshoots and its defect grade. CuSums and overshoots are tenths
 pub record Course : Type 0 where
   pub inStepThree : ℕ → Bool
   pub designated : ℕ → ℕ
   pub planGrade : ℕ → ℕ
   pub cusum : ℕ → ℕ → ℕ
   pub newCusum : ℕ → ℕ → ℕ
+  pub overshoot : ℕ → ℕ → ℕ
   pub defectGrade : ℕ → ℕ
 
 -- ---- a unit's counts
@@ -132,13 +133,16 @@ module _ (bytes : List ℕ) (course : Course) where
   -- ---- grading a unit, in a class
 
   -- rule 2. With a plan in force: a raw value above L fails, and the CuSum becomes L; below zero it becomes 0; otherwise it is the raw
-  -- value. Without one it is zero
+  -- value. Without one it is zero. The overshoot is raw value less L where the class fails, and zero where it does not: no class fails
+  -- where there is no plan
   pub record RuleTwo (i class : ℕ) : Type 0 where
     pub fails : ClassFails i class → course .newCusum i class ≡ limitAt i class
     pub below : course .planGrade i < substandard → reached i class < toleranceAt i class → course .newCusum i class ≡ 0
     pub between : course .planGrade i < substandard → toleranceAt i class ≤ reached i class
         → reached i class ≤ toleranceAt i class + limitAt i class → course .newCusum i class + toleranceAt i class ≡ reached i class
     pub no-plan : course .planGrade i ≡ substandard → course .newCusum i class ≡ 0
+    pub over : ClassFails i class → course .overshoot i class + (toleranceAt i class + limitAt i class) ≡ reached i class
+    pub not-over : (ClassFails i class → ⊥) → course .overshoot i class ≡ 0
 
   -- a grade is the best that is lower than that of the plan in force and admits the counts; it is Substandard exactly if none does
   pub record BestLowerGrade (i grade : ℕ) : Type 0 where
@@ -200,4 +204,5 @@ pub record SameAt (course other : Course) (i : ℕ) : Type 0 where
   pub plan-grade : course .planGrade i ≡ other .planGrade i
   pub old-cusums : course .planGrade i < substandard → (class : ℕ) → class < length classes → course .cusum i class ≡ other .cusum i class
   pub new-cusums : (class : ℕ) → class < length classes → course .newCusum i class ≡ other .newCusum i class
+  pub overshoots : (class : ℕ) → class < length classes → course .overshoot i class ≡ other .overshoot i class
   pub defect-grade : course .defectGrade i ≡ other .defectGrade i

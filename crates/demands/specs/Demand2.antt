@@ -1,5 +1,5 @@
--- Demand 2: an accepted sheet gets, unit by unit, exactly the CuSums, portion grades, recoveries and code grades of the rules. (No
--- sheet is refused unless a listed ground applies: `Demand2Grounds` in `Grounds`.)
+-- Demand 2: an accepted sheet gets, unit by unit, exactly the CuSums, overshoots, portion grades, recoveries and code grades of the
+-- rules. (No sheet is refused unless a listed ground applies: `Demand2Grounds` in `Grounds`.)
 use Prim.Native.Nat.{ℕ, suc, _+_, _<_, _≤_}
 use mathlib.Core.Path.{_≡_}
 use mathlib.Core.Bool.{true, false}
@@ -16,10 +16,10 @@ use Rattle.layout.specs.declared.Mark.the-variants.{RedesignationMark}
 use Rattle.results.specs.Record.{markIn, codeIn, planGradeIn, standingIn}
 use Rattle.tally.specs.declared.Answer.{Answer}
 use Rattle.tally.specs.Outcome.{recordsIn}
-use Rattle.tally.specs.Accepted.{AcceptedAs, sheetIn, UnitAt, recordedCusum, recordedPortionGrade, recordedCodeGrade, numbersInForce}
+use Rattle.tally.specs.Accepted.{AcceptedAs, sheetIn, UnitAt, recordedCusum, recordedOvershoot, recordedPortionGrade, recordedCodeGrade, numbersInForce}
 use Rattle.answers.specs.Tells.{Tells}
 use Rattle.answers.specs.Grounds.{startIn, toleranceIn, limitIn, IsUnit, IsRedesignation}
-use Rattle.demands.specs.Course.{Course, classCounts, prerequisite, ClassFails, UnitFails, SecondFails, Recovered, Restart, Rules, SameBefore, SameAt}
+use Rattle.demands.specs.Course.{Course, classCounts, tenTimes, prerequisite, ClassFails, UnitFails, SecondFails, Recovered, Restart, Rules, SameBefore, SameAt}
 
 -- ---- what is recorded of a unit
 
@@ -46,6 +46,11 @@ pub record UnitRecorded (bytes results : List ℕ) (course : Course) (i : ℕ) :
   pub code : ((place : ℕ) → byte bytes place < 256) → recordedCode bytes results i ≡ codeOf bytes i
   pub plan-grade : recordedPlanGrade bytes results i ≡ course .planGrade i
   pub cusums : (class : ℕ) → class < length classes → recordedCusum bytes results i class ≡ course .newCusum i class
+  pub overshoots : (class : ℕ) → class < length classes → recordedOvershoot bytes results i class ≡ course .overshoot i class
+  -- a class fails exactly if its overshoot is above zero
+  pub overshoot-tells : (class : ℕ) → class < length classes → ClassFails bytes course i class ↔ (0 < recordedOvershoot bytes results i class)
+  -- and is over by no more than the unit's own defects
+  pub overshoot-at-most : (class : ℕ) → class < length classes → recordedOvershoot bytes results i class ≤ tenTimes bytes i class
   -- rule 4: the portion grade is the worse of defect grade and prerequisite grade; of a recovered portion the worse of designated grade
   -- and prerequisite grade
   pub portion : (Recovered bytes course i → ⊥) → recordedPortionGrade bytes results i ≡ worse (course .defectGrade i) (prerequisite bytes i)

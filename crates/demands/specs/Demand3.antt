@@ -15,7 +15,7 @@ use Rattle.layout.specs.Layout.{countsOffset, countOffset, kinds, prerequisiteO
 use Rattle.layout.specs.declared.Mark.the-variants.{RedesignationMark}
 use Rattle.tally.specs.declared.Answer.{Answer}
 use Rattle.tally.specs.Outcome.{recordsIn}
-use Rattle.tally.specs.Accepted.{AcceptedAs, sheetIn, UnitAt, recordedCusum, recordedPortionGrade, recordedCodeGrade, numbersInForce}
+use Rattle.tally.specs.Accepted.{AcceptedAs, sheetIn, UnitAt, recordedCusum, recordedOvershoot, recordedPortionGrade, recordedCodeGrade, numbersInForce}
 
 -- ---- the first half
 
@@ -71,9 +71,11 @@ pub record FewerDefects (bytes bytes' buffer buffer' : List ℕ) (answer answer'
       → number bytes (offset bytes i + countOffset kind) ≤ number bytes' (offset bytes i + countOffset kind)
   pub no-redesignation : (i : ℕ) → i < recordsIn bytes → mark bytes i ≡ RedesignationMark → ⊥
 
--- at the unit that is record i no CuSum in the first is higher, and no class fails that does not fail in the second
+-- at the unit that is record i no CuSum in the first is higher, no overshoot is larger, and no class fails that does not fail in the
+-- second
 pub record NoHigherAt (bytes bytes' results results' : List ℕ) (i : ℕ) : Type 0 where
   pub cusums : (class : ℕ) → class < length classes → recordedCusum bytes results i class ≤ recordedCusum bytes' results' i class
+  pub overshoots : (class : ℕ) → class < length classes → recordedOvershoot bytes results i class ≤ recordedOvershoot bytes' results' i class
   pub failures : (class : ℕ) → class < length classes → classFailsAt (sheetIn bytes) class i ≡ true → classFailsAt (sheetIn bytes') class i ≡ true
 
 -- no portion or code of the first grades lower than its fellow; lower means a larger grade code

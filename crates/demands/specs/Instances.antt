@@ -4,6 +4,7 @@ use Prim.Native.Nat.{ℕ, suc, _+_, _*_, _<_, _≤_}
 use mathlib.Core.Path.{_≡_}
 use mathlib.Core.Bool.{Bool, true, false}
 use mathlib.Core.List.{List, [], _∷_, _++_}
+use mathlib.Core.Logic.{_↔_}
 use lib.ListN.{length, drop}
 use lib.IntN.{pos}
 use Rattle.cusum.specs.LargestForm.{largestForm}
@@ -11,10 +12,10 @@ use Rattle.units.specs.Words.{substandard, classes, worse}
 use Rattle.rules.specs.TwoInARow.{secondInARow}
 use Rattle.rules.specs.Anchor.{classFailsAt, countsFrom, Anchor, Latest, anchorValue}
 use Rattle.results.specs.Record.{resultSize}
-use Rattle.tally.specs.Accepted.{sheetIn, recordedCusum, recordedPortionGrade, recordedCodeGrade, numbersInForce}
+use Rattle.tally.specs.Accepted.{sheetIn, recordedCusum, recordedOvershoot, recordedPortionGrade, recordedCodeGrade, numbersInForce}
 use Rattle.answers.specs.Grounds.{toleranceIn, limitIn}
 use Rattle.answers.specs.AnswerInstances.{AnswerInstances}
-use Rattle.demands.specs.Course.{Course, tenTimes, prerequisite, UnitFails, Recovered, Rules}
+use Rattle.demands.specs.Course.{Course, tenTimes, prerequisite, ClassFails, UnitFails, Recovered, Rules}
 use Rattle.demands.specs.Demand2.{recordedMark, recordedCode, recordedPlanGrade, recordedStanding, codeOf}
 use Rattle.demands.specs.Demand3.{AnchorAt}
 use Rattle.computed.specs.WorkedCases.{peach, peachResults}
@@ -86,19 +87,31 @@ pub record UnitInstance (bytes results : List ℕ) (course : Course) (i : ℕ) (
   pub code : recordedCode bytes results i ≡ codeOf bytes i
   pub plan-grade : recordedPlanGrade bytes results i ≡ course .planGrade i
   pub cusums : (class : ℕ) → class < length classes → recordedCusum bytes results i class ≡ course .newCusum i class
+  pub overshoots : (class : ℕ) → class < length classes → recordedOvershoot bytes results i class ≡ course .overshoot i class
   pub standing : recordedStanding bytes results i ≡ standingByte given
   pub standing-says : StandingSays bytes course i given
   pub portion : recordedPortionGrade bytes results i ≡ worse (gradeBy course i given) (prerequisite bytes i)
-  -- rule 2 in every class: above T+L the new CuSum is L, below T it is zero, between it is the raw value
+  -- rule 2 in every class: above T+L the new CuSum is L and the overshoot what is above, below T the CuSum is zero, between it is the
+  -- raw value
   pub above : (class : ℕ) → class < length classes → course .planGrade i < substandard
       → toleranceIn bytes (course .planGrade i) class + limitIn bytes (course .planGrade i) class < course .cusum i class + tenTimes bytes i class
-      → course .newCusum i class ≡ limitIn bytes (course .planGrade i) class
+      → (course .newCusum i class ≡ limitIn bytes (course .planGrade i) class)
+      × (course .overshoot i class + (toleranceIn bytes (course .planGrade i) class + limitIn bytes (course .planGrade i) class)
+      ≡ course .cusum i class + tenTimes bytes i class)
   pub below : (class : ℕ) → class < length classes → course .planGrade i < substandard
       → course .cusum i class + tenTimes bytes i class < toleranceIn bytes (course .planGrade i) class → course .newCusum i class ≡ 0
   pub between : (class : ℕ) → class < length classes → course .planGrade i < substandard
       → toleranceIn bytes (course .planGrade i) class ≤ course .cusum i class + tenTimes bytes i class
       → course .cusum i class + tenTimes bytes i class ≤ toleranceIn bytes (course .planGrade i) class + limitIn bytes (course .planGrade i) class
       → course .newCusum i class + toleranceIn bytes (course .planGrade i) class ≡ course .cusum i class + tenTimes bytes i class
+  -- not above T+L nothing is over; without a plan CuSum and overshoot are zero
+  pub not-above : (class : ℕ) → class < length classes
+      → course .cusum i class + tenTimes bytes i class ≤ toleranceIn bytes (course .planGrade i) class + limitIn bytes (course .planGrade i) class
+      → course .overshoot i class ≡ 0
+  pub without-plan : (class : ℕ) → class < length classes → course .planGrade i ≡ substandard → (course .newCusum i class ≡ 0) × (course .overshoot i class ≡ 0)
+  -- a class fails exactly if its recorded overshoot is above zero, and is over by no more than the unit's own defects
+  pub overshoot-tells : (class : ℕ) → class < length classes → ClassFails bytes course i class ↔ (0 < recordedOvershoot bytes results i class)
+  pub overshoot-at-most : (class : ℕ) → class < length classes → recordedOvershoot bytes results i class ≤ tenTimes bytes i class
 
 -- an accepted sheet with the buffer as it is left: a course by the rules, which is what is recorded of each of its units
 pub record CourseInstance (bytes results : List ℕ) (standings : List (ℕ × Standing)) : Type 0 where
@@ -133,9 +146,12 @@ pub record LargestNumber (bytes results : List ℕ) (i class from : ℕ) (at-fai
   pub largest : largestForm (numbersInForce bytes i class) (anchorValue (numbersInForce bytes i class) at-failure) counts ≡ pos tenths
   pub recorded : recordedCusum bytes results i class ≡ tenths
 
--- two sheets alike except that the first has a defect fewer, at these units: no CuSum is higher, in any class, and no class fails anew
+-- two sheets alike except that the first has a defect fewer, at these units: no CuSum is higher and no overshoot larger, in any class,
+-- and no class fails anew
 pub record NoHigherInstance (bytes bytes' results results' : List ℕ) (units : List ℕ) : Type 0 where
   pub cusums : Each units (λ i. (class : ℕ) → class < length classes → recordedCusum bytes results i class ≤ recordedCusum bytes' results' i class)
+  pub overshoots : Each units (λ i. (class : ℕ) → class < length classes
+      → recordedOvershoot bytes results i class ≤ recordedOvershoot bytes' results' i class)
   pub failures : Each units (λ i. (class : ℕ) → class < length classes
       → classFailsAt (sheetIn bytes) class i ≡ true → classFailsAt (sheetIn bytes') class i ≡ true)
 
@@ -163,6 +179,9 @@ pub record FewerTwiceInstance (buffer buffer' : List ℕ) : Type 0 where
   -- both fail in total at records 1 and 2; at record 1 the first has the smaller CuSum in severe
   pub fails : (classFailsAt (sheetIn oneSevereDefectFewer) 3 1 ≡ true) × (classFailsAt (sheetIn oneSevereDefectFewer) 3 2 ≡ true)
   pub smaller : recordedCusum oneSevereDefectFewer (left oneSevereDefectFewerResults 7 buffer) 1 1 < recordedCusum peach (peachLeft buffer') 1 1
+  -- and there it is over by 3.0 in total, the peach sheet by 4.0
+  pub less-over : (recordedOvershoot oneSevereDefectFewer (left oneSevereDefectFewerResults 7 buffer) 1 3 ≡ 30)
+      × (recordedOvershoot peach (peachLeft buffer') 1 3 ≡ 40)
 
 -- ---- together
 

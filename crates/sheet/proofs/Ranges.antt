@@ -1,8 +1,9 @@
--- The ranges of an accepted sheet: L, designated and prerequisite grades, the number of units.
+-- The ranges of an accepted sheet: S and L, designated and prerequisite grades, counts, the number of units.
 -- From the grounds that are not met, one by one; the number of units by induction on the records.
 use Prim.Native.Nat.{ℕ, zero, suc, _+_, _*_, _≤_, _<_}
 use mathlib.Core.Path.{_≡_, _∙_, subst}
 use mathlib.Core.Logic.{⊎-elim}
+use mathlib.Core.Bool.{false}
 use mathlib.Core.List.{List}
 use native.Mathlib.Omega.{arith}
 use lib.Dec.{ltb, lit<}
@@ -10,7 +11,7 @@ use lib.ListN.{length}
 use borrow.Author.Tests.{ltb-false, leb-false}
 use Rattle.cusum.specs.declared.PlanNumbers.{PlanNumbers}
 use Rattle.encoding.specs.Bytes.{byte}
-use Rattle.units.specs.Words.{substandard, classes, cellOf, numbersOf, tableOf}
+use Rattle.units.specs.Words.{substandard, classes, cellOf, numbersOf, tableOf, countsOf, countIn}
 use Rattle.units.specs.declared.Plan.{Plan}
 use Rattle.units.specs.declared.SampleUnit.{SampleUnit}
 use Rattle.units.specs.declared.Entry.the-variants.{UnitRecord, Redesignation}
@@ -19,8 +20,9 @@ use Rattle.layout.specs.declared.Mark.{Mark}
 use Rattle.layout.specs.declared.Mark.the-variants.{UnitMark, RedesignationMark}
 use Rattle.layout.proofs.Offsets.{inside-unit, inside-redesignation}
 use Rattle.layout.proofs.Units.{unit-or-not, entry-unit, unit-mark, redesignation-mark, next-units, same-units}
-use Rattle.sheet.specs.Refusals.{largestPlanNumber, mostUnits, tooLarge, anyNumbers, tableRefusal, planRefusal, unitRefusal, redesignationRefusal, refusalBy, designatedBefore, recordRefusal}
+use Rattle.sheet.specs.Refusals.{largestPlanNumber, largestCount, mostUnits, tooLarge, startAboveLimit, anyNumbers, tableRefusal, planRefusal, countTooLarge, unitRefusal, redesignationRefusal, refusalBy, designatedBefore, recordRefusal}
 use Rattle.units.proofs.Lists.{in-none}
+use Rattle.units.proofs.Bounds.{count-le-all}
 use Rattle.units.proofs.Classes.{every-numbers}
 use Rattle.units.proofs.Tests.{or-first, or-second}
 use Rattle.sheet.proofs.Grounds.{ground-passed, refusal-by-mark}
@@ -28,22 +30,49 @@ use Rattle.sheet.proofs.Accepted.{Facts}
 
 -- ---- the grounds
 
-cell-passed : (plan : Plan) → tableRefusal plan ≡ 0 → (cell : ℕ) → cell < tableSize → cellOf plan cell .limit ≤ largestPlanNumber
-unfolding tableRefusal anyNumbers tooLarge
+cell-passed : (plan : Plan) → tableRefusal plan ≡ 0 → (cell : ℕ) → cell < tableSize
+    → (cellOf plan cell .limit ≤ largestPlanNumber) × (cellOf plan cell .start ≤ cellOf plan cell .limit)
+unfolding tableRefusal anyNumbers tooLarge startAboveLimit
 cell-passed plan e cell h =
     let (large, rest) = ground-passed (anyNumbers tooLarge plan) 3 _ (lit< tt) e in
-    let small = or-second (ltb largestPlanNumber (cellOf plan cell .start)) _ (in-none tableSize _ large cell h) in
-    ltb-false largestPlanNumber (cellOf plan cell .limit) (or-second (ltb largestPlanNumber (cellOf plan cell .tolerance)) _ small)
+    let (above, rest2) = ground-passed (anyNumbers startAboveLimit plan) 4 _ (lit< tt) rest in
+    let small = or-second (ltb largestPlanNumber (cellOf plan cell .start)) _ (in-none tableSize _ large cell h) in (
+      ltb-false largestPlanNumber (cellOf plan cell .limit) (or-second (ltb largestPlanNumber (cellOf plan cell .tolerance)) _ small),
+      ltb-false (cellOf plan cell .limit) (cellOf plan cell .start) (in-none tableSize _ above cell h),
+    )
+
+-- no count is too large
+pub record CountsFit (unit : SampleUnit) : Type 0 where
+  pub critical : unit .critical ≤ largestCount
+  pub severe : unit .severe ≤ largestCount
+  pub major : unit .major ≤ largestCount
+  pub minor : unit .minor ≤ largestCount
+
+counts-passed : (unit : SampleUnit) → countTooLarge unit ≡ false → CountsFit unit
+unfolding countTooLarge
+counts-passed unit e =
+    let behind-critical = or-second (ltb largestCount (unit .critical)) _ e in
+    let behind-severe = or-second (ltb largestCount (unit .severe)) _ behind-critical in
+    record {
+      critical = ltb-false largestCount (unit .critical) (or-first _ _ e);
+      severe = ltb-false largestCount (unit .severe) (or-first _ _ behind-critical);
+      major = ltb-false largestCount (unit .major) (or-first _ _ behind-severe);
+      minor = ltb-false largestCount (unit .minor) (or-second (ltb largestCount (unit .major)) _ behind-severe);
+    }
 
 unit-passed : (bytes : List ℕ) (at units : ℕ) → unitRefusal bytes at units ≡ 0
-    → (units < mostUnits) × (sampleUnitAt bytes at .prerequisite ≤ substandard)
+    → (units < mostUnits) × (sampleUnitAt bytes at .prerequisite ≤ substandard) × CountsFit (sampleUnitAt bytes at)
 unfolding unitRefusal sampleUnitAt
 unit-passed bytes at units e =
     let (whole, rest) = ground-passed _ 7 _ (lit< tt) e in
     let (few, rest2) = ground-passed _ 12 _ (lit< tt) rest in
     let (counts, rest3) = ground-passed _ 8 _ (lit< tt) rest2 in
     let (last, none) = ground-passed _ 9 _ (lit< tt) rest3 in
-    (leb-false mostUnits units few, ltb-false substandard (byte bytes (at + prerequisiteOffset)) (or-first _ _ last))
+    (
+      leb-false mostUnits units few,
+      ltb-false substandard (byte bytes (at + prerequisiteOffset)) (or-first _ _ last),
+      counts-passed (sampleUnitAt bytes at) counts,
+    )
 
 redesignation-passed : (bytes : List ℕ) (at designated : ℕ) → redesignationRefusal bytes at designated ≡ 0
     → byte bytes (at + gradeOffset) ≤ 2
@@ -68,13 +97,20 @@ module _ (bytes : List ℕ) (n : ℕ) (facts : Facts bytes n) where
   designated-le = plan-passed .0
 
   pub cell-limit-le : (cell : ℕ) → cell < tableSize → cellOf (planOf bytes) cell .limit ≤ largestPlanNumber
-  cell-limit-le = cell-passed (planOf bytes) (plan-passed .1)
+  cell-limit-le cell inside = cell-passed (planOf bytes) (plan-passed .1) cell inside .0
 
   -- for every grade and class: where there is no plan, L is zero
   pub limit-le : (grade class : ℕ) → numbersOf (tableOf (planOf bytes)) grade class .limit ≤ largestPlanNumber
   limit-le =
       every-numbers (planOf bytes) (λ (numbers : PlanNumbers). numbers .limit ≤ largestPlanNumber) (omega arith)
       (λ grade class g k. cell-limit-le (length classes * grade + class) (omega arith))
+
+  pub start-le-limit : (grade class : ℕ) →
+      let numbers = numbersOf (tableOf (planOf bytes)) grade class in
+      numbers .start ≤ numbers .limit
+  start-le-limit =
+      every-numbers (planOf bytes) (λ (numbers : PlanNumbers). numbers .start ≤ numbers .limit) (omega arith)
+      (λ grade class g k. cell-passed (planOf bytes) (plan-passed .1) (length classes * grade + class) (omega arith) .1)
 
   -- the grounds of a record with this mark, none of which is met
   passed-as : (m : Mark) (i : ℕ) → i < n → mark bytes i ≡ m
@@ -85,7 +121,7 @@ module _ (bytes : List ℕ) (n : ℕ) (facts : Facts bytes n) where
       (refusal-by-mark bytes (offset bytes i) (unitsBefore bytes i) (designatedBefore bytes i) ∙ facts .within i h .1)
 
   unit-here : (i : ℕ) → mark bytes i ≡ UnitMark
-      → (unitsBefore bytes i < mostUnits) × (sampleUnitAt bytes (offset bytes i) .prerequisite ≤ substandard)
+      → (unitsBefore bytes i < mostUnits) × (sampleUnitAt bytes (offset bytes i) .prerequisite ≤ substandard) × CountsFit (sampleUnitAt bytes (offset bytes i))
   unfolding refusalBy
   unit-here i e =
       unit-passed bytes (offset bytes i) (unitsBefore bytes i) (passed-as UnitMark i (inside-unit bytes n (facts .end) i e) e)
@@ -97,6 +133,13 @@ module _ (bytes : List ℕ) (n : ℕ) (facts : Facts bytes n) where
       let read = entry-unit bytes i is-unit in
       let same : sampleUnitAt bytes (offset bytes i) ≡ unit = cc in
       subst (λ (u : SampleUnit). u .prerequisite ≤ substandard) same (unit-here i is-unit .1)
+
+  -- the count of a class is at most that of all kinds together
+  pub count-le : (i : ℕ) → mark bytes i ≡ UnitMark → (class : ℕ) → countIn (countsOf (sampleUnitAt bytes (offset bytes i))) class ≤ 4 * largestCount
+  count-le i is-unit class =
+      let unit = sampleUnitAt bytes (offset bytes i) in
+      let fit = unit-here i is-unit .2 in
+      omega (arith, count-le-all unit class, fit .critical, fit .severe, fit .major, fit .minor)
 
   -- a redesignation names A, B or C
   pub new-grade-le : (i new : ℕ) → entryAt bytes i ≡ Redesignation new → new ≤ 2

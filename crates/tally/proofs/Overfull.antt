@@ -11,14 +11,14 @@ use lib.ListN.{length}
 use borrow.Author.Tests.{le-ltb, ltb-false}
 use Rattle.cusum.specs.Step.{largestTenths}
 use Rattle.cusum.specs.declared.Cusum.{Cusum}
-use Rattle.units.specs.Words.{classes, tenthsIn, tableOf, cellOf, countsOf}
-use Rattle.units.specs.Unit.{classCusum, newCusums}
+use Rattle.units.specs.Words.{classes, tenthsIn, overshootOfClass, tableOf, cellOf, countsOf}
+use Rattle.units.specs.Unit.{classCusum, newCusums, classOvershoot, newOvershoots}
 use Rattle.units.specs.declared.SampleUnit.{SampleUnit}
 use Rattle.units.specs.declared.Entry.{Entry}
 use Rattle.units.specs.declared.Entry.the-variants.{UnitRecord, Redesignation, Break}
 use Rattle.units.proofs.Bounds.{class-cusum-le}
 use Rattle.units.proofs.Classes.{at-class}
-use Rattle.units.proofs.Lists.{in-none, none-in}
+use Rattle.units.proofs.Lists.{map-at, in-none, none-in}
 use Rattle.units.proofs.Tests.{or-first, or-second}
 use Rattle.rules.specs.StepThree.{graded}
 use Rattle.rules.specs.Sheet.{Sheet, before, inForceAt, gradedAt}
@@ -34,6 +34,14 @@ pub cusum-graded : (sheet : Sheet) (i : ℕ) (unit : SampleUnit) (class : ℕ) �
     → tenthsIn (gradedAt sheet i unit .cusums) class ≡ classCusum (sheet .table) (inForceAt sheet i) (before sheet i .cusums) (countsOf unit) class
 unfolding graded newCusums
 cusum-graded sheet i unit class inside = at-class (classCusum (sheet .table) (inForceAt sheet i) (before sheet i .cusums) (countsOf unit)) class inside
+
+-- its overshoot
+pub overshoot-graded : (sheet : Sheet) (i : ℕ) (unit : SampleUnit) (class : ℕ) → class < length classes
+    → overshootOfClass (gradedAt sheet i unit .overshoots) class
+    ≡ classOvershoot (sheet .table) (inForceAt sheet i) (before sheet i .cusums) (countsOf unit) class
+unfolding graded newOvershoots
+overshoot-graded sheet i unit class inside =
+    map-at (length classes) (classOvershoot (sheet .table) (inForceAt sheet i) (before sheet i .cusums) (countsOf unit)) 0 class inside
 
 by-entry : (sheet : Sheet) (i : ℕ) (entry : Entry) → ((unit : SampleUnit) → anyTooLarge (gradedAt sheet i unit .cusums) ≡ false) → overfullBy sheet i entry ≡ false
 unfolding overfullBy
