@@ -11,8 +11,8 @@ ghost use Rattle.lines.specs.Wrote.{Wrote, letterFields, lineSize};
 use encoding::number_at;
 use results::CODE_GRADE_OFFSET;
 use results::CODE_OFFSET;
-use results::CUSUMS_OFFSET;
 use results::CUSUM_WIDTH;
+use results::CUSUMS_OFFSET;
 use results::PLAN_GRADE_OFFSET;
 use results::PORTION_GRADE_OFFSET;
 use results::RESULT_SIZE;
@@ -150,7 +150,12 @@ fn cusum_fields(results: &[u8], j: usize, out: &mut [u8], at: usize) -> usize
     let mut end = at;
     let mut class: usize = 0;
     while class < CLASSES {
-        end = tenths_field(results, record + (CUSUMS_OFFSET + CUSUM_WIDTH * class), out, end);
+        end = tenths_field(
+            results,
+            record + (CUSUMS_OFFSET + CUSUM_WIDTH * class),
+            out,
+            end,
+        );
         class += 1;
     }
     put(out, end, b'\n')

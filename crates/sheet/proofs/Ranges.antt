@@ -67,8 +67,7 @@ unit-passed bytes at units e =
     let (whole, rest) = ground-passed _ 7 _ (lit< tt) e in
     let (few, rest2) = ground-passed _ 12 _ (lit< tt) rest in
     let (counts, rest3) = ground-passed _ 8 _ (lit< tt) rest2 in
-    let (last, none) = ground-passed _ 9 _ (lit< tt) rest3 in
-    (
+    let (last, none) = ground-passed _ 9 _ (lit< tt) rest3 in (
       leb-false mostUnits units few,
       ltb-false substandard (byte bytes (at + prerequisiteOffset)) (or-first _ _ last),
       counts-passed (sampleUnitAt bytes at) counts,
