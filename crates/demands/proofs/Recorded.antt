@@ -2,22 +2,19 @@
 -- rules; bounds. From where the result record of the unit stands in the buffer. No CuSum is too large for its two bytes, by number 14;
 -- no overshoot for its four: a CuSum is never above its L, so that a class is over by no more than the unit's own defects.
 use Prim.Native.Nat.{ℕ, _*_, _≤_, _<_}
-use mathlib.Core.Path.{_≡_, refl, _∙_, ap₂}
-use mathlib.Core.Bool.{Bool, true, false, cond}
+use mathlib.Core.Path.{_≡_, _∙_, ap₂}
 use mathlib.Core.List.{List, _++_}
 use native.Mathlib.Omega.{arith}
 use lib.ListN.{length, drop}
-use Rattle.cusum.specs.Step.{tenthsOf, largestTenths, overshoot}
-use Rattle.cusum.specs.declared.PlanNumbers.{PlanNumbers}
-use Rattle.cusum.proofs.Laws.{overshoot-le-tenths}
+use Rattle.cusum.specs.Step.{tenthsOf, largestTenths}
 use Rattle.encoding.specs.Bytes.{byte}
-use Rattle.units.specs.Words.{substandard, hasPlan, classes, numbersOf, tenthsIn, countsOf, countIn}
+use Rattle.units.specs.Words.{substandard, classes, tenthsIn, countsOf, countIn}
 use Rattle.units.specs.Unit.{classCusum, classOvershoot}
 use Rattle.units.specs.Records.{unitsAmong}
 use Rattle.units.specs.declared.SampleUnit.{SampleUnit}
 use Rattle.units.specs.declared.Entry.{Entry}
 use Rattle.units.specs.declared.Entry.the-variants.{UnitRecord}
-use Rattle.units.proofs.Bounds.{class-cusum-le}
+use Rattle.units.proofs.Bounds.{class-cusum-le, class-overshoot-le}
 use Rattle.rules.specs.Sheet.{before, inForceAt, gradedAt, portionGrade, standing, codeGrade}
 use Rattle.rules.proofs.Grades.{code-grade-at-most}
 use Rattle.rules.proofs.LargestForm.{within-limit}
@@ -119,20 +116,11 @@ module _ (bytes buffer : List ℕ) (answer : Answer) (results : List ℕ) (accep
     pub overshoot-at-most : (class : ℕ) → class < length classes
         → classOvershoot (sheetIn bytes .table) (inForceAt (sheetIn bytes) i) (before (sheetIn bytes) i .cusums) (countsOf (sampleUnitAt bytes (offset bytes i))) class
         ≤ tenthsOf (countIn (countsOf (sampleUnitAt bytes (offset bytes i))) class)
-    unfolding classOvershoot sheetIn sheetOf
-    overshoot-at-most class inside = go (hasPlan (inForceAt (sheetIn bytes) i)) refl
-      where
-        numbers : PlanNumbers
-        numbers = numbersOf (sheetIn bytes .table) (inForceAt (sheetIn bytes) i) class
-
-        go : (planned : Bool) → hasPlan (inForceAt (sheetIn bytes) i) ≡ planned
-            → cond planned (overshoot numbers (tenthsIn (before (sheetIn bytes) i .cusums) class) (countIn (countsOf unit) class)) 0
-            ≤ tenthsOf (countIn (countsOf unit) class)
-        go true planned =
-            overshoot-le-tenths numbers (tenthsIn (before (sheetIn bytes) i .cusums) class) (countIn (countsOf unit) class)
-            (within-limit (sheetIn bytes) class inside i planned
-            (start-le-limit bytes (recordsIn bytes) (sheet-accepted .facts) (inForceAt (sheetIn bytes) i) class))
-        go false none = omega arith
+    unfolding sheetIn sheetOf
+    overshoot-at-most class inside =
+        class-overshoot-le (sheetIn bytes .table) (inForceAt (sheetIn bytes) i) (before (sheetIn bytes) i .cusums) (countsOf unit) class
+        (λ planned. within-limit (sheetIn bytes) class inside i planned
+        (start-le-limit bytes (recordsIn bytes) (sheet-accepted .facts) (inForceAt (sheetIn bytes) i) class))
 
     pub recorded-overshoot : (class : ℕ) → class < length classes
         → recordedOvershoot bytes results i class

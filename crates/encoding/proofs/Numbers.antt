@@ -1,7 +1,7 @@
 -- Bytes and numbers read back: behind other bytes as if these were not there, and the bytes of a number as that number, if they are
 -- wide enough for it. By what a list holds behind another, by induction on the width, and omega.
 use Prim.Native.Nat.{ℕ, zero, suc, _+_, _*_, _/_, _%_, _^_, _<_}
-use mathlib.Core.Path.{_≡_, refl, sym, _∙_, ap, ap₂}
+use mathlib.Core.Path.{_≡_, refl, _∙_, ap, ap₂}
 use mathlib.Core.List.{List, [], _∷_, _++_, append-assoc}
 use native.Mathlib.Nat.{add-assoc, add-zero}
 use native.Mathlib.Omega.{arith}

@@ -1,12 +1,14 @@
 -- Bounds of what one unit has and gets: a count of a class goes by those of the kinds, a CuSum is at most its L, an overshoot at most
 -- the unit's own defects, and a defect grade at most Substandard. By cases on the tests, and member by member of the counts.
 use Prim.Native.Nat.{ℕ, zero, suc, _+_, _≤_}
+use mathlib.Core.Path.{_≡_, refl}
 use mathlib.Core.Bool.{Bool, true, false, cond, _&&_}
 use mathlib.Core.List.{List, [], _∷_}
 use native.Mathlib.Omega.{arith}
 use lib.Dec.{ltb}
 use Rattle.cusum.specs.declared.Cusum.{Cusum}
-use Rattle.cusum.specs.Step.{tenthsOf}
+use Rattle.cusum.specs.declared.PlanNumbers.{PlanNumbers}
+use Rattle.cusum.specs.Step.{tenthsOf, overshoot}
 use Rattle.cusum.proofs.Laws.{new-cusum-le-limit, overshoot-le-tenths}
 use Rattle.units.specs.declared.SampleUnit.{SampleUnit}
 use Rattle.units.specs.Words.{substandard, hasPlan, Table, rowOf, numbersOf, countsOf, countIn, tenthsIn}
@@ -46,13 +48,19 @@ module _ (table : Table) (grade : ℕ) (cusums : List Cusum) (counts : List ℕ)
       choice-le (hasPlan grade) _ 0 _
       (new-cusum-le-limit (numbersOf table grade class) (tenthsIn cusums class) (countIn counts class)) (omega arith)
 
-  -- an overshoot at most ten times the count, if the CuSum before the unit is
-  pub class-overshoot-le : tenthsIn cusums class ≤ numbersOf table grade class .limit
+  -- an overshoot at most ten times the count, if the CuSum before the unit is at most L where there is a plan
+  pub class-overshoot-le : (hasPlan grade ≡ true → tenthsIn cusums class ≤ numbersOf table grade class .limit)
       → classOvershoot table grade cusums counts class ≤ tenthsOf (countIn counts class)
   unfolding classOvershoot
-  class-overshoot-le within =
-      choice-le (hasPlan grade) _ 0 _
-      (overshoot-le-tenths (numbersOf table grade class) (tenthsIn cusums class) (countIn counts class) within) (omega arith)
+  class-overshoot-le within = go (hasPlan grade) within
+    where
+      numbers : PlanNumbers
+      numbers = numbersOf table grade class
+
+      go : (planned : Bool) → (planned ≡ true → tenthsIn cusums class ≤ numbers .limit)
+          → cond planned (overshoot numbers (tenthsIn cusums class) (countIn counts class)) 0 ≤ tenthsOf (countIn counts class)
+      go true within = overshoot-le-tenths numbers (tenthsIn cusums class) (countIn counts class) (within refl)
+      go false within = omega arith
 
 best-lower-at-most : (table : Table) (grade : ℕ) (counts : List ℕ) → bestLower table grade counts ≤ substandard
 unfolding bestLower
