@@ -1,5 +1,6 @@
--- The layout in the paper's own numbers: "The tally sheet in bytes" and the overshoots, sentence by sentence, in literals. The other statements call sizes,
--- offsets and fields by the names that definitions and code use, too; a number that is wrong in both alike is refused here.
+-- The layout in the papers' own numbers: "The tally sheet in bytes" of paper 01 and A.1 of paper 02, sentence by sentence, in literals.
+-- The other statements call sizes, offsets and fields by the names that definitions and code use, too; a number that is wrong in both
+-- alike is refused here.
 use Prim.Native.Nat.{ℕ, suc, _+_, _*_}
 use mathlib.Core.Path.{_≡_}
 use mathlib.Core.List.{List}
@@ -20,7 +21,7 @@ pub record Sizes : Type 0 where
   pub redesignation : redesignationSize ≡ 3
   -- "Break in production, 42 4B, 2 bytes": its mark alone
   pub break-in-production : markSize ≡ 2
-  -- "Result, 47 52", "32 bytes"
+  -- "Result, 47 52"; "the result record grows from 16 to 32 bytes"
   pub result : resultSize ≡ 32
   -- "a table of three grades by four classes"
   pub three-grades : length plannedGrades ≡ 3

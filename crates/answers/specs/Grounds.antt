@@ -141,7 +141,7 @@ NewGradeSame bytes i = IsRedesignation bytes i × DesignatedJustBefore bytes i (
 abbrev pub FilledBy : List ℕ → ℕ → Type 0
 FilledBy bytes records = offset bytes records ≡ length bytes
 
--- 13: "shorter than 16 times the units"
+-- 13: shorter than 32 times the units ("Number 13 counts 32 bytes a unit")
 pub record BufferShort (bytes buffer : List ℕ) : Type 0 where
   pub records : ℕ
   pub filled : FilledBy bytes records

@@ -11,7 +11,7 @@ use Rattle.cusum.specs.declared.Stepped.{Stepped}
 abbrev pub tenthsOf : ℕ → ℕ
 tenthsOf count = 10 * count
 
--- the most tenths that the two bytes of a result record hold
+-- the most tenths that the two bytes of a CuSum hold in a result record
 abbrev pub largestTenths : ℕ
 largestTenths = 65535
 
@@ -33,12 +33,12 @@ unfoldable pub cusumOf : PlanNumbers → ℤ → ℕ
 cusumOf numbers (pos raw) = cond (ltb (numbers .limit) raw) (numbers .limit) raw
 cusumOf numbers (negsuc raw) = 0
 
--- overshoot: raw value less L if it is above L, and zero where the class met
+-- the overshoot: raw value less L, or zero where the class met
 unfoldable pub overshootOf : PlanNumbers → ℤ → ℕ
 overshootOf numbers (pos raw) = cond (ltb (numbers .limit) raw) (raw - numbers .limit) 0
 overshootOf numbers (negsuc raw) = 0
 
--- rule 2: whether the class fails, the new CuSum, and how far over it is
+-- rule 2: whether the class fails, the new CuSum, and the overshoot
 unfoldable pub fails : PlanNumbers → ℕ → ℕ → Bool
 fails numbers old count = aboveLimit numbers (rawValue numbers old count)
 

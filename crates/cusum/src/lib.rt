@@ -15,7 +15,7 @@ pub struct Cusum {
     pub tenths: u32,
 }
 
-// What a unit makes of a CuSum: the new one, whether the class fails, and the overshoot, how many tenths it is over L.
+// What a unit makes of a CuSum: the new one, whether the class fails, and the overshoot, by how many tenths the raw value is above L.
 pub struct Stepped {
     pub cusum: Cusum,
     pub fails: bool,
@@ -45,7 +45,7 @@ fn smaller(first: u64, second: u64) -> u64
 impl Cusum {
     pub const ZERO: Cusum = Cusum { tenths: 0 };
 
-    // The largest number of tenths that a result record's two bytes hold.
+    // The largest number of tenths that the two bytes of a CuSum hold in a result record.
     pub const LARGEST_TENTHS: u32 = 65535;
 
     // Every CuSum begins at the S of its own class and plan.
@@ -57,7 +57,7 @@ impl Cusum {
         }
     }
 
-    // Rule 2: the CuSum after a unit with this count, whether the class fails, and how far over it is.
+    // Rule 2: the CuSum after a unit with this count, whether the class fails, and the overshoot.
     pub fn step(self, numbers: PlanNumbers, count: u32) -> Stepped
         ensures { λ r. ⌜ r ≡ stepOf numbers self count ⌝ }
     {

@@ -137,9 +137,8 @@ module _ (bytes buffer : List ℕ) (answer : Answer) (results : List ℕ) (accep
               (rule class in-range .fails failed, rule class in-range .over failed);
           below = λ class in-range. rule class in-range .below;
           between = λ class in-range. rule class in-range .between;
-          not-above = λ class in-range within. rule class in-range .not-over (λ fails. omega (arith, fails .above, within));
-          without-plan = λ class in-range none.
-              (rule class in-range .no-plan none, rule class in-range .not-over (λ fails. omega (arith, fails .planned, none)));
+          not-above = λ class in-range planned within. rule class in-range .not-over (λ fails. omega (arith, fails .above, within));
+          without-plan = λ class in-range. rule class in-range .no-plan;
           overshoot-tells = unit .overshoot-tells;
           overshoot-at-most = unit .overshoot-at-most;
         }

@@ -139,9 +139,9 @@ module _ (bytes : List ℕ) (facts : Facts bytes (recordsIn bytes)) where
         fails = λ here. omega (arith, planned-cusum i class known (here .planned), here .above);
         below = λ planned small. omega (arith, planned-cusum i class known planned, small);
         between = λ planned from to. omega (arith, planned-cusum i class known planned, from, to);
-        no-plan = no-plan-cusum i class;
         over = λ here. omega (arith, planned-overshoot i class known (here .planned), here .above);
         not-over = not-over i class known;
+        no-plan = λ none. (no-plan-cusum i class none, not-over i class known (λ here. omega (arith, here .planned, none)));
       }
 
   -- ---- rule 3

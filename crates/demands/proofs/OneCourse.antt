@@ -97,7 +97,7 @@ module _ (bytes : List ℕ) (course other : Course) (rules : Rules bytes course)
         go true e = under (ltb-true (course .planGrade i) substandard e) _ refl _ refl
         go false e =
             let none : course .planGrade i ≡ substandard = omega (arith, ltb-false (course .planGrade i) substandard e, bounded) in
-            rules .rule-two i class at known .no-plan none ∙ sym (others .rule-two i class at known .no-plan (sym (same .plan-grade) ∙ none))
+            rules .rule-two i class at known .no-plan none .0 ∙ sym (others .rule-two i class at known .no-plan (sym (same .plan-grade) ∙ none) .0)
 
     class-from : (class : ℕ) → class < length classes → ClassFails bytes other i class → ClassFails bytes course i class
     class-from class known here =

@@ -133,16 +133,15 @@ module _ (bytes : List ℕ) (course : Course) where
   -- ---- grading a unit, in a class
 
   -- rule 2. With a plan in force: a raw value above L fails, and the CuSum becomes L; below zero it becomes 0; otherwise it is the raw
-  -- value. Without one it is zero. The overshoot is raw value less L where the class fails, and zero where it does not: no class fails
-  -- where there is no plan
+  -- value. The overshoot is "raw value less L, or zero where the class met". Without a plan both are zero
   pub record RuleTwo (i class : ℕ) : Type 0 where
     pub fails : ClassFails i class → course .newCusum i class ≡ limitAt i class
     pub below : course .planGrade i < substandard → reached i class < toleranceAt i class → course .newCusum i class ≡ 0
     pub between : course .planGrade i < substandard → toleranceAt i class ≤ reached i class
         → reached i class ≤ toleranceAt i class + limitAt i class → course .newCusum i class + toleranceAt i class ≡ reached i class
-    pub no-plan : course .planGrade i ≡ substandard → course .newCusum i class ≡ 0
     pub over : ClassFails i class → course .overshoot i class + (toleranceAt i class + limitAt i class) ≡ reached i class
     pub not-over : (ClassFails i class → ⊥) → course .overshoot i class ≡ 0
+    pub no-plan : course .planGrade i ≡ substandard → (course .newCusum i class ≡ 0) × (course .overshoot i class ≡ 0)
 
   -- a grade is the best that is lower than that of the plan in force and admits the counts; it is Substandard exactly if none does
   pub record BestLowerGrade (i grade : ℕ) : Type 0 where

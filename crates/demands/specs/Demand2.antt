@@ -49,7 +49,7 @@ pub record UnitRecorded (bytes results : List ℕ) (course : Course) (i : ℕ) :
   pub overshoots : (class : ℕ) → class < length classes → recordedOvershoot bytes results i class ≡ course .overshoot i class
   -- a class fails exactly if its overshoot is above zero
   pub overshoot-tells : (class : ℕ) → class < length classes → ClassFails bytes course i class ↔ (0 < recordedOvershoot bytes results i class)
-  -- and is over by no more than the unit's own defects
+  -- and no class is over by more than its own defects at this unit
   pub overshoot-at-most : (class : ℕ) → class < length classes → recordedOvershoot bytes results i class ≤ tenTimes bytes i class
   -- rule 4: the portion grade is the worse of defect grade and prerequisite grade; of a recovered portion the worse of designated grade
   -- and prerequisite grade

@@ -29,11 +29,11 @@ pub record Demands : Type 2 where
   pub demand2-grounds : Demand2Grounds
   -- number 14 never applies
   pub never-overfull : NeverOverfull
-  -- an accepted sheet gets exactly the CuSums, grades and recoveries of the rules
+  -- an accepted sheet gets exactly the CuSums, overshoots, grades and recoveries of the rules
   pub demand2-records : Demand2Records
   -- at a unit with a plan in force every recorded CuSum is the 'largest of' form from its anchor
   pub demand3-largest-form : Demand3LargestForm
-  -- fewer defects: no higher CuSum and no new failure up to the second sheet's first two failures in a row; no lower grade if it has none
+  -- fewer defects: no higher CuSum, no larger overshoot and no new failure up to the second sheet's first two failures in a row; no lower grade if it has none
   pub demand3-fewer-defects : Demand3FewerDefects
   -- P1 to P10, and the lines of P10
   pub small-sheets : SmallSheets

@@ -105,11 +105,11 @@ pub record UnitInstance (bytes results : List ℕ) (course : Course) (i : ℕ) (
       → course .cusum i class + tenTimes bytes i class ≤ toleranceIn bytes (course .planGrade i) class + limitIn bytes (course .planGrade i) class
       → course .newCusum i class + toleranceIn bytes (course .planGrade i) class ≡ course .cusum i class + tenTimes bytes i class
   -- not above T+L nothing is over; without a plan CuSum and overshoot are zero
-  pub not-above : (class : ℕ) → class < length classes
+  pub not-above : (class : ℕ) → class < length classes → course .planGrade i < substandard
       → course .cusum i class + tenTimes bytes i class ≤ toleranceIn bytes (course .planGrade i) class + limitIn bytes (course .planGrade i) class
       → course .overshoot i class ≡ 0
   pub without-plan : (class : ℕ) → class < length classes → course .planGrade i ≡ substandard → (course .newCusum i class ≡ 0) × (course .overshoot i class ≡ 0)
-  -- a class fails exactly if its recorded overshoot is above zero, and is over by no more than the unit's own defects
+  -- a class fails exactly if its recorded overshoot is above zero, and none is over by more than its own defects at this unit
   pub overshoot-tells : (class : ℕ) → class < length classes → ClassFails bytes course i class ↔ (0 < recordedOvershoot bytes results i class)
   pub overshoot-at-most : (class : ℕ) → class < length classes → recordedOvershoot bytes results i class ≤ tenTimes bytes i class
 

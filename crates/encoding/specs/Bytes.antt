@@ -19,12 +19,12 @@ low value = value % 256
 
 -- ---- of any width
 
--- the number that so many bytes from an offset on are
+-- the number that stands in so many bytes from an offset on
 unfoldable pub wideNumber : ℕ → List ℕ → ℕ → ℕ
 wideNumber zero bytes at = 0
 wideNumber (suc width) bytes at = 256 * wideNumber width bytes at + byte bytes (at + width)
 
--- so many bytes of a number
+-- the lowest so many bytes of a number
 unfoldable pub bytesOf : ℕ → ℕ → List ℕ
 bytesOf zero value = []
 bytesOf (suc width) value = bytesOf width (value / 256) ++ (value % 256 ∷ [])

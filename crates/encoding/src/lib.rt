@@ -23,7 +23,7 @@ pub fn holds_at(bytes: &[u8], at: usize, value: u16) -> bool
     low_first == value % 256 * 256 + value / 256
 }
 
-// The four bytes of a number.
+// The lowest four bytes of a number.
 pub fn four_bytes(value: u64) -> [u8; 4]
     ensures { λ r. ⌜ r ≡ bytesOf 4 value ⌝ }
 {

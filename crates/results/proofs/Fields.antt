@@ -8,7 +8,7 @@ use native.Mathlib.Omega.{arith}
 use lib.ListN.{length, take, getD}
 use Rattle.encoding.specs.Bytes.{byte, number, wideNumber, bytesOf}
 use Rattle.encoding.proofs.Numbers.{number-behind, high-low, wide-behind, number-is-wide, length-bytes, bytes-read}
-use Rattle.units.specs.Words.{classes, tenthsIn, overshootOfClass}
+use Rattle.units.specs.Words.{classes, tenthsIn, overshootFor}
 use Rattle.units.proofs.Classes.{class-at}
 use Rattle.results.specs.declared.ResultRecord.{ResultRecord}
 use Rattle.results.specs.Record.{resultSize, markOffset, codeOffset, portionGradeOffset, codeGradeOffset, planGradeOffset, standingOffset, cusumsOffset, cusumWidth, overshootsOffset, overshootWidth, classBytes, resultBytes}
@@ -74,7 +74,7 @@ module _ (codeGrade : ℕ) (result : ResultRecord) where
     cusumBytes = classBytes cusumWidth (tenthsIn (result .cusums)) classes
 
     abbrev overshootBytes : List ℕ
-    overshootBytes = classBytes overshootWidth (overshootOfClass (result .overshoots)) classes
+    overshootBytes = classBytes overshootWidth (overshootFor (result .overshoots)) classes
 
     pub cusum-read : (class : ℕ) → class < length classes → tenthsIn (result .cusums) class < 65536
         → number (resultBytes codeGrade result ++ rest) (cusumsOffset + cusumWidth * class) ≡ tenthsIn (result .cusums) class
@@ -85,10 +85,10 @@ module _ (codeGrade : ℕ) (result : ResultRecord) where
         ∙ ap (λ (bytes : List ℕ). wideNumber cusumWidth bytes (cusumWidth * class)) (append-assoc cusumBytes overshootBytes rest)
         ∙ class-read cusumWidth (tenthsIn (result .cusums)) (overshootBytes ++ rest) class inside small
 
-    pub overshoot-read : (class : ℕ) → class < length classes → overshootOfClass (result .overshoots) class < 4294967296
+    pub overshoot-read : (class : ℕ) → class < length classes → overshootFor (result .overshoots) class < 4294967296
         → wideNumber overshootWidth (resultBytes codeGrade result ++ rest) (overshootsOffset + overshootWidth * class)
-        ≡ overshootOfClass (result .overshoots) class
+        ≡ overshootFor (result .overshoots) class
     unfolding resultBytes classBytes bytesOf
     overshoot-read class inside small =
         wide-behind overshootWidth (front ++ cusumBytes) (overshootBytes ++ rest) (overshootWidth * class)
-        ∙ class-read overshootWidth (overshootOfClass (result .overshoots)) rest class inside small
+        ∙ class-read overshootWidth (overshootFor (result .overshoots)) rest class inside small

@@ -10,7 +10,7 @@ use lib.ListN.{length, drop, length-append}
 use lib.Seq.{sets}
 use Rattle.encoding.specs.Bytes.{byte, number, wideNumber}
 use Rattle.encoding.proofs.Numbers.{byte-behind, number-behind, wide-behind}
-use Rattle.units.specs.Words.{classes, tenthsIn, overshootOfClass}
+use Rattle.units.specs.Words.{classes, tenthsIn, overshootFor}
 use Rattle.units.specs.Records.{unitsOf, unitsAmong}
 use Rattle.units.specs.declared.SampleUnit.{SampleUnit}
 use Rattle.units.specs.declared.Entry.{Entry}
@@ -161,8 +161,8 @@ module _ (recording : ℕ → SampleUnit → ResultRecord) (grades : ℕ → ℕ
           read-written number number-behind (cusumsOffset + cusumWidth * class) _
           (λ more. cusum-read (grades (unit .code)) (recording i unit) more class known small)
 
-      pub overshoot-written : (class : ℕ) → class < length classes → overshootOfClass (recording i unit .overshoots) class < 4294967296
-          → overshootIn (written recording grades entry n ++ rest) (unitsAmong entry i) class ≡ overshootOfClass (recording i unit .overshoots) class
+      pub overshoot-written : (class : ℕ) → class < length classes → overshootFor (recording i unit .overshoots) class < 4294967296
+          → overshootIn (written recording grades entry n ++ rest) (unitsAmong entry i) class ≡ overshootFor (recording i unit .overshoots) class
       overshoot-written class known small =
           read-written (wideNumber overshootWidth) (wide-behind overshootWidth) (overshootsOffset + overshootWidth * class) _
           (λ more. overshoot-read (grades (unit .code)) (recording i unit) more class known small)

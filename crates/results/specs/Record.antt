@@ -4,7 +4,7 @@ use Prim.Native.Nat.{ℕ, _+_, _*_}
 use mathlib.Core.List.{List, [], _∷_, _++_}
 use lib.ListN.{length}
 use Rattle.encoding.specs.Bytes.{byte, number, high, low, wideNumber, bytesOf}
-use Rattle.units.specs.Words.{classes, tenthsIn, overshootOfClass}
+use Rattle.units.specs.Words.{classes, tenthsIn, overshootFor}
 use Rattle.results.specs.declared.ResultRecord.{ResultRecord}
 
 -- ---- offsets of the fields, and size of the record
@@ -55,7 +55,7 @@ unfoldable pub resultBytes : ℕ → ResultRecord → List ℕ
 resultBytes codeGrade result =
     0x47 ∷ 0x52 ∷ high (result .code) ∷ low (result .code)
     ∷ result .portion ∷ codeGrade ∷ result .plan ∷ result .standing
-    ∷ (classBytes cusumWidth (tenthsIn (result .cusums)) classes ++ classBytes overshootWidth (overshootOfClass (result .overshoots)) classes)
+    ∷ (classBytes cusumWidth (tenthsIn (result .cusums)) classes ++ classBytes overshootWidth (overshootFor (result .overshoots)) classes)
 
 -- ---- a field of the record of unit j, read back from the result buffer
 

@@ -13,7 +13,7 @@ use Rattle.rules.specs.declared.Phase.the-variants.{Designated, StepThre
 use Rattle.rules.specs.declared.State.{State}
 
 -- the plan's table, the grade designated at the opening, the records after the plan from number 0 on, and how many there are.
--- Recovery looks two records ahead: a sheet read from bytes has breaks behind its last record (`sheetOf` in `writing`, law `past-entry`), and
+-- Recovery looks two records ahead: a sheet read from bytes has breaks behind its last record (`sheetOf` in `recording`, law `past-entry`), and
 -- step 3 does not end at a break
 pub record Sheet : Type 0 where
   pub table : Table

@@ -11,7 +11,7 @@ use lib.ListN.{length}
 use borrow.Author.Tests.{le-ltb, ltb-false}
 use Rattle.cusum.specs.Step.{largestTenths}
 use Rattle.cusum.specs.declared.Cusum.{Cusum}
-use Rattle.units.specs.Words.{classes, tenthsIn, overshootOfClass, tableOf, cellOf, countsOf}
+use Rattle.units.specs.Words.{classes, tenthsIn, overshootFor, tableOf, cellOf, countsOf}
 use Rattle.units.specs.Unit.{classCusum, newCusums, classOvershoot, newOvershoots}
 use Rattle.units.specs.declared.SampleUnit.{SampleUnit}
 use Rattle.units.specs.declared.Entry.{Entry}
@@ -37,7 +37,7 @@ cusum-graded sheet i unit class inside = at-class (classCusum (sheet .table) (in
 
 -- its overshoot
 pub overshoot-graded : (sheet : Sheet) (i : ℕ) (unit : SampleUnit) (class : ℕ) → class < length classes
-    → overshootOfClass (gradedAt sheet i unit .overshoots) class
+    → overshootFor (gradedAt sheet i unit .overshoots) class
     ≡ classOvershoot (sheet .table) (inForceAt sheet i) (before sheet i .cusums) (countsOf unit) class
 unfolding graded newOvershoots
 overshoot-graded sheet i unit class inside =

@@ -63,7 +63,7 @@ acceptance bytes buffer records units =
       buffer = resultsOf (sheetOf bytes records) ++ drop (resultSize * units) buffer;
     }
 
--- 1 to 12 by the check of the sheet; then 13, a buffer shorter than 16 times the units; then 14; both at the sheet's length
+-- 1 to 12 by the check of the sheet; then 13, a buffer shorter than 32 times the units; then 14; both at the sheet's length
 unfoldable pub outcomeBy : List ℕ → List ℕ → Verdict → Outcome
 outcomeBy bytes buffer (Refused number offset) = record { answer = answeredBy (answerOf bytes (Refused number offset)); buffer = buffer }
 outcomeBy bytes buffer (Accepted records units) =

@@ -89,7 +89,7 @@ gradingOf table grade cusums counts =
       grade = defectGrade table grade cusums counts;
     }
 
--- for contracts of private functions: rule 2 in every class of the plan of a grade at once, and of a plan
+-- for contracts: rule 2 in every class at once, under the plan of a grade, and under a row of the table
 abbrev pub steppedUnder : Table → ℕ → List Cusum → List ℕ → SteppedClasses
 steppedUnder table grade cusums counts =
     record {

@@ -88,5 +88,5 @@ abbrev pub noOvershoots : List ℕ
 noOvershoots = map (λ class. 0) classes
 
 -- the overshoot of a class, in tenths
-abbrev pub overshootOfClass : List ℕ → ℕ → ℕ
-overshootOfClass overshoots class = getD overshoots class 0
+abbrev pub overshootFor : List ℕ → ℕ → ℕ
+overshootFor overshoots class = getD overshoots class 0

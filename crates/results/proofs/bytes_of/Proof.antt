@@ -4,7 +4,7 @@ use mathlib.Core.Path.{_≡_}
 use mathlib.Core.List.{List, [], _∷_, _++_}
 use lib.ListN.{take}
 use Rattle.encoding.specs.Bytes.{byte, bytesOf}
-use Rattle.units.specs.Words.{overshootOfClass}
+use Rattle.units.specs.Words.{overshootFor}
 use Rattle.results.specs.declared.ResultRecord.{ResultRecord}
 use Rattle.results.specs.Record.{overshootsOffset, overshootWidth, resultBytes, classBytes}
 use borrow.Author.Needs.{needs}
@@ -14,10 +14,10 @@ use Rattle.encoding.proofs.four_bytes.Reads as four-bytes-reads
 
 -- four bytes of each overshoot in their place
 bytes-are : (grade : ℕ) (result : ResultRecord) {critical severe major total : List ℕ}
-    → critical ≡ bytesOf overshootWidth (overshootOfClass (result .overshoots) 0)
-    → severe ≡ bytesOf overshootWidth (overshootOfClass (result .overshoots) 1)
-    → major ≡ bytesOf overshootWidth (overshootOfClass (result .overshoots) 2)
-    → total ≡ bytesOf overshootWidth (overshootOfClass (result .overshoots) 3)
+    → critical ≡ bytesOf overshootWidth (overshootFor (result .overshoots) 0)
+    → severe ≡ bytesOf overshootWidth (overshootFor (result .overshoots) 1)
+    → major ≡ bytesOf overshootWidth (overshootFor (result .overshoots) 2)
+    → total ≡ bytesOf overshootWidth (overshootFor (result .overshoots) 3)
     → take overshootsOffset (resultBytes grade result)
     ++ (byte critical 0 ∷ byte critical 1 ∷ byte critical 2 ∷ byte critical 3
     ∷ byte severe 0 ∷ byte severe 1 ∷ byte severe 2 ∷ byte severe 3
