@@ -5,7 +5,7 @@ use mathlib.Core.Path.{refl}
 use lib.Dec.{lit<}
 use Rattle.tally.proofs.Computing.{computing}
 use Rattle.computed.specs.WorkedCases.{peachPlan}
-use Rattle.computed.specs.FurtherSheets.{BreakSheets, RedesignationSheets, UnitSheets, StepThreeSheets, OvershootSheets, FewerDefectSheets, RefusedSheets, FullSheets, FurtherSheets, ground12, grounds12And8, grounds7And12, breakBetweenUnits, breakBetweenUnitsResults, breakBetweenFailures, breakBetweenFailuresResults, breakInStepThree, breakInStepThreeResults, breakInRun, breakInRunResults, breakWithoutPlan, breakWithoutPlanResults, noUnit, noUnitResults, noUnitButRecords, noUnitButRecordsResults, redesignationOutsideStepThree, redesignationOutsideStepThreeResults, redesignationInStepThree, redesignationInStepThreeResults, redesignationInRun, redesignationInRunResults, redesignationToLowerGrade, redesignationToLowerGradeResults, redesignationBelowLowerGrade, redesignationBelowLowerGradeResults, redesignationWithoutPlan, redesignationWithoutPlanResults, redesignationAfterStepThree, redesignationAfterStepThreeResults, everyKindOfRecord, everyKindOfRecordResults, bestLowerGrade, bestLowerGradeResults, designatedCFailedTwice, designatedCFailedTwiceResults, prerequisiteSubstandard, prerequisiteSubstandardResults, prerequisitesOfTwoFailures, prerequisitesOfTwoFailuresResults, totalAloneFails, totalAloneFailsResults, twoClassesFailInTurn, twoClassesFailInTurnResults, unitThatMeetsBetweenFailures, unitThatMeetsBetweenFailuresResults, codeMetAgain, codeMetAgainResults, startEqualToLimit, startEqualToLimitResults, cusumsOfTwoBytes, cusumsOfTwoBytesResults, p1InBytes, p1InBytesResults, failureInStepThree, failureInStepThreeResults, lowerThanPlanInForce, lowerThanPlanInForceResults, twoFailuresInStepThree, twoFailuresInStepThreeResults, aboveTolerance, aboveToleranceResults, cusumAboveZero, cusumAboveZeroResults, recovery, recoveryResults, recoveryWithoutPlan, recoveryWithoutPlanResults, afterStepThree, afterStepThreeResults, p7AndP8InBytes, p7AndP8InBytesResults, overshootAboveTwoBytes, overshootAboveTwoBytesResults, overshootsAroundTwoBytes, overshootsAroundTwoBytesResults, overshootsInEveryClass, overshootsInEveryClassResults, rawValueAtLimit, rawValueAtLimitResults, noOvershootWithoutPlan, noOvershootWithoutPlanResults, oneMinorDefectFewer, oneMinorDefectFewerResults, oneSevereDefectFewer, oneSevereDefectFewerResults, planCutShort, grounds1And2, grounds2And3, grounds3And4, grounds4And5, ground5BySum, ground5ByTolerance, oneByteLeft, secondPlan, markAlone, grounds7And8, grounds8And9, ground9Before8, recoverableAbove1, newGradeAboveC, ground11Before10, ground11ByLastRedesignation, ground11InStepThree, bufferWithoutRoom}
+use Rattle.computed.specs.FurtherSheets.{BreakSheets, RedesignationSheets, UnitSheets, StepThreeSheets, OvershootSheets, FewerDefectSheets, RefusedSheets, FullSheets, FurtherSheets, ground12, grounds12And8, grounds7And12, breakBetweenUnits, breakBetweenUnitsResults, breakBetweenFailures, breakBetweenFailuresResults, breakInStepThree, breakInStepThreeResults, breakInRun, breakInRunResults, breakWithoutPlan, breakWithoutPlanResults, noUnit, noUnitResults, noUnitButRecords, noUnitButRecordsResults, redesignationOutsideStepThree, redesignationOutsideStepThreeResults, redesignationInStepThree, redesignationInStepThreeResults, redesignationInRun, redesignationInRunResults, redesignationToLowerGrade, redesignationToLowerGradeResults, redesignationBelowLowerGrade, redesignationBelowLowerGradeResults, redesignationWithoutPlan, redesignationWithoutPlanResults, redesignationAfterStepThree, redesignationAfterStepThreeResults, everyKindOfRecord, everyKindOfRecordResults, bestLowerGrade, bestLowerGradeResults, designatedCFailedTwice, designatedCFailedTwiceResults, prerequisiteSubstandard, prerequisiteSubstandardResults, prerequisitesOfTwoFailures, prerequisitesOfTwoFailuresResults, totalAloneFails, totalAloneFailsResults, twoClassesFailInTurn, twoClassesFailInTurnResults, unitThatMeetsBetweenFailures, unitThatMeetsBetweenFailuresResults, codeMetAgain, codeMetAgainResults, startEqualToLimit, startEqualToLimitResults, cusumsOfTwoBytes, cusumsOfTwoBytesResults, p1InBytes, p1InBytesResults, failureInStepThree, failureInStepThreeResults, lowerThanPlanInForce, lowerThanPlanInForceResults, twoFailuresInStepThree, twoFailuresInStepThreeResults, aboveTolerance, aboveToleranceResults, cusumAboveZero, cusumAboveZeroResults, recovery, recoveryResults, recoveryWithoutPlan, recoveryWithoutPlanResults, afterStepThree, afterStepThreeResults, p7AndP8InBytes, p7AndP8InBytesResults, overshootAboveTwoBytes, overshootAboveTwoBytesResults, overshootsAroundTwoBytes, overshootsAroundTwoBytesResults, overshootsInEveryClass, overshootsInEveryClassResults, rawValueAtLimit, rawValueAtLimitResults, noOvershootWithoutPlan, noOvershootWithoutPlanResults, oneMinorDefectFewer, oneMinorDefectFewerResults, oneSevereDefectFewer, oneSevereDefectFewerResults, noDefectInPlaceOfOne, noDefectInPlaceOfOneResults, planCutShort, grounds1And2, grounds2And3, grounds3And4, grounds4And5, ground5BySum, ground5ByTolerance, oneByteLeft, secondPlan, markAlone, grounds7And8, grounds8And9, ground9Before8, recoverableAbove1, newGradeAboveC, ground11Before10, ground11ByLastRedesignation, ground11InStepThree, bufferWithoutRoom}
 use Rattle.computed.proofs.Computed.{accepts, without-room}
 use Rattle.computed.proofs.FullSheet.{cut-short, one-too-many}
 
@@ -92,10 +92,12 @@ overshoot-sheets =
 
 fewer-defect-sheets : FewerDefectSheets
 unfolding computing peachPlan oneMinorDefectFewer oneMinorDefectFewerResults oneSevereDefectFewer oneSevereDefectFewerResults
+    noDefectInPlaceOfOne noDefectInPlaceOfOneResults
 fewer-defect-sheets =
     record {
       one-minor-defect-fewer = λ buffer holds. accepts oneMinorDefectFewer buffer 4 3 refl holds refl;
       one-severe-defect-fewer = λ buffer holds. accepts oneSevereDefectFewer buffer 7 7 refl holds refl;
+      no-defect-in-place-of-one = λ buffer holds. accepts noDefectInPlaceOfOne buffer 2 2 refl holds refl;
     }
 
 refused-sheets : RefusedSheets

@@ -925,9 +925,25 @@ oneSevereDefectFewerResults =
     ∷ 0x47 ∷ 0x52 ∷ 0 ∷ 7 ∷ 1 ∷ 1 ∷ 0 ∷ 0 ∷ 0 ∷ 5 ∷ 0 ∷ 0 ∷ 0 ∷ 0 ∷ 0 ∷ 0 ∷ 0 ∷ 0 ∷ 0 ∷ 0 ∷ 0 ∷ 0 ∷ 0 ∷ 0 ∷ 0 ∷ 0 ∷ 0 ∷ 0 ∷ 0 ∷ 0 ∷ 0 ∷ 0  -- 7 7 B B m A 0.5 0.0 0.0 0.0
     ∷ []
 
+-- `rawValueAtLimit` with no defect in its last unit, and not 1: it meets.
+-- The peach plan, but total at A 0.9/0.9/4.
+unfoldable pub noDefectInPlaceOfOne : List ℕ
+noDefectInPlaceOfOne =
+    set (set peachPlan 22 9) 24 9
+    ++ (0x53 ∷ 0x55 ∷ 0 ∷ 1 ∷ 0 ∷ 0 ∷ 0 ∷ 0 ∷ 0 ∷ 0 ∷ 0 ∷ 4 ∷ 0 ∷ 1  -- 1: 0,0,0,4;A;1
+    ∷ 0x53 ∷ 0x55 ∷ 0 ∷ 2 ∷ 0 ∷ 0 ∷ 0 ∷ 0 ∷ 0 ∷ 0 ∷ 0 ∷ 0 ∷ 0 ∷ 1  -- 2: 0,0,0,0;A;1
+    ∷ [])
+
+unfoldable pub noDefectInPlaceOfOneResults : List ℕ
+noDefectInPlaceOfOneResults =
+    0x47 ∷ 0x52 ∷ 0 ∷ 1 ∷ 0 ∷ 0 ∷ 0 ∷ 0 ∷ 0 ∷ 0 ∷ 0 ∷ 0 ∷ 0 ∷ 0 ∷ 0 ∷ 40 ∷ 0 ∷ 0 ∷ 0 ∷ 0 ∷ 0 ∷ 0 ∷ 0 ∷ 0 ∷ 0 ∷ 0 ∷ 0 ∷ 0 ∷ 0 ∷ 0 ∷ 0 ∷ 0  -- 1 1 A A m A 0.0 0.0 0.0 4.0
+    ∷ 0x47 ∷ 0x52 ∷ 0 ∷ 2 ∷ 0 ∷ 0 ∷ 0 ∷ 0 ∷ 0 ∷ 0 ∷ 0 ∷ 0 ∷ 0 ∷ 0 ∷ 0 ∷ 31 ∷ 0 ∷ 0 ∷ 0 ∷ 0 ∷ 0 ∷ 0 ∷ 0 ∷ 0 ∷ 0 ∷ 0 ∷ 0 ∷ 0 ∷ 0 ∷ 0 ∷ 0 ∷ 0  -- 2 2 A A m A 0.0 0.0 0.0 3.1
+    ∷ []
+
 pub record FewerDefectSheets : Type 0 where
   pub one-minor-defect-fewer : Graded oneMinorDefectFewer 3 119 oneMinorDefectFewerResults
   pub one-severe-defect-fewer : Graded oneSevereDefectFewer 7 173 oneSevereDefectFewerResults
+  pub no-defect-in-place-of-one : Graded noDefectInPlaceOfOne 2 103 noDefectInPlaceOfOneResults
 
 -- ---- refusals, most of them where two rows of the table apply
 

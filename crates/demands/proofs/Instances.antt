@@ -16,8 +16,8 @@ use Rattle.tally.specs.declared.Answer.{Answer}
 use Rattle.tally.specs.Accepted.{AcceptedAs, sheetIn}
 use Rattle.demands.specs.Demand3.{NeverWorse}
 use Rattle.computed.specs.WorkedCases.{peachPlan, peachUnits, peach, peachResults}
-use Rattle.computed.specs.FurtherSheets.{breakBetweenFailures, breakBetweenFailuresResults, everyKindOfRecord, everyKindOfRecordResults, oneMinorDefectFewer, oneMinorDefectFewerResults, oneSevereDefectFewer, oneSevereDefectFewerResults}
-use Rattle.demands.specs.Instances.{left, peachLeft, everyKindLeft, peachStandings, everyKindStandings, peachPlanned, everyKindPlanned, standingByte, CourseInstance, CodeInstance, LargestInstance, LargestNumber, FewerInstance, FewerTwiceInstance, Instances}
+use Rattle.computed.specs.FurtherSheets.{breakBetweenFailures, breakBetweenFailuresResults, everyKindOfRecord, everyKindOfRecordResults, oneMinorDefectFewer, oneMinorDefectFewerResults, oneSevereDefectFewer, oneSevereDefectFewerResults, rawValueAtLimit, rawValueAtLimitResults, noDefectInPlaceOfOne, noDefectInPlaceOfOneResults}
+use Rattle.demands.specs.Instances.{left, peachLeft, everyKindLeft, peachStandings, everyKindStandings, peachPlanned, everyKindPlanned, standingByte, CourseInstance, CodeInstance, LargestInstance, LargestNumber, FewerInstance, FewerTwiceInstance, FewerMeetsInstance, Instances}
 use Rattle.demands.proofs.Computing.{computing}
 use Rattle.answers.proofs.AnswerInstances.{answer-instances}
 use Rattle.demands.proofs.NeverWorse.{demand3-fewer-defects}
@@ -150,6 +150,31 @@ fewer-defects-twice buffer buffer' holds holds' =
       less-over = (refl, refl);
     }
 
+-- the minor count of record 1
+abbrev twoAccepted : Answer
+twoAccepted = record { number = 0; units = 2; offset = 103 }
+
+meets-compared : (buffer buffer' : List ℕ) → resultSize * 2 ≤ length buffer → resultSize * 2 ≤ length buffer'
+    → NeverWorse noDefectInPlaceOfOne rawValueAtLimit (left noDefectInPlaceOfOneResults 2 buffer) (left rawValueAtLimitResults 2 buffer')
+unfolding computing peachPlan noDefectInPlaceOfOne rawValueAtLimit
+meets-compared buffer buffer' holds holds' =
+    demand3-fewer-defects noDefectInPlaceOfOne rawValueAtLimit buffer buffer' twoAccepted twoAccepted _ _
+    (one-fewer noDefectInPlaceOfOne rawValueAtLimit 100 0 refl (lit< tt) (lit< tt)
+    (record { i = 1; unit = record { inside = lit< tt; is-unit = refl }; from = lit< tt; to = lit< tt })
+    buffer buffer' twoAccepted twoAccepted _ _
+    (record { promise = sym (further-sheets .fewer-defects .no-defect-in-place-of-one buffer holds); accepted = refl })
+    (record { promise = sym (further-sheets .overshoots .raw-value-at-limit buffer' holds'); accepted = refl }) refl)
+
+fewer-defects-meets : (buffer buffer' : List ℕ) → resultSize * 2 ≤ length buffer → resultSize * 2 ≤ length buffer' → FewerMeetsInstance buffer buffer'
+unfolding computing peachPlan noDefectInPlaceOfOne noDefectInPlaceOfOneResults rawValueAtLimit rawValueAtLimitResults
+fewer-defects-meets buffer buffer' holds holds' =
+    record {
+      no-higher =
+          none-higher _ _ _ _ (meets-compared buffer buffer' holds holds') 2 refl _ 2 (in-none 2 (secondInARow (sheetIn rawValueAtLimit)) refl) refl;
+      not-over = refl;
+      over = refl;
+    }
+
 -- ---- and once more the first half
 
 largest-anchored : (buffer : List ℕ) → resultSize * 3 ≤ length buffer
@@ -176,4 +201,5 @@ instances =
       largest-anchored = largest-anchored;
       fewer-defects = fewer-defects;
       fewer-defects-twice = fewer-defects-twice;
+      fewer-defects-meets = fewer-defects-meets;
     }

@@ -19,7 +19,7 @@ use Rattle.demands.specs.Course.{Course, tenTimes, prerequisite, ClassFa
 use Rattle.demands.specs.Demand2.{recordedMark, recordedCode, recordedPlanGrade, recordedStanding, codeOf}
 use Rattle.demands.specs.Demand3.{AnchorAt}
 use Rattle.computed.specs.WorkedCases.{peach, peachResults}
-use Rattle.computed.specs.FurtherSheets.{breakBetweenFailures, breakBetweenFailuresResults, everyKindOfRecord, everyKindOfRecordResults, oneMinorDefectFewer, oneMinorDefectFewerResults, oneSevereDefectFewer, oneSevereDefectFewerResults}
+use Rattle.computed.specs.FurtherSheets.{breakBetweenFailures, breakBetweenFailuresResults, everyKindOfRecord, everyKindOfRecordResults, oneMinorDefectFewer, oneMinorDefectFewerResults, oneSevereDefectFewer, oneSevereDefectFewerResults, rawValueAtLimit, rawValueAtLimitResults, noDefectInPlaceOfOne, noDefectInPlaceOfOneResults}
 
 -- ---- the sheets
 
@@ -183,6 +183,13 @@ pub record FewerTwiceInstance (buffer buffer' : List ℕ) : Type 0 where
   pub less-over : (recordedOvershoot oneSevereDefectFewer (left oneSevereDefectFewerResults 7 buffer) 1 3 ≡ 30)
       × (recordedOvershoot peach (peachLeft buffer') 1 3 ≡ 40)
 
+-- two units of which the second is a tenth over L in total, and the same without its only defect: it meets
+pub record FewerMeetsInstance (buffer buffer' : List ℕ) : Type 0 where
+  pub no-higher : NoHigherInstance noDefectInPlaceOfOne rawValueAtLimit
+      (left noDefectInPlaceOfOneResults 2 buffer) (left rawValueAtLimitResults 2 buffer') (0 ∷ 1 ∷ [])
+  pub not-over : recordedOvershoot noDefectInPlaceOfOne (left noDefectInPlaceOfOneResults 2 buffer) 1 3 ≡ 0
+  pub over : recordedOvershoot rawValueAtLimit (left rawValueAtLimitResults 2 buffer') 1 3 ≡ 1
+
 -- ---- together
 
 pub record Instances : Type 0 where
@@ -207,3 +214,5 @@ pub record Instances : Type 0 where
   pub fewer-defects : (buffer buffer' : List ℕ) → resultSize * 3 ≤ length buffer → resultSize * 3 ≤ length buffer' → FewerInstance buffer buffer'
   pub fewer-defects-twice : (buffer buffer' : List ℕ) → resultSize * 7 ≤ length buffer → resultSize * 7 ≤ length buffer'
       → FewerTwiceInstance buffer buffer'
+  pub fewer-defects-meets : (buffer buffer' : List ℕ) → resultSize * 2 ≤ length buffer → resultSize * 2 ≤ length buffer'
+      → FewerMeetsInstance buffer buffer'

@@ -809,6 +809,14 @@ fn fewer() -> Vec<Case> {
             "AAmA BBfA BBfA AArB ABrB BBuB BBmA",
             &[(2, TOTAL, 30), (3, TOTAL, 10)],
         ),
+        accepted(
+            "no defect in place of one",
+            "`rawValueAtLimit` with no defect in its last unit, and not 1: it meets.",
+            plan_with(&[(A, TOTAL, [9, 9, 40])]),
+            &[minor(1, 4), minor(2, 0)],
+            "AAmA AAmA",
+            &[],
+        ),
     ]
 }
 
