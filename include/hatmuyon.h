@@ -134,7 +134,7 @@ struct hatmuyon_answer {
 
 /*
  * hatmuyon_grade needs at most 2 KiB of stack, its return address among them. This is measured and
- * not proved: the disassembled archive takes about 800 bytes, in frames of fixed size and without
+ * not proved: the disassembled archive takes about 900 bytes, in frames of fixed size and without
  * recursion, and a test of bindings/rust fails if it takes more than this of a painted stack.
  */
 #define HATMUYON_STACK_SIZE 2048
