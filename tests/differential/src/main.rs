@@ -178,7 +178,9 @@ fn main() {
         }
     }
     print!("{counts}");
-    println!("{checked:>9}  sheets whose recorded CuSums and overshoots are the 'largest of' form");
+    println!(
+        "{checked:>9}  sheets whose recorded CuSums are the 'largest of' form, overshoots by sums"
+    );
     println!("{pairs:>9}  pairs alike but for fewer counts, {graded_pairs} with grades compared");
     // A short run need not have everything.
     if let Some(name) = counts.missing().find(|_| cases >= WHOLE) {
