@@ -21,7 +21,7 @@ pub record Sizes : Type 0 where
   pub redesignation : redesignationSize ≡ 3
   -- "Break in production, 42 4B, 2 bytes": its mark alone
   pub break-in-production : markSize ≡ 2
-  -- "Result, 47 52"; "the result record grows from 16 to 32 bytes"
+  -- "Result, 47 52"; "The result record grows from 16 to 32 bytes"
   pub result : resultSize ≡ 32
   -- "a table of three grades by four classes"
   pub three-grades : length plannedGrades ≡ 3

@@ -1,6 +1,6 @@
 -- The cases P1 to P10 of paper 01, "Small sheets by hand", as one group: the record at the end, with a field for each case under
--- the paper's words. S, T, L, CuSums and overshoots are tenths, so that 1/3/3 is 10, 30, 30; counts are defects; grades are 0, 1, 2, 3 for A, B,
--- C, Substandard.
+-- the paper's words. S, T, L, CuSums and overshoots are tenths, so that 1/3/3 is 10, 30, 30; counts are defects; grades are 0, 1, 2, 3
+-- for A, B, C, Substandard. The paper has no overshoots (they came with A.1): these are raw value less L.
 use Prim.Native.Nat.{ℕ, _+_, _≤_}
 use mathlib.Core.Path.{_≡_}
 use mathlib.Core.Bool.{Bool, true, false}

@@ -33,7 +33,8 @@ pub record Demands : Type 2 where
   pub demand2-records : Demand2Records
   -- at a unit with a plan in force every recorded CuSum is the 'largest of' form from its anchor
   pub demand3-largest-form : Demand3LargestForm
-  -- fewer defects: no higher CuSum, no larger overshoot and no new failure up to the second sheet's first two failures in a row; no lower grade if it has none
+  -- fewer defects: no higher CuSum, no larger overshoot and no new failure up to the second sheet's first two failures in a row; no lower
+  -- grade if it has none
   pub demand3-fewer-defects : Demand3FewerDefects
   -- P1 to P10, and the lines of P10
   pub small-sheets : SmallSheets
