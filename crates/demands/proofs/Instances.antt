@@ -20,10 +20,9 @@ use Rattle.computed.specs.FurtherSheets.{breakBetweenFailures, breakBetweenFail
 use Rattle.demands.specs.Instances.{left, peachLeft, everyKindLeft, peachStandings, everyKindStandings, peachPlanned, everyKindPlanned, standingByte, CourseInstance, CodeInstance, LargestInstance, LargestNumber, FewerInstance, FewerTwiceInstance, FewerMeetsInstance, Instances}
 use Rattle.demands.proofs.Computing.{computing}
 use Rattle.answers.proofs.AnswerInstances.{answer-instances}
-use Rattle.demands.proofs.NeverWorse.{demand3-fewer-defects}
 use Rattle.computed.proofs.WorkedCases.{worked-cases}
 use Rattle.computed.proofs.FurtherSheets.{further-sheets}
-use Rattle.demands.proofs.OneFewer.{one-fewer}
+use Rattle.demands.proofs.OneFewer.{one-fewer-compared}
 use Rattle.demands.proofs.AtUnits.{course-recorded, code-graded, largest-recorded, number-recorded, none-higher, none-lower}
 
 -- ---- the accepted sheets
@@ -113,19 +112,17 @@ minor-compared : (buffer buffer' : List ℕ) → resultSize * 3 ≤ length buffe
     → NeverWorse oneMinorDefectFewer breakBetweenFailures (left oneMinorDefectFewerResults 3 buffer) (left breakBetweenFailuresResults 3 buffer')
 unfolding computing peachPlan oneMinorDefectFewer breakBetweenFailures
 minor-compared buffer buffer' holds holds' =
-    demand3-fewer-defects oneMinorDefectFewer breakBetweenFailures buffer buffer' threeAccepted threeAccepted _ _
-    (one-fewer oneMinorDefectFewer breakBetweenFailures 116 2 refl (lit< tt) (lit< tt)
+    one-fewer-compared oneMinorDefectFewer breakBetweenFailures 116 2 refl (lit< tt) (lit< tt)
     (record { i = 3; unit = record { inside = lit< tt; is-unit = refl }; from = lit< tt; to = lit< tt })
-    buffer buffer' threeAccepted threeAccepted _ _ (minor-accepted buffer holds) (break-accepted buffer' holds') refl)
+    buffer buffer' threeAccepted threeAccepted _ _ (minor-accepted buffer holds) (break-accepted buffer' holds') refl
 
 severe-compared : (buffer buffer' : List ℕ) → resultSize * 7 ≤ length buffer → resultSize * 7 ≤ length buffer'
     → NeverWorse oneSevereDefectFewer peach (left oneSevereDefectFewerResults 7 buffer) (peachLeft buffer')
 unfolding computing peachPlan oneSevereDefectFewer peachUnits peach
 severe-compared buffer buffer' holds holds' =
-    demand3-fewer-defects oneSevereDefectFewer peach buffer buffer' peachAnswer peachAnswer _ _
-    (one-fewer oneSevereDefectFewer peach 96 1 refl (lit< tt) (lit< tt)
+    one-fewer-compared oneSevereDefectFewer peach 96 1 refl (lit< tt) (lit< tt)
     (record { i = 1; unit = record { inside = lit< tt; is-unit = refl }; from = lit< tt; to = lit< tt })
-    buffer buffer' peachAnswer peachAnswer _ _ (severe-accepted buffer holds) (peach-accepted buffer' holds') refl)
+    buffer buffer' peachAnswer peachAnswer _ _ (severe-accepted buffer holds) (peach-accepted buffer' holds') refl
 
 fewer-defects : (buffer buffer' : List ℕ) → resultSize * 3 ≤ length buffer → resultSize * 3 ≤ length buffer' → FewerInstance buffer buffer'
 unfolding computing peachPlan oneMinorDefectFewer oneMinorDefectFewerResults breakBetweenFailures breakBetweenFailuresResults
@@ -158,12 +155,11 @@ meets-compared : (buffer buffer' : List ℕ) → resultSize * 2 ≤ length buffe
     → NeverWorse noDefectInPlaceOfOne rawValueAtLimit (left noDefectInPlaceOfOneResults 2 buffer) (left rawValueAtLimitResults 2 buffer')
 unfolding computing peachPlan noDefectInPlaceOfOne rawValueAtLimit
 meets-compared buffer buffer' holds holds' =
-    demand3-fewer-defects noDefectInPlaceOfOne rawValueAtLimit buffer buffer' twoAccepted twoAccepted _ _
-    (one-fewer noDefectInPlaceOfOne rawValueAtLimit 100 0 refl (lit< tt) (lit< tt)
+    one-fewer-compared noDefectInPlaceOfOne rawValueAtLimit 100 0 refl (lit< tt) (lit< tt)
     (record { i = 1; unit = record { inside = lit< tt; is-unit = refl }; from = lit< tt; to = lit< tt })
     buffer buffer' twoAccepted twoAccepted _ _
     (record { promise = sym (further-sheets .fewer-defects .no-defect-in-place-of-one buffer holds); accepted = refl })
-    (record { promise = sym (further-sheets .overshoots .raw-value-at-limit buffer' holds'); accepted = refl }) refl)
+    (record { promise = sym (further-sheets .overshoots .raw-value-at-limit buffer' holds'); accepted = refl }) refl
 
 fewer-defects-meets : (buffer buffer' : List ℕ) → resultSize * 2 ≤ length buffer → resultSize * 2 ≤ length buffer' → FewerMeetsInstance buffer buffer'
 unfolding computing peachPlan noDefectInPlaceOfOne noDefectInPlaceOfOneResults rawValueAtLimit rawValueAtLimitResults

@@ -1,4 +1,5 @@
--- Demand 3's second half, as recorded: no higher CuSum, no larger overshoot and no new failure up to two failures in a row; without these no lower grade.
+-- Demand 3's second half, as recorded: no higher CuSum, no larger overshoot and no new failure up to two failures in a row; without
+-- these no lower grade.
 -- From the same laws over records: the second sheet is told with the plan and the number of records of the first.
 use Prim.Native.Nat.{ℕ, _≤_, _<_}
 use mathlib.Core.Path.{_≡_, refl, sym, _∙_, subst⁻¹}

@@ -99,32 +99,6 @@ module _ (bytes : List ℕ) (course other : Course) (rules : Rules bytes course)
             let none : course .planGrade i ≡ substandard = omega (arith, ltb-false (course .planGrade i) substandard e, bounded) in
             rules .rule-two i class at known .no-plan none .0 ∙ sym (others .rule-two i class at known .no-plan (sym (same .plan-grade) ∙ none) .0)
 
-    class-from : (class : ℕ) → class < length classes → ClassFails bytes other i class → ClassFails bytes course i class
-    class-from class known here =
-        let planned : course .planGrade i < substandard = omega (arith, same .plan-grade, here .planned) in
-        record {
-          planned = planned;
-          above = omega (arith, tolerance-same class, limit-same class, same .cusums planned class known, here .above);
-        }
-
-    overshoot-same : (class : ℕ) → UnitAt bytes i → class < length classes → course .overshoot i class ≡ other .overshoot i class
-    overshoot-same class at known = go (settled tells)
-      where
-        tells : Tells (ltb (course .planGrade i) substandard
-            && ltb (toleranceAt bytes course i class + limitAt bytes course i class) (reached bytes course i class)) (ClassFails bytes course i class)
-        tells =
-            tells-as (λ (planned, above). record { planned = planned; above = above }) (λ here. (here .planned, here .above))
-            (tells-and (tells-lt _ _) (tells-lt _ _))
-
-        go : ClassFails bytes course i class ⊎ (ClassFails bytes course i class → ⊥) → course .overshoot i class ≡ other .overshoot i class
-        go (inl fails) =
-            let one = rules .rule-two i class at known .over fails in
-            let two = others .rule-two i class at known .over (class-to class known fails) in
-            omega (arith, one, two, tolerance-same class, limit-same class, same .cusums (fails .planned) class known)
-        go (inr none) =
-            rules .rule-two i class at known .not-over none
-            ∙ sym (others .rule-two i class at known .not-over (λ here. none (class-from class known here)))
-
     qualifies-to : Qualifies bytes course i → Qualifies bytes other i
     qualifies-to here =
         record {
@@ -187,6 +161,29 @@ module _ (bytes : List ℕ) (size : ℕ) (course other : Course) (rules : Rules 
     (keeps-settled : (i : ℕ) → KeepsStepThree bytes course i ⊎ (KeepsStepThree bytes course i → ⊥))
     (restart-settled : (i : ℕ) → i < size → Restart bytes course i ⊎ (Restart bytes course i → ⊥))
     (kind : (i : ℕ) → i < size → UnitAt bytes i ⊎ (IsRedesignation bytes i ⊎ IsBreak bytes i)) where
+  overshoot-same : (i : ℕ) → SameBefore course other i → UnitAt bytes i → (class : ℕ) → class < length classes
+      → course .overshoot i class ≡ other .overshoot i class
+  overshoot-same i same at class known = go (settled tells)
+    where
+      tells : Tells (ltb (course .planGrade i) substandard
+          && ltb (toleranceAt bytes course i class + limitAt bytes course i class) (reached bytes course i class)) (ClassFails bytes course i class)
+      tells =
+          tells-as (λ (planned, above). record { planned = planned; above = above }) (λ here. (here .planned, here .above))
+          (tells-and (tells-lt _ _) (tells-lt _ _))
+
+      fails-from : ClassFails bytes other i class → ClassFails bytes course i class
+      fails-from = class-to bytes other course others rules i (turned same) (omega (arith, same .plan-grade, bounded i)) class known
+
+      go : ClassFails bytes course i class ⊎ (ClassFails bytes course i class → ⊥) → course .overshoot i class ≡ other .overshoot i class
+      go (inl fails) =
+          let one = rules .rule-two i class at known .over fails in
+          let two = others .rule-two i class at known .over (class-to bytes course other rules others i same (bounded i) class known fails) in
+          let tolerance = tolerance-same bytes course other rules others i same (bounded i) class in
+          let limit = limit-same bytes course other rules others i same (bounded i) class in
+          omega (arith, one, two, tolerance, limit, same .cusums (fails .planned) class known)
+      go (inr none) =
+          rules .rule-two i class at known .not-over none ∙ sym (others .rule-two i class at known .not-over (λ here. none (fails-from here)))
+
   defect-same : (i : ℕ) → SameBefore course other i → UnitAt bytes i → course .defectGrade i ≡ other .defectGrade i
   defect-same i same at = go (unit-settled i)
     where
@@ -356,7 +353,7 @@ module _ (bytes : List ℕ) (size : ℕ) (course other : Course) (rules : Rules 
         plan-grade = same .plan-grade;
         old-cusums = same .cusums;
         new-cusums = λ class known. new-same bytes course other rules others i same (bounded i) class at known;
-        overshoots = λ class known. overshoot-same bytes course other rules others i same (bounded i) class at known;
+        overshoots = overshoot-same i same at;
         defect-grade = defect-same i same at;
       }
 

@@ -17,7 +17,8 @@ use Rattle.layout.specs.Layout.{countsOffset, redesignationSize, sizeOf, offset
 use Rattle.tally.specs.declared.Answer.{Answer}
 use Rattle.tally.specs.Outcome.{recordsIn}
 use Rattle.tally.specs.Accepted.{AcceptedAs}
-use Rattle.demands.specs.Demand3.{InCount, Alike, FewerDefects}
+use Rattle.demands.specs.Demand3.{InCount, Alike, FewerDefects, NeverWorse}
+use Rattle.demands.proofs.NeverWorse.{demand3-fewer-defects}
 
 module _ (bytes bytes' : List ℕ) (place fewer : ℕ) (stored : bytes ≡ set bytes' place fewer)
     (inside : place < length bytes') (less : fewer < byte bytes' place) (in-count : InCount bytes place) where
@@ -41,7 +42,7 @@ module _ (bytes bytes' : List ℕ) (place fewer : ℕ) (stored : bytes ≡ set b
       go true e = rw (eqb-true at place e) (omega (arith, here, less))
       go false e = omega (arith, elsewhere at (eqb-false at place e))
 
-  pub one-fewer : (buffer buffer' : List ℕ) (answer answer' : Answer) (results results' : List ℕ)
+  one-fewer : (buffer buffer' : List ℕ) (answer answer' : Answer) (results results' : List ℕ)
       → AcceptedAs bytes buffer answer results → AcceptedAs bytes' buffer' answer' results'
       → any (λ i. eqb (sizeOf (mark bytes i)) redesignationSize) (upFrom 0 (recordsIn bytes)) ≡ false
       → FewerDefects bytes bytes' buffer buffer' answer answer' results results'
@@ -58,3 +59,12 @@ module _ (bytes bytes' : List ℕ) (place fewer : ℕ) (stored : bytes ≡ set b
             eqb-false (sizeOf (mark bytes i)) redesignationSize
             (in-none (recordsIn bytes) (λ j. eqb (sizeOf (mark bytes j)) redesignationSize) none i h) (ap sizeOf is);
       }
+
+  -- and so demand 3 compares them
+  pub one-fewer-compared : (buffer buffer' : List ℕ) (answer answer' : Answer) (results results' : List ℕ)
+      → AcceptedAs bytes buffer answer results → AcceptedAs bytes' buffer' answer' results'
+      → any (λ i. eqb (sizeOf (mark bytes i)) redesignationSize) (upFrom 0 (recordsIn bytes)) ≡ false
+      → NeverWorse bytes bytes' results results'
+  one-fewer-compared buffer buffer' answer answer' results results' first second none =
+      demand3-fewer-defects bytes bytes' buffer buffer' answer answer' results results'
+      (one-fewer buffer buffer' answer answer' results results' first second none)

@@ -66,7 +66,7 @@ module _ (codeGrade : ℕ) (result : ResultRecord) where
     unfolding resultBytes
     code-read small = high-low (result .code) [] small
 
-    -- the bytes before the CuSums, and those before the overshoots
+    -- the bytes before the CuSums, and those of CuSums and overshoots
     abbrev front : List ℕ
     front = take cusumsOffset (resultBytes codeGrade result)
 
@@ -85,7 +85,7 @@ module _ (codeGrade : ℕ) (result : ResultRecord) where
         ∙ ap (λ (bytes : List ℕ). wideNumber cusumWidth bytes (cusumWidth * class)) (append-assoc cusumBytes overshootBytes rest)
         ∙ class-read cusumWidth (tenthsIn (result .cusums)) (overshootBytes ++ rest) class inside small
 
-    pub overshoot-read : (class : ℕ) → class < length classes → overshootFor (result .overshoots) class < 4294967296
+    pub overshoot-read : (class : ℕ) → class < length classes → overshootFor (result .overshoots) class < 256 ^ overshootWidth
         → wideNumber overshootWidth (resultBytes codeGrade result ++ rest) (overshootsOffset + overshootWidth * class)
         ≡ overshootFor (result .overshoots) class
     unfolding resultBytes classBytes bytesOf

@@ -1,6 +1,6 @@
 -- What records write, whatever is recorded of a unit: that it depends on what is recorded of the units alone, how long it is, what one
 -- record more adds, where the result record of a unit stands in it and what is read there. By induction on the records.
-use Prim.Native.Nat.{ℕ, zero, suc, _+_, _*_, _≤_, _<_}
+use Prim.Native.Nat.{ℕ, zero, suc, _+_, _*_, _^_, _≤_, _<_}
 use mathlib.Core.Path.{_≡_, refl, sym, _∙_, ap, ap₂}
 use mathlib.Core.Logic.{_⊎_, inl, inr}
 use mathlib.Core.List.{List, [], _++_, append-assoc, append-nil}
@@ -161,7 +161,7 @@ module _ (recording : ℕ → SampleUnit → ResultRecord) (grades : ℕ → ℕ
           read-written number number-behind (cusumsOffset + cusumWidth * class) _
           (λ more. cusum-read (grades (unit .code)) (recording i unit) more class known small)
 
-      pub overshoot-written : (class : ℕ) → class < length classes → overshootFor (recording i unit .overshoots) class < 4294967296
+      pub overshoot-written : (class : ℕ) → class < length classes → overshootFor (recording i unit .overshoots) class < 256 ^ overshootWidth
           → overshootIn (written recording grades entry n ++ rest) (unitsAmong entry i) class ≡ overshootFor (recording i unit .overshoots) class
       overshoot-written class known small =
           read-written (wideNumber overshootWidth) (wide-behind overshootWidth) (overshootsOffset + overshootWidth * class) _

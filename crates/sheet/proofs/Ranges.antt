@@ -15,7 +15,7 @@ use Rattle.units.specs.Words.{substandard, classes, cellOf, numbersOf, tableOf,
 use Rattle.units.specs.declared.Plan.{Plan}
 use Rattle.units.specs.declared.SampleUnit.{SampleUnit}
 use Rattle.units.specs.declared.Entry.the-variants.{UnitRecord, Redesignation}
-use Rattle.layout.specs.Layout.{gradeOffset, prerequisiteOffset, tableSize, planOf, sampleUnitAt, mark, offset, entryAt, unitsBefore}
+use Rattle.layout.specs.Layout.{gradeOffset, kinds, prerequisiteOffset, tableSize, planOf, sampleUnitAt, mark, offset, entryAt, unitsBefore}
 use Rattle.layout.specs.declared.Mark.{Mark}
 use Rattle.layout.specs.declared.Mark.the-variants.{UnitMark, RedesignationMark}
 use Rattle.layout.proofs.Offsets.{inside-unit, inside-redesignation}
@@ -42,11 +42,11 @@ cell-passed plan e cell h =
     )
 
 -- no count is too large
-pub record CountsFit (unit : SampleUnit) : Type 0 where
-  pub critical : unit .critical ≤ largestCount
-  pub severe : unit .severe ≤ largestCount
-  pub major : unit .major ≤ largestCount
-  pub minor : unit .minor ≤ largestCount
+record CountsFit (unit : SampleUnit) : Type 0 where
+  critical : unit .critical ≤ largestCount
+  severe : unit .severe ≤ largestCount
+  major : unit .major ≤ largestCount
+  minor : unit .minor ≤ largestCount
 
 counts-passed : (unit : SampleUnit) → countTooLarge unit ≡ false → CountsFit unit
 unfolding countTooLarge
@@ -133,8 +133,8 @@ module _ (bytes : List ℕ) (n : ℕ) (facts : Facts bytes n) where
       let same : sampleUnitAt bytes (offset bytes i) ≡ unit = cc in
       subst (λ (u : SampleUnit). u .prerequisite ≤ substandard) same (unit-here i is-unit .1)
 
-  -- the count of a class is at most that of all kinds together
-  pub count-le : (i : ℕ) → mark bytes i ≡ UnitMark → (class : ℕ) → countIn (countsOf (sampleUnitAt bytes (offset bytes i))) class ≤ 4 * largestCount
+  -- the count of a class is at most the largest in every kind together
+  pub count-le : (i : ℕ) → mark bytes i ≡ UnitMark → (class : ℕ) → countIn (countsOf (sampleUnitAt bytes (offset bytes i))) class ≤ kinds * largestCount
   count-le i is-unit class =
       let unit = sampleUnitAt bytes (offset bytes i) in
       let fit = unit-here i is-unit .2 in

@@ -1,9 +1,9 @@
 -- Bounds of what one unit has and gets: a count of a class goes by those of the kinds, a CuSum is at most its L, an overshoot at most
--- the unit's own defects, and a defect grade at most Substandard. By cases on the tests, and member by member of the counts.
+-- the unit's own defects, and a defect grade at most Substandard. By cases on the tests, and on the class.
 use Prim.Native.Nat.{ℕ, zero, suc, _+_, _≤_}
 use mathlib.Core.Path.{_≡_, refl}
 use mathlib.Core.Bool.{Bool, true, false, cond, _&&_}
-use mathlib.Core.List.{List, [], _∷_}
+use mathlib.Core.List.{List}
 use native.Mathlib.Omega.{arith}
 use lib.Dec.{ltb}
 use Rattle.cusum.specs.declared.Cusum.{Cusum}
@@ -19,26 +19,13 @@ pub choice-le : (b : Bool) (x y n : ℕ) → x ≤ n → y ≤ n → cond b x y 
 choice-le true x y n h k = h
 choice-le false x y n h k = k
 
--- a list whose members are at most a number
-data Within (most : ℕ) : List ℕ → Type 0 where
-  none : Within most []
-  more : {x : ℕ} {xs : List ℕ} → x ≤ most → Within most xs → Within most (x ∷ xs)
-
-within-at : {most : ℕ} {xs : List ℕ} → Within most xs → (class : ℕ) → countIn xs class ≤ most
-within-at none class = omega arith
-within-at (more h others) zero = h
-within-at (more h others) (suc class) = within-at others class
-
 -- the count of a class is at most the sum of all kinds
 pub count-le-all : (unit : SampleUnit) (class : ℕ) → countIn (countsOf unit) class ≤ unit .critical + unit .severe + unit .major + unit .minor
-count-le-all unit class =
-    let all = unit .critical + unit .severe + unit .major + unit .minor in
-    let critical : unit .critical ≤ all = omega arith in
-    let severe : unit .severe ≤ all = omega arith in
-    let major : unit .major ≤ all = omega arith in
-    let total : all ≤ all = omega arith in
-    let each : Within all (countsOf unit) = more critical (more severe (more major (more total none))) in
-    within-at each class
+count-le-all unit zero = omega arith
+count-le-all unit (suc zero) = omega arith
+count-le-all unit (suc (suc zero)) = omega arith
+count-le-all unit (suc (suc (suc zero))) = omega arith
+count-le-all unit (suc (suc (suc (suc class)))) = omega arith
 
 module _ (table : Table) (grade : ℕ) (cusums : List Cusum) (counts : List ℕ) (class : ℕ) where
   -- a CuSum is at most its L

@@ -1,4 +1,5 @@
--- The loop's invariant: every class below this one has its new CuSum and its overshoot, and a class fails if one below did or one that is left does.
+-- The loop's invariant: every class below this one has its new CuSum and its overshoot, and a class fails if one below did or one that
+-- is left does.
 use Prim.Native.Nat.{ℕ, _-_, _≤_}
 use mathlib.Core.Path.{_≡_, refl, ap}
 use mathlib.Core.Bool.{Bool}

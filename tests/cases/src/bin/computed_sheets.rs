@@ -10,11 +10,13 @@ use grader::RESULT_SIZE;
 
 /// Grades and classes by their places.
 const GRADES: [&str; 4] = ["A", "B", "C", "S"];
-const CLASSES: [&str; 5] = ["critical", "severe", "major", "total", "other"];
+const CLASSES: [&str; 4] = ["critical", "severe", "major", "total"];
 const CRITICAL: usize = 0;
 const SEVERE: usize = 1;
 const MAJOR: usize = 2;
 const TOTAL: usize = 3;
+/// Where the overshoots begin in a result record: after the CuSums.
+const OVERSHOOTS: usize = 16;
 const A: u8 = 0;
 const B: u8 = 1;
 const C: u8 = 2;
@@ -1084,7 +1086,7 @@ struct Graded {
 fn overshoots_in(results: &[u8]) -> Vec<Overshoot> {
     let of_record = |(unit, record): (usize, &'_ [u8])| {
         let numbers =
-            record[16..].chunks(4).map(|four| u32::from_be_bytes(four.try_into().unwrap()));
+            record[OVERSHOOTS..].chunks(4).map(|four| u32::from_be_bytes(four.try_into().unwrap()));
         numbers.enumerate().map(|(class, tenths)| (unit + 1, class, tenths)).collect::<Vec<_>>()
     };
     let all = results.chunks(RESULT_SIZE).enumerate().flat_map(of_record);
@@ -1130,19 +1132,27 @@ fn graded(case: &Case) -> Graded {
     }
 }
 
-/// Bytes as elements of a list, the mark in hexadecimal.
-fn elements(bytes: &[u8]) -> String {
+/// Bytes as elements of a list, the mark in hexadecimal; the overshoots of a result in a line of
+/// their own.
+fn elements(bytes: &[u8], comment: &str) -> String {
     let element = |(at, byte): (usize, &u8)| match at {
         0 | 1 => format!("0x{byte:02X}"),
         _ => byte.to_string(),
     };
-    bytes.iter().enumerate().map(element).collect::<Vec<_>>().join(" ∷ ")
+    let elements: Vec<_> = bytes.iter().enumerate().map(element).collect();
+    let (first, overshoots) = elements.split_at(elements.len().min(OVERSHOOTS));
+    let mut text = format!("{}{comment}", first.join(" ∷ "));
+    if !overshoots.is_empty() {
+        text += &format!("\n    ∷ {}", overshoots.join(" ∷ "));
+    }
+    text
 }
 
-/// A list of records, a line for each, with no bracket before or behind it.
+/// A list of records, each with its comment, with no bracket before or behind it.
 fn lines<'a>(records: impl Iterator<Item = (&'a [u8], &'a str)>) -> String {
-    let line =
-        |(bytes, comment): (&[u8], &str)| format!("{}  -- {comment}\n    ∷ ", elements(bytes));
+    let line = |(bytes, comment): (&[u8], &str)| {
+        format!("{}\n    ∷ ", elements(bytes, &format!("  -- {comment}")))
+    };
     records.map(line).collect::<String>() + "[]"
 }
 
@@ -1210,7 +1220,7 @@ fn definitions(case: &Case, graded: &Graded) -> String {
     } else if case.full {
         text += &format!("\n    {}\n    ++ repeated {MOST_UNITS}\n", plan_text(&case.plan));
         for Part { bytes, comment } in &case.parts {
-            text += &format!("    ({} ∷ [])  -- {comment}\n", elements(bytes));
+            text += &format!("    ({} ∷ [])  -- {comment}\n", elements(bytes, ""));
         }
     } else {
         let parts = case.parts.iter().map(|part| (&part.bytes[..], part.comment.as_str()));
