@@ -5,28 +5,28 @@ use mathlib.Core.Path.{_≡_, refl, sym, ap}
 use native.Mathlib.Omega.{arith}
 use lib.IntN.{pos, negsuc}
 use borrow.Author.Tests.{lt-ltb}
-use Rattle.cusum.specs.Step.{tenthsOf, rawValue, aboveLimit, cusumOf, overshootOf, fails, newCusum, overshoot, stepOf}
+use Rattle.cusum.specs.Step.{rawValue, aboveLimit, cusumOf, overshootOf, fails, newCusum, overshoot, stepOf}
 use Rattle.cusum.specs.declared.PlanNumbers.{PlanNumbers}
 use Rattle.cusum.proofs.Laws.{step-within}
 use Rattle.tally.specs.Outcome.{Outcome}
 use Rattle.tally.proofs.Computing.{computing}
 use Rattle.computed.proofs.Computed.{accepts}
-use Rattle.computed.specs.WorkedCases.{met, failed, stepsFrom, minorSheet, minorGraded, minorQualifies, peachPlan, peachUnits, peach, peachResults, oneUnit, WorkedCases}
+use Rattle.computed.specs.WorkedCases.{met, failed, inTenths, stepsFrom, minorSheet, minorGraded, minorQualifies, peachPlan, peachUnits, peach, peachResults, oneUnit, WorkedCases}
 
 -- P3 to P5
 module _ (numbers : PlanNumbers) where
-  at-limit : (count : ℕ) → tenthsOf count ≡ numbers .tolerance → stepOf numbers (record { tenths = numbers .limit }) count ≡ met (numbers .limit)
-  at-limit count h = sym (step-within numbers (record { tenths = numbers .limit }) count (numbers .limit) (omega arith) (omega arith))
+  at-limit : (tenths : ℕ) → tenths ≡ numbers .tolerance → stepOf numbers (record { tenths = numbers .limit }) tenths ≡ met (numbers .limit)
+  at-limit tenths h = sym (step-within numbers (record { tenths = numbers .limit }) tenths (numbers .limit) (omega arith) (omega arith))
 
-  one-above : (old count : ℕ) → rawValue numbers old count ≡ pos (numbers .limit + 1) → stepOf numbers (record { tenths = old }) count ≡ failed (numbers .limit) 1
+  one-above : (old tenths : ℕ) → rawValue numbers old tenths ≡ pos (numbers .limit + 1) → stepOf numbers (record { tenths = old }) tenths ≡ failed (numbers .limit) 1
   unfolding aboveLimit cusumOf overshootOf fails newCusum overshoot
-  one-above old count h =
+  one-above old tenths h =
       let by-one : numbers .limit + 1 - numbers .limit ≡ 1 = omega arith in
       rw (h, lt-ltb (numbers .limit) (numbers .limit + 1) (omega arith), by-one)
 
-  one-below : (old count : ℕ) → rawValue numbers old count ≡ negsuc 0 → stepOf numbers (record { tenths = old }) count ≡ met 0
+  one-below : (old tenths : ℕ) → rawValue numbers old tenths ≡ negsuc 0 → stepOf numbers (record { tenths = old }) tenths ≡ met 0
   unfolding aboveLimit cusumOf overshootOf fails newCusum overshoot
-  one-below old count h = rw h
+  one-below old tenths h = rw h
 
 pub worked-cases : WorkedCases
 unfolding computing stepsFrom minorSheet minorGraded minorQualifies peachPlan peachUnits peach peachResults oneUnit
@@ -34,9 +34,9 @@ worked-cases =
     record {
       p1 = refl;
       p2 = λ b c at-b at-c. rw (at-b, at-c);
-      p3 = at-limit;
-      p4 = (one-above, refl);
-      p5 = (one-below, refl);
+      p3 = λ numbers count. at-limit numbers (inTenths count);
+      p4 = (λ numbers old count. one-above numbers old (inTenths count), refl);
+      p5 = (λ numbers old count. one-below numbers old (inTenths count), refl);
       p6 = refl;
       p7 = refl;
       p8 = λ c. (refl, refl, refl, refl);

@@ -10,7 +10,9 @@ use lib.IntN.{pos, negsuc}
 use Rattle.cusum.specs.declared.PlanNumbers.{PlanNumbers}
 use Rattle.cusum.specs.declared.Cusum.{Cusum}
 use Rattle.cusum.specs.declared.Stepped.{Stepped}
-use Rattle.cusum.specs.Step.{tenthsOf, startOf, rawValue, stepOf}
+use Rattle.cusum.specs.declared.Defects.{Defects}
+use Rattle.cusum.specs.Counts.{defectTenths}
+use Rattle.cusum.specs.Step.{startOf, rawValue, stepOf}
 use Rattle.encoding.specs.Bytes.{high, low}
 use Rattle.units.specs.Words.{Table, zeroCusum}
 use Rattle.rules.specs.Sheet.{Sheet, inForceAt, gradedAt, qualifiesAt, stepThreeEndsAt}
@@ -28,10 +30,15 @@ met tenths = record { cusum = record { tenths = tenths }; fails = false; oversho
 abbrev pub failed : ℕ → ℕ → Stepped
 failed tenths over = record { cusum = record { tenths = tenths }; fails = true; overshoot = over }
 
+-- so many defects, as rule 2 takes them
+abbrev pub inTenths : ℕ → ℕ
+inTenths count = defectTenths (record { 0 = count })
+
 -- rule 2 at one unit after the other
 unfoldable pub stepsFrom : PlanNumbers → Cusum → List ℕ → List Stepped
 stepsFrom numbers old [] = []
-stepsFrom numbers old (count ∷ counts) = stepOf numbers old count ∷ stepsFrom numbers (stepOf numbers old count .cusum) counts
+stepsFrom numbers old (count ∷ counts) =
+    stepOf numbers old (inTenths count) ∷ stepsFrom numbers (stepOf numbers old (inTenths count) .cusum) counts
 
 -- what each unit makes of a CuSum that begins at its S
 abbrev pub steps : PlanNumbers → List ℕ → List Stepped
@@ -47,8 +54,20 @@ wide = record { start = 0; tolerance = 9999; limit = 9999 }
 abbrev pub totalTable : PlanNumbers → PlanNumbers → PlanNumbers → Table
 totalTable a b c = (wide ∷ wide ∷ wide ∷ a ∷ []) ∷ (wide ∷ wide ∷ wide ∷ b ∷ []) ∷ (wide ∷ wide ∷ wide ∷ c ∷ []) ∷ []
 
+abbrev pub none : Defects
+none = record { 0 = 0 }
+
 abbrev pub minorUnit : ℕ → SampleUnit
-minorUnit defects = record { code = 1; critical = 0; severe = 0; major = 0; minor = defects; prerequisite = 0; recoverable = true }
+minorUnit count =
+    record {
+      code = 1;
+      critical = none;
+      severe = none;
+      major = none;
+      minor = record { 0 = count };
+      prerequisite = 0;
+      recoverable = true;
+    }
 
 -- a unit for each count, and no other record; A is designated
 unfoldable pub minorSheet : Table → List ℕ → Sheet
@@ -56,7 +75,7 @@ minorSheet table counts =
     record {
       table = table;
       designated = 0;
-      entry = λ i. getD (map (λ defects. UnitRecord (minorUnit defects)) counts) i Break;
+      entry = λ i. getD (map (λ count. UnitRecord (minorUnit count)) counts) i Break;
       size = length counts;
     }
 
@@ -165,19 +184,19 @@ pub record WorkedCases : Type 0 where
   pub p2 : (b c : PlanNumbers) → b .tolerance + b .limit ≡ 100 → c .tolerance + c .limit ≡ 130
       → map (λ i. minorGraded (p2Table b c) p1Counts i .grade) (0 ∷ 1 ∷ 2 ∷ 3 ∷ 4 ∷ []) ≡ 1 ∷ 0 ∷ 0 ∷ 0 ∷ 2 ∷ []
   -- "P3: CuSum at L, count equal to T: stays L, meets." Under any S, T and L; the second unit of P1 is a case
-  pub p3 : (numbers : PlanNumbers) (count : ℕ) → tenthsOf count ≡ numbers .tolerance
-      → stepOf numbers (record { tenths = numbers .limit }) count ≡ met (numbers .limit)
+  pub p3 : (numbers : PlanNumbers) (count : ℕ) → inTenths count ≡ numbers .tolerance
+      → stepOf numbers (record { tenths = numbers .limit }) (inTenths count) ≡ met (numbers .limit)
   -- "P4: raw value L+0.1 fails." Under any S, T and L, and the CuSum becomes L, the overshoot 0.1; 1/3/3 with 6 defects from the CuSum
   -- 0.1 is a case
   pub p4 :
-      ((numbers : PlanNumbers) (old count : ℕ) → rawValue numbers old count ≡ pos (numbers .limit + 1)
-      → stepOf numbers (record { tenths = old }) count ≡ failed (numbers .limit) 1)
-      × (rawValue (record { start = 10; tolerance = 30; limit = 30 }) 1 6 ≡ pos 31)
+      ((numbers : PlanNumbers) (old count : ℕ) → rawValue numbers old (inTenths count) ≡ pos (numbers .limit + 1)
+      → stepOf numbers (record { tenths = old }) (inTenths count) ≡ failed (numbers .limit) 1)
+      × (rawValue (record { start = 10; tolerance = 30; limit = 30 }) 1 (inTenths 6) ≡ pos 31)
   -- "P5: raw -0.1 gives 0." Under any S, T and L, and the class meets; 1/3/3 with no defect from the CuSum 2.9 is a case. negsuc 0 is -1
   pub p5 :
-      ((numbers : PlanNumbers) (old count : ℕ) → rawValue numbers old count ≡ negsuc 0
-      → stepOf numbers (record { tenths = old }) count ≡ met 0)
-      × (rawValue (record { start = 10; tolerance = 30; limit = 30 }) 29 0 ≡ negsuc 0)
+      ((numbers : PlanNumbers) (old count : ℕ) → rawValue numbers old (inTenths count) ≡ negsuc 0
+      → stepOf numbers (record { tenths = old }) (inTenths count) ≡ met 0)
+      × (rawValue (record { start = 10; tolerance = 30; limit = 30 }) 29 (inTenths 0) ≡ negsuc 0)
   -- "P6: 0/0.5/0.5, counts 1,0,1: 0.5,0,0.5."
   pub p6 : steps (record { start = 0; tolerance = 5; limit = 5 }) (1 ∷ 0 ∷ 1 ∷ []) ≡ met 5 ∷ met 0 ∷ met 5 ∷ []
   -- "P7: 1.5/1.5/3, counts 1,4,3: 1, 3 (fails), 3 (fails)." The overshoots are 0.5 and 1.5

@@ -1,18 +1,17 @@
--- The 'largest of' form of demand 3, for one class: what a CuSum is, told from an anchor and the counts since it.
+-- The 'largest of' form of demand 3, for one class: what a CuSum is, told from an anchor and the counts since it, in tenths.
 use Prim.Native.Nat.{ℕ}
 use mathlib.Core.List.{List, _∷_, map}
 use lib.IntN.{ℤ, pos, _+ℤ_, _-ℤ_}
 use Rattle.cusum.specs.Integers.{largestOfZeroAnd, sumℤ, runsToEnd}
-use Rattle.cusum.specs.Step.{tenthsOf}
 use Rattle.cusum.specs.declared.PlanNumbers.{PlanNumbers}
 
 -- defects less T at a unit: ten times the class's count, minus T
 unfoldable pub defectsLessT : PlanNumbers → ℕ → ℤ
-defectsLessT numbers count = pos (tenthsOf count) -ℤ pos (numbers .tolerance)
+defectsLessT numbers tenths = pos tenths -ℤ pos (numbers .tolerance)
 
 -- the largest of zero, the anchor plus the sum of defects less T since it, and every such sum, without the anchor, over a run of
 -- units that starts after the anchor and ends with the last
 unfoldable pub largestForm : PlanNumbers → ℕ → List ℕ → ℤ
-largestForm numbers anchor counts =
-    let since = map (defectsLessT numbers) counts in
+largestForm numbers anchor tenths =
+    let since = map (defectsLessT numbers) tenths in
     largestOfZeroAnd ((pos anchor +ℤ sumℤ since) ∷ map sumℤ (runsToEnd since))

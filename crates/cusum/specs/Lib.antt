@@ -1,3 +1,4 @@
 pub mod Integers
+pub mod Counts
 pub mod Step
 pub mod LargestForm

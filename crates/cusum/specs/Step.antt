@@ -1,15 +1,11 @@
--- Rules 1 and 2 of grading a unit, for one class. S, T and L are the fields start, tolerance and limit; all are tenths.
-use Prim.Native.Nat.{ℕ, _+_, _*_, _-_}
+-- Rules 1 and 2 of grading a unit, for one class. S, T and L are the fields start, tolerance and limit; they and the count are in tenths.
+use Prim.Native.Nat.{ℕ, _+_, _-_}
 use mathlib.Core.Bool.{Bool, false, cond}
 use lib.Dec.{ltb}
 use lib.IntN.{ℤ, pos, negsuc, _-ℤ_}
 use Rattle.cusum.specs.declared.PlanNumbers.{PlanNumbers}
 use Rattle.cusum.specs.declared.Cusum.{Cusum}
 use Rattle.cusum.specs.declared.Stepped.{Stepped}
-
--- a defect is ten tenths
-abbrev pub tenthsOf : ℕ → ℕ
-tenthsOf count = 10 * count
 
 -- the most tenths that the two bytes of a CuSum hold in a result record
 abbrev pub largestTenths : ℕ
@@ -21,7 +17,7 @@ startOf numbers = record { tenths = numbers .start }
 
 -- raw value = old CuSum + ten times the count - T
 unfoldable pub rawValue : PlanNumbers → ℕ → ℕ → ℤ
-rawValue numbers old count = pos (old + tenthsOf count) -ℤ pos (numbers .tolerance)
+rawValue numbers old tenths = pos (old + tenths) -ℤ pos (numbers .tolerance)
 
 -- if it is above L, the class fails
 unfoldable pub aboveLimit : PlanNumbers → ℤ → Bool
@@ -40,18 +36,18 @@ overshootOf numbers (negsuc raw) = 0
 
 -- rule 2: whether the class fails, the new CuSum, and the overshoot
 unfoldable pub fails : PlanNumbers → ℕ → ℕ → Bool
-fails numbers old count = aboveLimit numbers (rawValue numbers old count)
+fails numbers old tenths = aboveLimit numbers (rawValue numbers old tenths)
 
 unfoldable pub newCusum : PlanNumbers → ℕ → ℕ → ℕ
-newCusum numbers old count = cusumOf numbers (rawValue numbers old count)
+newCusum numbers old tenths = cusumOf numbers (rawValue numbers old tenths)
 
 unfoldable pub overshoot : PlanNumbers → ℕ → ℕ → ℕ
-overshoot numbers old count = overshootOf numbers (rawValue numbers old count)
+overshoot numbers old tenths = overshootOf numbers (rawValue numbers old tenths)
 
 abbrev pub stepOf : PlanNumbers → Cusum → ℕ → Stepped
-stepOf numbers old count =
+stepOf numbers old tenths =
     record {
-      cusum = record { tenths = newCusum numbers (old .tenths) count };
-      fails = fails numbers (old .tenths) count;
-      overshoot = overshoot numbers (old .tenths) count;
+      cusum = record { tenths = newCusum numbers (old .tenths) tenths };
+      fails = fails numbers (old .tenths) tenths;
+      overshoot = overshoot numbers (old .tenths) tenths;
     }

@@ -1,7 +1,15 @@
-// Rules 1 and 2 of grading a unit: where a CuSum begins, and what a count makes of it.
+// Rules 1 and 2 of grading a unit: where a CuSum begins, and what a count, turned into tenths, makes of it.
 ghost use mathlib.Core.Path.{_≡_};
 ghost use Prim.Native.Nat.{_-_, min};
-ghost use Rattle.cusum.specs.Step.{tenthsOf, startOf, stepOf};
+ghost use Rattle.cusum.specs.Counts.{tenTimes, defectTenths, fieldTenths};
+ghost use Rattle.cusum.specs.Step.{startOf, stepOf};
+
+// A count of defects.
+pub struct Defects(pub u16);
+
+// A count of defective fields. A defective field is one however many defects it holds, so that the two counts are never added or
+// compared: no function takes one for the other.
+pub struct DefectiveFields(pub u8);
 
 // S (start), T (tolerance) and L (acceptance limit) of a class in a plan, in tenths.
 pub struct PlanNumbers {
@@ -22,11 +30,29 @@ pub struct Stepped {
     pub overshoot: u64,
 }
 
-// The tenths of a count: a defect is ten tenths.
-pub fn tenths(count: u32) -> u64
-    ensures { λ r. ⌜ r ≡ tenthsOf count ⌝ }
+// Ten times a number, for both counts.
+fn ten_times(number: u16) -> u32
+    ensures { λ r. ⌜ r ≡ tenTimes number ⌝ }
 {
-    10 * count as u64
+    10 * number as u32
+}
+
+impl Defects {
+    // A defect is ten tenths.
+    pub fn tenths(self) -> u32
+        ensures { λ r. ⌜ r ≡ defectTenths self ⌝ }
+    {
+        ten_times(self.0)
+    }
+}
+
+impl DefectiveFields {
+    // A field is ten tenths.
+    pub fn tenths(self) -> u32
+        ensures { λ r. ⌜ r ≡ fieldTenths self ⌝ }
+    {
+        ten_times(self.0 as u16)
+    }
 }
 
 // What a number of tenths has above a bound; zero if nothing.
@@ -57,11 +83,11 @@ impl Cusum {
         }
     }
 
-    // Rule 2: the CuSum after a unit with this count, whether the class fails, and the overshoot.
-    pub fn step(self, numbers: PlanNumbers, count: u32) -> Stepped
-        ensures { λ r. ⌜ r ≡ stepOf numbers self count ⌝ }
+    // Rule 2: the CuSum after a unit with this count, in tenths, whether the class fails, and the overshoot.
+    pub fn step(self, numbers: PlanNumbers, tenths: u32) -> Stepped
+        ensures { λ r. ⌜ r ≡ stepOf numbers self tenths ⌝ }
     {
-        let sum = self.tenths as u64 + tenths(count);
+        let sum = self.tenths as u64 + tenths as u64;
         let tolerance = numbers.tolerance as u64;
         let limit = numbers.limit as u64;
         let above = excess(sum, tolerance);

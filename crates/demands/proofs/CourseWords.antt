@@ -1,19 +1,19 @@
 -- The course of an accepted sheet, and its words: each test of the definitions tells the statement that the course makes of the bytes.
 -- Each by cases on the record there; a test over the classes tells what holds of one, or of every, class.
-use Prim.Native.Nat.{ℕ, zero, suc, _+_, _<_, _≤_}
+use Prim.Native.Nat.{ℕ, zero, suc, _+_, _*_, _<_, _≤_}
 use mathlib.Core.Path.{_≡_, refl, sym, _∙_, ap, subst, subst⁻¹}
 use mathlib.Core.Bool.{Bool, true, false, not, _&&_, true≢false, false≢true}
-use mathlib.Core.List.{List, [], _∷_}
+use mathlib.Core.List.{List, [], _∷_, map}
 use mathlib.Core.Logic.{_⊎_, inl, inr, ⊎-elim, _↔_}
 use native.Mathlib.Omega.{arith}
 use lib.Dec.{ltb, leb, eqb}
 use lib.ListN.{length, getD}
 use borrow.Author.Tests.{ltb-true, ltb-false}
-use Rattle.cusum.specs.Step.{tenthsOf, fails}
+use Rattle.cusum.specs.Step.{fails}
 use Rattle.cusum.specs.declared.Cusum.{Cusum}
 use Rattle.cusum.proofs.Laws.{fails-true, fails-false}
 use Rattle.encoding.specs.Bytes.{number}
-use Rattle.units.specs.Words.{substandard, classes, hasPlan, numbersOf, countsOf, countIn, tenthsIn}
+use Rattle.units.specs.Words.{substandard, classes, hasPlan, numbersOf, tenthsOf, countIn, tenthsIn}
 use Rattle.units.specs.Unit.{classFails, classCusum, classOvershoot, unitFails, allZero, noneAbove, withinTolerance, qualifies}
 use Rattle.units.specs.declared.SampleUnit.{SampleUnit}
 use Rattle.units.specs.declared.Entry.{Entry}
@@ -48,6 +48,16 @@ use Rattle.answers.proofs.Rows.{numbers-there, Marked, as-unit, as-redesignatio
 abbrev pub unitIn : List ℕ → ℕ → SampleUnit
 unitIn bytes i = sampleUnitAt bytes (offset bytes i)
 
+ten-times-each : (counts : List ℕ) (class : ℕ) → countIn (map (λ count. 10 * count) counts) class ≡ 10 * getD counts class 0
+ten-times-each [] class = refl
+ten-times-each (count ∷ counts) zero = refl
+ten-times-each (count ∷ counts) (suc class) = ten-times-each counts class
+
+-- its count in a class, in tenths, is ten times the one that stands in the bytes
+pub count-is : (bytes : List ℕ) (i class : ℕ) → countIn (tenthsOf (unitIn bytes i)) class ≡ tenTimes bytes i class
+unfolding sampleUnitAt
+count-is bytes i class = ten-times-each (classCounts bytes i) class
+
 -- as the definitions grade it
 abbrev pub courseOf : List ℕ → Course
 courseOf bytes =
@@ -57,9 +67,9 @@ courseOf bytes =
       planGrade = inForceAt (sheetIn bytes);
       cusum = λ i class. tenthsIn (before (sheetIn bytes) i .cusums) class;
       newCusum = λ i class.
-          classCusum (sheetIn bytes .table) (inForceAt (sheetIn bytes) i) (before (sheetIn bytes) i .cusums) (countsOf (unitIn bytes i)) class;
+          classCusum (sheetIn bytes .table) (inForceAt (sheetIn bytes) i) (before (sheetIn bytes) i .cusums) (tenthsOf (unitIn bytes i)) class;
       overshoot = λ i class.
-          classOvershoot (sheetIn bytes .table) (inForceAt (sheetIn bytes) i) (before (sheetIn bytes) i .cusums) (countsOf (unitIn bytes i)) class;
+          classOvershoot (sheetIn bytes .table) (inForceAt (sheetIn bytes) i) (before (sheetIn bytes) i .cusums) (tenthsOf (unitIn bytes i)) class;
       defectGrade = λ i. gradedAt (sheetIn bytes) i (unitIn bytes i) .grade;
     }
 
@@ -133,14 +143,14 @@ module _ (bytes : List ℕ) (facts : Facts bytes (recordsIn bytes)) where
   -- ---- failing
 
   pub tells-class : (i class : ℕ) → class < length classes
-      → Tells (classFails (sheet .table) (inForceAt sheet i) (before sheet i .cusums) (countsOf (unitIn bytes i)) class) (ClassFails bytes course i class)
-  unfolding classFails hasPlan sampleUnitAt
+      → Tells (classFails (sheet .table) (inForceAt sheet i) (before sheet i .cusums) (tenthsOf (unitIn bytes i)) class) (ClassFails bytes course i class)
+  unfolding classFails hasPlan
   tells-class i class known =
       go (ltb (inForceAt sheet i) substandard) refl
-      (fails (numbersOf (sheet .table) (inForceAt sheet i) class) (tenthsIn (before sheet i .cusums) class) (countIn (countsOf (unitIn bytes i)) class)) refl
+      (fails (numbersOf (sheet .table) (inForceAt sheet i) class) (tenthsIn (before sheet i .cusums) class) (countIn (tenthsOf (unitIn bytes i)) class)) refl
     where
       go : (planned : Bool) → ltb (inForceAt sheet i) substandard ≡ planned → (failing : Bool)
-          → fails (numbersOf (sheet .table) (inForceAt sheet i) class) (tenthsIn (before sheet i .cusums) class) (countIn (countsOf (unitIn bytes i)) class) ≡ failing
+          → fails (numbersOf (sheet .table) (inForceAt sheet i) class) (tenthsIn (before sheet i .cusums) class) (countIn (tenthsOf (unitIn bytes i)) class) ≡ failing
           → Tells (planned && failing) (ClassFails bytes course i class)
       go false e failing f =
           record { so = λ never. absurd (false≢true never); not-so = λ _ here. omega (arith, ltb-false (inForceAt sheet i) substandard e, here .planned) }
@@ -148,7 +158,7 @@ module _ (bytes : List ℕ) (facts : Facts bytes (recordsIn bytes)) where
           let planned = ltb-true (inForceAt sheet i) substandard e in
           let (start, tolerance, limit) = numbers-in (inForceAt sheet i) class planned known in
           record {
-            so = λ _. record { planned = planned; above = omega (arith, fails-true _ _ _ f, tolerance, limit) };
+            so = λ _. record { planned = planned; above = omega (arith, fails-true _ _ _ f, count-is bytes i class, tolerance, limit) };
             not-so = λ never. absurd (true≢false never);
           }
       go true e false f =
@@ -156,7 +166,7 @@ module _ (bytes : List ℕ) (facts : Facts bytes (recordsIn bytes)) where
           let (start, tolerance, limit) = numbers-in (inForceAt sheet i) class planned known in
           record {
             so = λ never. absurd (false≢true never);
-            not-so = λ _ here. omega (arith, fails-false _ _ _ f, here .above, tolerance, limit);
+            not-so = λ _ here. omega (arith, fails-false _ _ _ f, count-is bytes i class, here .above, tolerance, limit);
           }
 
   pub tells-class-at : (i class : ℕ) → UnitAt bytes i → class < length classes → Tells (classFailsAt sheet class i) (ClassFails bytes course i class)
@@ -170,7 +180,7 @@ module _ (bytes : List ℕ) (facts : Facts bytes (recordsIn bytes)) where
   only-units-fail i class none = other-entry i none (λ entry. failsAt (sheet .table) class (before sheet i) entry ≡ false) (λ new. refl) refl
 
   -- a unit fails in one of its classes
-  pub tells-unit : (i : ℕ) → Tells (unitFails (sheet .table) (inForceAt sheet i) (before sheet i .cusums) (countsOf (unitIn bytes i))) (UnitFails bytes course i)
+  pub tells-unit : (i : ℕ) → Tells (unitFails (sheet .table) (inForceAt sheet i) (before sheet i .cusums) (tenthsOf (unitIn bytes i))) (UnitFails bytes course i)
   unfolding unitFails
   tells-unit i =
       tells-as
@@ -194,10 +204,10 @@ module _ (bytes : List ℕ) (facts : Facts bytes (recordsIn bytes)) where
       go (UnitRecord unit) e =
           let at = unit-there i unit e in
           let same : unit ≡ unitIn bytes i = unit-is bytes i unit (sym (entry-is i) ∙ e) in
-          subst⁻¹ (λ (u : SampleUnit). Tells (not (inStepThree (before sheet i .phase)) && unitFails (sheet .table) (designatedAt sheet i) (before sheet i .cusums) (countsOf u))
+          subst⁻¹ (λ (u : SampleUnit). Tells (not (inStepThree (before sheet i .phase)) && unitFails (sheet .table) (designatedAt sheet i) (before sheet i .cusums) (tenthsOf u))
           (FailsDesignated bytes course i)) same
           (subst⁻¹ (λ (test : Bool). Tells test (FailsDesignated bytes course i))
-          (outside-in-force (designatedAt sheet i) (before sheet i .phase) (before sheet i .cusums) (countsOf (unitIn bytes i)))
+          (outside-in-force (designatedAt sheet i) (before sheet i .phase) (before sheet i .cusums) (tenthsOf (unitIn bytes i)))
           (tells-as
           (λ (outside, fails-here). record { unit = at; outside-step-three = outside; fails = fails-here })
           (λ (here : FailsDesignated bytes course i). (here .outside-step-three, here .fails))
@@ -218,9 +228,9 @@ module _ (bytes : List ℕ) (facts : Facts bytes (recordsIn bytes)) where
 
   -- ---- counts
 
-  pub counts-of-unit : (i class : ℕ) → UnitAt bytes i → countsFrom sheet class i 1 ≡ getD (classCounts bytes i) class 0 ∷ []
-  unfolding countAt sampleUnitAt
-  counts-of-unit i class at = counts-of-one sheet class i ∙ ap (countAt class) (unit-here i at)
+  pub counts-of-unit : (i class : ℕ) → UnitAt bytes i → countsFrom sheet class i 1 ≡ tenTimes bytes i class ∷ []
+  unfolding countAt
+  counts-of-unit i class at = counts-of-one sheet class i ∙ ap (countAt class) (unit-here i at) ∙ ap (λ (tenths : ℕ). tenths ∷ []) (count-is bytes i class)
 
   pub counts-of-other : (i class : ℕ) → (UnitAt bytes i → ⊥) → countsFrom sheet class i 1 ≡ []
   unfolding countAt
@@ -235,14 +245,13 @@ module _ (bytes : List ℕ) (facts : Facts bytes (recordsIn bytes)) where
       (tells-eq (course .newCusum i class) 0)
 
   within-tells : (i class : ℕ) → class < length classes
-      → Tells (leb (tenthsOf (countIn (countsOf (unitIn bytes i)) class)) (numbersOf (sheet .table) (designatedAt sheet i) class .tolerance))
+      → Tells (leb (countIn (tenthsOf (unitIn bytes i)) class) (numbersOf (sheet .table) (designatedAt sheet i) class .tolerance))
       (tenTimes bytes i class ≤ toleranceIn bytes (designatedBefore bytes i) class)
-  unfolding sampleUnitAt
   within-tells i class known =
       let (start, tolerance, limit) = numbers-in (designatedAt sheet i) class (designated-lt i) known in
       let same : numbersOf (sheet .table) (designatedAt sheet i) class .tolerance ≡ toleranceIn bytes (designatedBefore bytes i) class
       = tolerance ∙ ap (λ (grade : ℕ). toleranceIn bytes grade class) (designated-is i) in
-      rw same (tells-le (tenTimes bytes i class) (toleranceIn bytes (designatedBefore bytes i) class))
+      rw (same, count-is bytes i class) (tells-le (tenTimes bytes i class) (toleranceIn bytes (designatedBefore bytes i) class))
 
   pub tells-qualifies : (i : ℕ) → Tells (unitQualifiesAt sheet i) (Qualifies bytes course i)
   unfolding unitQualifiesAt recordQualifies qualifiesWith qualifies allZero withinTolerance noneAbove

@@ -13,7 +13,7 @@ use Rattle.cusum.specs.declared.PlanNumbers.{PlanNumbers}
 use Rattle.cusum.specs.Step.{newCusum, overshoot}
 use Rattle.cusum.proofs.Laws.{new-cusum-is, overshoot-is, overshoot-met}
 use Rattle.encoding.specs.Bytes.{byte}
-use Rattle.units.specs.Words.{substandard, hasPlan, classes, worse, rowOf, inClass, numbersOf, countsOf, countIn, tenthsIn}
+use Rattle.units.specs.Words.{substandard, hasPlan, classes, worse, rowOf, inClass, numbersOf, tenthsOf, countIn, tenthsIn}
 use Rattle.units.specs.Unit.{starting, classFails, classCusum, classOvershoot, unitFails, defectGrade, portionGradeOf}
 use Rattle.units.specs.BestLower.{BestLower}
 use Rattle.units.specs.Records.{worstBefore}
@@ -98,11 +98,11 @@ module _ (bytes : List ℕ) (facts : Facts bytes (recordsIn bytes)) where
   planned-cusum : (i class : ℕ) → class < length classes → inForceAt sheet i < substandard
       → course .newCusum i class ≡ min (limitIn bytes (inForceAt sheet i) class)
       (course .cusum i class + tenTimes bytes i class - toleranceIn bytes (inForceAt sheet i) class)
-  unfolding classCusum hasPlan sampleUnitAt
+  unfolding classCusum hasPlan
   planned-cusum i class known planned =
       let (start, tolerance, limit) = words.numbers-in bytes facts (inForceAt sheet i) class planned known in
-      rw (lt-ltb (inForceAt sheet i) substandard planned, ← tolerance, ← limit)
-      (new-cusum-is (numbersOf (sheet .table) (inForceAt sheet i) class) (course .cusum i class) (countIn (countsOf (unitIn bytes i)) class))
+      rw (lt-ltb (inForceAt sheet i) substandard planned, ← tolerance, ← limit, ← words.count-is bytes i class)
+      (new-cusum-is (numbersOf (sheet .table) (inForceAt sheet i) class) (course .cusum i class) (countIn (tenthsOf (unitIn bytes i)) class))
 
   no-plan-cusum : (i class : ℕ) → inForceAt sheet i ≡ substandard → course .newCusum i class ≡ 0
   unfolding classCusum hasPlan
@@ -112,11 +112,11 @@ module _ (bytes : List ℕ) (facts : Facts bytes (recordsIn bytes)) where
   planned-overshoot : (i class : ℕ) → class < length classes → inForceAt sheet i < substandard
       → course .overshoot i class
       ≡ course .cusum i class + tenTimes bytes i class - toleranceIn bytes (inForceAt sheet i) class - limitIn bytes (inForceAt sheet i) class
-  unfolding classOvershoot hasPlan sampleUnitAt
+  unfolding classOvershoot hasPlan
   planned-overshoot i class known planned =
       let (start, tolerance, limit) = words.numbers-in bytes facts (inForceAt sheet i) class planned known in
-      rw (lt-ltb (inForceAt sheet i) substandard planned, ← tolerance, ← limit)
-      (overshoot-is (numbersOf (sheet .table) (inForceAt sheet i) class) (course .cusum i class) (countIn (countsOf (unitIn bytes i)) class))
+      rw (lt-ltb (inForceAt sheet i) substandard planned, ← tolerance, ← limit, ← words.count-is bytes i class)
+      (overshoot-is (numbersOf (sheet .table) (inForceAt sheet i) class) (course .cusum i class) (countIn (tenthsOf (unitIn bytes i)) class))
 
   not-over : (i class : ℕ) → class < length classes → (ClassFails bytes course i class → ⊥) → course .overshoot i class ≡ 0
   unfolding classOvershoot
@@ -125,12 +125,12 @@ module _ (bytes : List ℕ) (facts : Facts bytes (recordsIn bytes)) where
       numbers : PlanNumbers
       numbers = numbersOf (sheet .table) (inForceAt sheet i) class
 
-      meets : classFails (sheet .table) (inForceAt sheet i) (before sheet i .cusums) (countsOf (unitIn bytes i)) class ≡ false
+      meets : classFails (sheet .table) (inForceAt sheet i) (before sheet i .cusums) (tenthsOf (unitIn bytes i)) class ≡ false
       meets = not-told (words.tells-class bytes facts i class known) none
 
       go : (planned : Bool) → hasPlan (inForceAt sheet i) ≡ planned
-          → cond planned (overshoot numbers (course .cusum i class) (countIn (countsOf (unitIn bytes i)) class)) 0 ≡ 0
-      go true planned = overshoot-met numbers (course .cusum i class) (countIn (countsOf (unitIn bytes i)) class) (unfold classFails in rw planned at meets)
+          → cond planned (overshoot numbers (course .cusum i class) (countIn (tenthsOf (unitIn bytes i)) class)) 0 ≡ 0
+      go true planned = overshoot-met numbers (course .cusum i class) (countIn (tenthsOf (unitIn bytes i)) class) (unfold classFails in rw planned at meets)
       go false no-plan = refl
 
   rule-two : (i class : ℕ) → UnitAt bytes i → class < length classes → RuleTwo bytes course i class
@@ -147,16 +147,16 @@ module _ (bytes : List ℕ) (facts : Facts bytes (recordsIn bytes)) where
   -- ---- rule 3
 
   abbrev pub failing : ℕ → Bool
-  failing i = unitFails (sheet .table) (inForceAt sheet i) (before sheet i .cusums) (countsOf (unitIn bytes i))
+  failing i = unitFails (sheet .table) (inForceAt sheet i) (before sheet i .cusums) (tenthsOf (unitIn bytes i))
 
   defect-meets : (i : ℕ) → failing i ≡ false → course .defectGrade i ≡ inForceAt sheet i
   unfolding graded defectGrade
   defect-meets i e = rw e
 
   defect-fails : (i : ℕ) → failing i ≡ true → inForceAt sheet i < substandard
-      → BestLower (sheet .table) (inForceAt sheet i) (countsOf (unitIn bytes i)) (course .defectGrade i)
+      → BestLower (sheet .table) (inForceAt sheet i) (tenthsOf (unitIn bytes i)) (course .defectGrade i)
   unfolding graded defectGrade
-  defect-fails i e planned = rw e (best-lower-is (sheet .table) (countsOf (unitIn bytes i)) (inForceAt sheet i) planned)
+  defect-fails i e planned = rw e (best-lower-is (sheet .table) (tenthsOf (unitIn bytes i)) (inForceAt sheet i) planned)
 
   -- the bound of a grade that has a plan
   bound-is : (grade class : ℕ) → grade < substandard → class < length classes
@@ -166,16 +166,17 @@ module _ (bytes : List ℕ) (facts : Facts bytes (recordsIn bytes)) where
       let (start, tolerance, limit) = words.numbers-in bytes facts grade class planned known in
       omega (arith, tolerance, limit)
 
-  best-lower : (i grade : ℕ) → BestLower (sheet .table) (inForceAt sheet i) (countsOf (unitIn bytes i)) grade → BestLowerGrade bytes course i grade
-  unfolding sampleUnitAt
+  best-lower : (i grade : ℕ) → BestLower (sheet .table) (inForceAt sheet i) (tenthsOf (unitIn bytes i)) grade → BestLowerGrade bytes course i grade
   best-lower i grade best =
       record {
         lower = best .lower;
         a-grade = best .grade-or-none;
-        admits = λ planned class known. omega (arith, best .admits planned class known, bound-is grade class planned known);
+        admits = λ planned class known.
+            omega (arith, best .admits planned class known, words.count-is bytes i class, bound-is grade class planned known);
         none-better = λ better above below every.
             best .none-better better above below
-            (λ class known. omega (arith, every class known, bound-is better class (omega (arith, best .grade-or-none)) known));
+            (λ class known.
+            omega (arith, every class known, words.count-is bytes i class, bound-is better class (omega (arith, best .grade-or-none)) known));
       }
 
   rule-three : (i : ℕ) → UnitAt bytes i → RuleThree bytes course i
@@ -422,6 +423,7 @@ module _ (bytes buffer : List ℕ) (answer : Answer) (results : List ℕ) (accep
                 arith,
                 recorded-overshoot bytes buffer answer results accepted i at class known,
                 overshoot-at-most bytes buffer answer results accepted i at class known,
+                words.count-is bytes i class,
               );
           portion = λ none. portion-is false (not-recovered bytes passed i none);
           recovered-portion = λ here.

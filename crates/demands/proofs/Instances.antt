@@ -83,10 +83,10 @@ run-latest =
     }
 
 largest-run : (buffer : List ℕ) → resultSize * 6 ≤ length buffer
-    → LargestNumber everyKindOfRecord (everyKindLeft buffer) 6 2 5 false (0 ∷ 9 ∷ []) 30
+    → LargestNumber everyKindOfRecord (everyKindLeft buffer) 6 2 5 false (0 ∷ 90 ∷ []) 30
 unfolding computing peachPlan everyKindOfRecord
 largest-run =
-    number-recorded everyKindOfRecord everyKindOfRecordResults 6 everyKindAnswer every-kind-accepted 9 refl 6 2 5 false (0 ∷ 9 ∷ []) 30
+    number-recorded everyKindOfRecord everyKindOfRecordResults 6 everyKindAnswer every-kind-accepted 9 refl 6 2 5 false (0 ∷ 90 ∷ []) 30
     refl (lit< tt) refl (restart 4 (lit< tt) refl) run-latest refl refl
 
 -- ---- demand 3, the second half
@@ -174,10 +174,10 @@ fewer-defects-meets buffer buffer' holds holds' =
 -- ---- and once more the first half
 
 largest-anchored : (buffer : List ℕ) → resultSize * 3 ≤ length buffer
-    → LargestNumber oneMinorDefectFewer (left oneMinorDefectFewerResults 3 buffer) 3 3 3 true (5 ∷ []) 30
+    → LargestNumber oneMinorDefectFewer (left oneMinorDefectFewerResults 3 buffer) 3 3 3 true (50 ∷ []) 30
 unfolding computing peachPlan oneMinorDefectFewer
 largest-anchored =
-    number-recorded oneMinorDefectFewer oneMinorDefectFewerResults 3 threeAccepted minor-accepted 4 refl 3 3 3 true (5 ∷ []) 30
+    number-recorded oneMinorDefectFewer oneMinorDefectFewerResults 3 threeAccepted minor-accepted 4 refl 3 3 3 true (50 ∷ []) 30
     refl (lit< tt) refl (failure 2 (lit< tt) refl (λ before. refl))
     (record { no-failure = λ j from to. let here : j ≡ 3 = omega arith in rw here; no-restart = λ j from before. absurd (omega arith) }) refl refl
 

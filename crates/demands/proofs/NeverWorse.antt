@@ -8,7 +8,7 @@ use mathlib.Core.List.{List}
 use native.Mathlib.Omega.{arith}
 use lib.Dec.{leb}
 use borrow.Author.Tests.{leb-true, leb-false}
-use Rattle.units.specs.Words.{tableOf, countsOf}
+use Rattle.units.specs.Words.{tableOf, tenthsOf}
 use Rattle.units.specs.Unit.{classCusum, classOvershoot}
 use Rattle.rules.specs.Sheet.{Sheet, before, inForceAt, portionGrade, codeGrade}
 use Rattle.rules.specs.Anchor.{classFailsAt}
@@ -82,18 +82,18 @@ module _ (bytes bytes' buffer buffer' : List ℕ) (answer answer' : Answer) (res
 
     -- CuSums, overshoots and failures, over records
     compared : ((j : ℕ) → j < i → secondInARow (sheetIn bytes') j ≡ false) → (class : ℕ)
-        → (classCusum (sheetIn bytes .table) (inForceAt (sheetIn bytes) i) (before (sheetIn bytes) i .cusums) (countsOf unit) class
-        ≤ classCusum (sheetIn bytes' .table) (inForceAt (sheetIn bytes') i) (before (sheetIn bytes') i .cusums) (countsOf unit') class)
-        × (classOvershoot (sheetIn bytes .table) (inForceAt (sheetIn bytes) i) (before (sheetIn bytes) i .cusums) (countsOf unit) class
-        ≤ classOvershoot (sheetIn bytes' .table) (inForceAt (sheetIn bytes') i) (before (sheetIn bytes') i .cusums) (countsOf unit') class)
+        → (classCusum (sheetIn bytes .table) (inForceAt (sheetIn bytes) i) (before (sheetIn bytes) i .cusums) (tenthsOf unit) class
+        ≤ classCusum (sheetIn bytes' .table) (inForceAt (sheetIn bytes') i) (before (sheetIn bytes') i .cusums) (tenthsOf unit') class)
+        × (classOvershoot (sheetIn bytes .table) (inForceAt (sheetIn bytes) i) (before (sheetIn bytes) i .cusums) (tenthsOf unit) class
+        ≤ classOvershoot (sheetIn bytes' .table) (inForceAt (sheetIn bytes') i) (before (sheetIn bytes') i .cusums) (tenthsOf unit') class)
         × (classFailsAt (sheetIn bytes) class i ≡ true → classFailsAt (sheetIn bytes') class i ≡ true)
     unfolding sheetIn sheetOf
     compared =
         subst⁻¹ (λ (s : Sheet). ((j : ℕ) → j < i → secondInARow s j ≡ false) → (class : ℕ)
-        → (classCusum (sheetIn bytes .table) (inForceAt (sheetIn bytes) i) (before (sheetIn bytes) i .cusums) (countsOf unit) class
-        ≤ classCusum (s .table) (inForceAt s i) (before s i .cusums) (countsOf unit') class)
-        × (classOvershoot (sheetIn bytes .table) (inForceAt (sheetIn bytes) i) (before (sheetIn bytes) i .cusums) (countsOf unit) class
-        ≤ classOvershoot (s .table) (inForceAt s i) (before s i .cusums) (countsOf unit') class)
+        → (classCusum (sheetIn bytes .table) (inForceAt (sheetIn bytes) i) (before (sheetIn bytes) i .cusums) (tenthsOf unit) class
+        ≤ classCusum (s .table) (inForceAt s i) (before s i .cusums) (tenthsOf unit') class)
+        × (classOvershoot (sheetIn bytes .table) (inForceAt (sheetIn bytes) i) (before (sheetIn bytes) i .cusums) (tenthsOf unit) class
+        ≤ classOvershoot (s .table) (inForceAt s i) (before s i .cusums) (tenthsOf unit') class)
         × (classFailsAt (sheetIn bytes) class i ≡ true → classFailsAt s class i ≡ true)) is-fellow
         (fewer-cusums (tableOf (planOf bytes)) (planOf bytes .designated) (entryAt bytes) (entryAt bytes') (recordsIn bytes) fellows none i unit unit'
         (entry-unit bytes i (at .is-unit)) (entry-unit bytes' i (unit-fellow i at .is-unit)))

@@ -6,9 +6,9 @@ use mathlib.Core.Path.{_≡_, _∙_, ap₂}
 use mathlib.Core.List.{List, _++_}
 use native.Mathlib.Omega.{arith}
 use lib.ListN.{length, drop}
-use Rattle.cusum.specs.Step.{tenthsOf, largestTenths}
+use Rattle.cusum.specs.Step.{largestTenths}
 use Rattle.encoding.specs.Bytes.{byte}
-use Rattle.units.specs.Words.{substandard, classes, tenthsIn, countsOf, countIn}
+use Rattle.units.specs.Words.{substandard, classes, tenthsIn, tenthsOf, countIn}
 use Rattle.units.specs.Unit.{classCusum, classOvershoot}
 use Rattle.units.specs.Records.{unitsAmong}
 use Rattle.units.specs.declared.SampleUnit.{SampleUnit}
@@ -104,7 +104,7 @@ module _ (bytes buffer : List ℕ) (answer : Answer) (results : List ℕ) (accep
 
     pub recorded-cusum : (class : ℕ) → class < length classes
         → recordedCusum bytes results i class
-        ≡ classCusum (sheetIn bytes .table) (inForceAt (sheetIn bytes) i) (before (sheetIn bytes) i .cusums) (countsOf (sampleUnitAt bytes (offset bytes i))) class
+        ≡ classCusum (sheetIn bytes .table) (inForceAt (sheetIn bytes) i) (before (sheetIn bytes) i .cusums) (tenthsOf (sampleUnitAt bytes (offset bytes i))) class
     unfolding resultOf resultWith
     recorded-cusum class inside =
         let small = cusum-in-two-bytes class inside in
@@ -114,17 +114,17 @@ module _ (bytes buffer : List ℕ) (answer : Answer) (results : List ℕ) (accep
 
     -- an overshoot is at most the unit's own defects
     pub overshoot-at-most : (class : ℕ) → class < length classes
-        → classOvershoot (sheetIn bytes .table) (inForceAt (sheetIn bytes) i) (before (sheetIn bytes) i .cusums) (countsOf (sampleUnitAt bytes (offset bytes i))) class
-        ≤ tenthsOf (countIn (countsOf (sampleUnitAt bytes (offset bytes i))) class)
+        → classOvershoot (sheetIn bytes .table) (inForceAt (sheetIn bytes) i) (before (sheetIn bytes) i .cusums) (tenthsOf (sampleUnitAt bytes (offset bytes i))) class
+        ≤ countIn (tenthsOf (sampleUnitAt bytes (offset bytes i))) class
     unfolding sheetIn sheetOf
     overshoot-at-most class inside =
-        class-overshoot-le (sheetIn bytes .table) (inForceAt (sheetIn bytes) i) (before (sheetIn bytes) i .cusums) (countsOf unit) class
+        class-overshoot-le (sheetIn bytes .table) (inForceAt (sheetIn bytes) i) (before (sheetIn bytes) i .cusums) (tenthsOf unit) class
         (λ planned. within-limit (sheetIn bytes) class inside i planned
         (start-le-limit bytes (recordsIn bytes) (sheet-accepted .facts) (inForceAt (sheetIn bytes) i) class))
 
     pub recorded-overshoot : (class : ℕ) → class < length classes
         → recordedOvershoot bytes results i class
-        ≡ classOvershoot (sheetIn bytes .table) (inForceAt (sheetIn bytes) i) (before (sheetIn bytes) i .cusums) (countsOf (sampleUnitAt bytes (offset bytes i))) class
+        ≡ classOvershoot (sheetIn bytes .table) (inForceAt (sheetIn bytes) i) (before (sheetIn bytes) i .cusums) (tenthsOf (sampleUnitAt bytes (offset bytes i))) class
     unfolding resultOf resultWith
     recorded-overshoot class inside =
         let is = overshoot-graded (sheetIn bytes) i unit class inside in
@@ -139,7 +139,7 @@ module _ (bytes buffer : List ℕ) (answer : Answer) (results : List ℕ) (accep
     pub recorded-cusum-le : (class : ℕ) → class < length classes → recordedCusum bytes results i class ≤ numbersInForce bytes i class .limit
     recorded-cusum-le class inside =
         rw (recorded-cusum class inside)
-        (class-cusum-le (sheetIn bytes .table) (inForceAt (sheetIn bytes) i) (before (sheetIn bytes) i .cusums) (countsOf unit) class)
+        (class-cusum-le (sheetIn bytes .table) (inForceAt (sheetIn bytes) i) (before (sheetIn bytes) i .cusums) (tenthsOf unit) class)
 
     pub recorded-portion-le : recordedPortionGrade bytes results i ≤ substandard
     unfolding sheetIn

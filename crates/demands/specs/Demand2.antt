@@ -5,7 +5,7 @@ use mathlib.Core.Path.{_≡_}
 use mathlib.Core.Bool.{true, false}
 use mathlib.Core.List.{List, [], _∷_, _++_}
 use mathlib.Core.Logic.{_↔_}
-use lib.ListN.{length, getD}
+use lib.ListN.{length}
 use Rattle.encoding.specs.Bytes.{byte, number}
 use Rattle.units.specs.Words.{substandard, classes, worse}
 use Rattle.rules.specs.Sheet.{inForceAt}
@@ -19,7 +19,7 @@ use Rattle.tally.specs.Outcome.{recordsIn}
 use Rattle.tally.specs.Accepted.{AcceptedAs, sheetIn, UnitAt, recordedCusum, recordedOvershoot, recordedPortionGrade, recordedCodeGrade, numbersInForce}
 use Rattle.answers.specs.Tells.{Tells}
 use Rattle.answers.specs.Grounds.{startIn, toleranceIn, limitIn, IsUnit, IsRedesignation}
-use Rattle.demands.specs.Course.{Course, classCounts, tenTimes, prerequisite, ClassFails, UnitFails, SecondFails, Recovered, Restart, Rules, SameBefore, SameAt}
+use Rattle.demands.specs.Course.{Course, tenTimes, prerequisite, ClassFails, UnitFails, SecondFails, Recovered, Restart, Rules, SameBefore, SameAt}
 
 -- ---- what is recorded of a unit
 
@@ -96,8 +96,9 @@ pub record SameWords (bytes : List ℕ) (course : Course) : Type 0 where
       let numbers = numbersInForce bytes i class in
       let grade = course .planGrade i in
       (numbers .start ≡ startIn bytes grade class) × (numbers .tolerance ≡ toleranceIn bytes grade class) × (numbers .limit ≡ limitIn bytes grade class)
-  -- the counts from a record on: of a unit its count in the class, of any other record none, and so on record by record
-  pub counts-of-unit : (i class : ℕ) → UnitAt bytes i → countsFrom (sheetIn bytes) class i 1 ≡ getD (classCounts bytes i) class 0 ∷ []
+  -- the counts from a record on, in tenths: of a unit ten times its count in the class, of any other record none, and so on record by
+  -- record
+  pub counts-of-unit : (i class : ℕ) → UnitAt bytes i → countsFrom (sheetIn bytes) class i 1 ≡ tenTimes bytes i class ∷ []
   pub counts-of-other : (i class : ℕ) → (UnitAt bytes i → ⊥) → countsFrom (sheetIn bytes) class i 1 ≡ []
   pub counts-of-none : (class from : ℕ) → countsFrom (sheetIn bytes) class from 0 ≡ []
   pub counts-go-on : (class from records : ℕ) →

@@ -138,7 +138,7 @@ pub record LargestInstance (bytes results : List ℕ) (units : ℕ) (planned : L
       → pos (recordedCusum bytes (left results units buffer) i class)
       ≡ largestForm (numbersInForce bytes i class) (anchorValue (numbersInForce bytes i class) at-failure) (countsFrom (sheetIn bytes) class from records))
 
--- one unit and class in numbers: its latest anchor, the counts since it, their largest form, and so the CuSum that is recorded
+-- one unit and class in numbers: its latest anchor, the counts since it in tenths, their largest form, and so the CuSum that is recorded
 pub record LargestNumber (bytes results : List ℕ) (i class from : ℕ) (at-failure : Bool) (counts : List ℕ) (tenths : ℕ) : Type 0 where
   pub is-anchor : Anchor (sheetIn bytes) class i from at-failure
   pub latest : Latest (sheetIn bytes) class i from
@@ -206,10 +206,10 @@ pub record Instances : Type 0 where
   pub every-kind-largest : LargestInstance everyKindOfRecord everyKindOfRecordResults 6 everyKindPlanned
   -- in major at record 6, from the S at record 4, a redesignation: of 1 + (0 - 6) + (9 - 6), (0 - 6) + (9 - 6) and 9 - 6 the last, a run
   pub largest-run : (buffer : List ℕ) → resultSize * 6 ≤ length buffer
-      → LargestNumber everyKindOfRecord (everyKindLeft buffer) 6 2 5 false (0 ∷ 9 ∷ []) 30
+      → LargestNumber everyKindOfRecord (everyKindLeft buffer) 6 2 5 false (0 ∷ 90 ∷ []) 30
   -- in total at record 3, from the L at record 2, a failure: 4 + (5 - 6)
   pub largest-anchored : (buffer : List ℕ) → resultSize * 3 ≤ length buffer
-      → LargestNumber oneMinorDefectFewer (left oneMinorDefectFewerResults 3 buffer) 3 3 3 true (5 ∷ []) 30
+      → LargestNumber oneMinorDefectFewer (left oneMinorDefectFewerResults 3 buffer) 3 3 3 true (50 ∷ []) 30
   -- demand 3, fewer defects, in every two buffers with room
   pub fewer-defects : (buffer buffer' : List ℕ) → resultSize * 3 ≤ length buffer → resultSize * 3 ≤ length buffer' → FewerInstance buffer buffer'
   pub fewer-defects-twice : (buffer buffer' : List ℕ) → resultSize * 7 ≤ length buffer → resultSize * 7 ≤ length buffer'

@@ -3,6 +3,7 @@ use Prim.Native.Nat.{ℕ, zero, suc, _+_, _*_}
 use mathlib.Core.List.{List, map}
 use lib.Dec.{eqb}
 use lib.ListN.{length}
+use Rattle.cusum.specs.declared.Defects.{Defects}
 use Rattle.cusum.specs.declared.PlanNumbers.{PlanNumbers}
 use Rattle.encoding.specs.Bytes.{byte, number}
 use Rattle.units.specs.Conditions.{pick}
@@ -115,15 +116,19 @@ sizeOf RedesignationMark = redesignationSize
 sizeOf BreakMark = markSize
 sizeOf NoMark = markSize
 
+-- a count of defects at an offset
+abbrev pub defectsAt : List ℕ → ℕ → Defects
+defectsAt bytes at = record { 0 = number bytes at }
+
 -- the sample unit at an offset; recoverable: 1 if the portion is separately coded and within reach, else 0
 unfoldable pub sampleUnitAt : List ℕ → ℕ → SampleUnit
 sampleUnitAt bytes at =
     record {
       code = number bytes (at + codeOffset);
-      critical = number bytes (at + countOffset 0);
-      severe = number bytes (at + countOffset 1);
-      major = number bytes (at + countOffset 2);
-      minor = number bytes (at + countOffset 3);
+      critical = defectsAt bytes (at + countOffset 0);
+      severe = defectsAt bytes (at + countOffset 1);
+      major = defectsAt bytes (at + countOffset 2);
+      minor = defectsAt bytes (at + countOffset 3);
       prerequisite = byte bytes (at + prerequisiteOffset);
       recoverable = eqb (byte bytes (at + recoverableOffset)) 1;
     }

@@ -4,6 +4,7 @@ ghost use Prim.Native.Nat.{_+_, _≤_};
 ghost use lib.ListN.{length};
 ghost use Rattle.layout.specs.Layout.{markSize, planNumbersSize, planSize, unitSize, planNumbersAt, planOf, markAt, sizeOf, sampleUnitAt, entryOf, unitsIn};
 ghost use Rattle.layout.specs.Walk.{firstPlace, placeAfter, RoomPast};
+use cusum::Defects;
 use cusum::PlanNumbers;
 use encoding::number_at;
 use units::CELLS;
@@ -146,10 +147,10 @@ pub fn sample_unit_at(bytes: &[u8], at: usize) -> SampleUnit
 {
     SampleUnit {
         code: number_at(bytes, at + CODE_OFFSET),
-        critical: number_at(bytes, at + CRITICAL_OFFSET),
-        severe: number_at(bytes, at + SEVERE_OFFSET),
-        major: number_at(bytes, at + MAJOR_OFFSET),
-        minor: number_at(bytes, at + MINOR_OFFSET),
+        critical: Defects(number_at(bytes, at + CRITICAL_OFFSET)),
+        severe: Defects(number_at(bytes, at + SEVERE_OFFSET)),
+        major: Defects(number_at(bytes, at + MAJOR_OFFSET)),
+        minor: Defects(number_at(bytes, at + MINOR_OFFSET)),
         prerequisite: bytes[at + PREREQUISITE_OFFSET],
         recoverable: bytes[at + RECOVERABLE_OFFSET] == 1,
     }

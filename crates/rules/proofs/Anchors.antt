@@ -13,7 +13,7 @@ use lib.IntN.{pos}
 use Rattle.cusum.specs.LargestForm.{largestForm}
 use Rattle.units.specs.declared.SampleUnit.{SampleUnit}
 use Rattle.units.specs.declared.Entry.the-variants.{UnitRecord}
-use Rattle.units.specs.Words.{hasPlan, classes, numbersOf, countsOf}
+use Rattle.units.specs.Words.{hasPlan, classes, numbersOf, tenthsOf}
 use Rattle.units.specs.Unit.{classCusum}
 use Rattle.rules.specs.Sheet.{Sheet, before, inForceAt}
 use Rattle.rules.specs.Anchor.{anchorValue, countAt, restartAt, classFailsAt, countsFrom, Anchor, opening, restart, failure, Latest}
@@ -175,7 +175,7 @@ pub largest-form-by-place : (sheet : Sheet) (class : ℕ) → class < length cla
     → hasPlan (inForceAt sheet i) ≡ true
     → (from n : ℕ) (failed : Bool) → from + n ≡ suc i → Anchor sheet class i from failed → Latest sheet class i from →
     let numbers = numbersOf (sheet .table) (inForceAt sheet i) class in
-    pos (classCusum (sheet .table) (inForceAt sheet i) (before sheet i .cusums) (countsOf unit) class)
+    pos (classCusum (sheet .table) (inForceAt sheet i) (before sheet i .cusums) (tenthsOf unit) class)
     ≡ largestForm numbers (anchorValue numbers failed) (countsFrom sheet class from n)
 largest-form-by-place sheet class in-range i unit e h from n failed q lies latest =
     let numbers = numbersOf (sheet .table) (inForceAt sheet i) class in

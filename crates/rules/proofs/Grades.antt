@@ -5,7 +5,7 @@ use mathlib.Core.Path.{_≡_, refl}
 use mathlib.Core.Bool.{Bool, true, false}
 use native.Mathlib.Omega.{arith}
 use lib.Dec.{eqb}
-use Rattle.units.specs.Words.{substandard, Table, countsOf}
+use Rattle.units.specs.Words.{substandard, Table, tenthsOf}
 use Rattle.units.specs.Unit.{portionGradeOf}
 use Rattle.units.specs.Records.{portionGradeWith, worstBefore}
 use Rattle.units.specs.declared.SampleUnit.{SampleUnit}
@@ -77,7 +77,7 @@ module _ (table : Table) (state : State) (bounded : Bounded state) where
   grade-bounded : (unit : SampleUnit) → graded table state unit .grade ≤ substandard
   unfolding graded
   grade-bounded unit =
-      defect-grade-at-most table (inForce state) (state .cusums) (countsOf unit)
+      defect-grade-at-most table (inForce state) (state .cusums) (tenthsOf unit)
       (in-force-bounded (state .designated) (state .phase) (bounded .designated) (bounded .phase))
 
   after-unit : (unit : SampleUnit) → Bounded (afterUnit table state (graded table state unit) (qualifiesIn table state unit))
@@ -127,7 +127,7 @@ module _ (sheet : Sheet) (designated : sheet .designated ≤ 2) (new-grades : (i
   unfolding portionGrade portionGradeOf graded
   portion-at-most i unit h =
       let d = designated-at-most i in
-      let g = defect-grade-at-most (sheet .table) (inForceAt sheet i) (before sheet i .cusums) (countsOf unit) (in-force-at-most i) in
+      let g = defect-grade-at-most (sheet .table) (inForceAt sheet i) (before sheet i .cusums) (tenthsOf unit) (in-force-at-most i) in
       let c = choice-le (recovered sheet i unit) (designatedAt sheet i) (gradedAt sheet i unit .grade) substandard (omega arith) g in
       omega arith
 

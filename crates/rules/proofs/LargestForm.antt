@@ -16,7 +16,7 @@ use Rattle.cusum.proofs.Runs.{after, Meets, after-le-limit, after-snoc, meets-s
 use Rattle.units.specs.declared.SampleUnit.{SampleUnit}
 use Rattle.units.specs.declared.Entry.{Entry}
 use Rattle.units.specs.declared.Entry.the-variants.{UnitRecord, Redesignation, Break}
-use Rattle.units.specs.Words.{hasPlan, classes, Table, rowOf, numbersOf, countsOf, countIn, tenthsIn}
+use Rattle.units.specs.Words.{hasPlan, classes, Table, rowOf, numbersOf, tenthsOf, countIn, tenthsIn}
 use Rattle.units.specs.Unit.{starting, classFails, classCusum, newCusums}
 use Rattle.units.proofs.Classes.{at-class}
 use Rattle.rules.specs.declared.State.{State}
@@ -79,12 +79,12 @@ one-unit numbers value count trail r false e = (
 module _ (table : Table) (class : ℕ) (in-range : class < length classes) where
   -- after a unit under a plan, before any restart
   at-unit : (state : State) (unit : SampleUnit) (trail : Trail) → hasPlan (inForce state) ≡ true → Held table class (inForce state) (state .cusums) trail
-      → Reached (numbersOf table (inForce state) class) (classCusum table (inForce state) (state .cusums) (countsOf unit) class)
+      → Reached (numbersOf table (inForce state) class) (classCusum table (inForce state) (state .cusums) (tenthsOf unit) class)
       (trailWith table class state (UnitRecord unit) trail)
   unfolding classCusum trailWith failsAt countAt classFails
   at-unit state unit trail planned held =
       let numbers = numbersOf table (inForce state) class in
-      rw planned (one-unit numbers (tenthsIn (state .cusums) class) (countIn (countsOf unit) class) trail (held planned) _ refl)
+      rw planned (one-unit numbers (tenthsIn (state .cusums) class) (countIn (tenthsOf unit) class) trail (held planned) _ refl)
 
   -- after a record that brings no restart
   at-entry : (state : State) (entry : Entry) (trail : Trail) → hasPlan (inForce state) ≡ true → Held table class (inForce state) (state .cusums) trail
@@ -92,7 +92,7 @@ module _ (table : Table) (class : ℕ) (in-range : class < length classes) where
   unfolding cusumsBehind graded newCusums trailWith failsAt countAt
   at-entry state (UnitRecord unit) trail planned held =
       subst⁻¹ (λ (value : ℕ). Reached (numbersOf table (inForce state) class) value (trailWith table class state (UnitRecord unit) trail))
-      (at-class (classCusum table (inForce state) (state .cusums) (countsOf unit)) class in-range) (at-unit state unit trail planned held)
+      (at-class (classCusum table (inForce state) (state .cusums) (tenthsOf unit)) class in-range) (at-unit state unit trail planned held)
   at-entry state (Redesignation new) trail planned held = rw append-nil (held planned)
   at-entry state Break trail planned held = rw append-nil (held planned)
 
@@ -141,7 +141,7 @@ module _ (sheet : Sheet) (class : ℕ) (in-range : class < length classes) where
   -- THE FIRST HALF OF DEMAND 3, over records
   pub largest-form : (i : ℕ) (unit : SampleUnit) → sheet .entry i ≡ UnitRecord unit → hasPlan (inForceAt sheet i) ≡ true →
       let numbers = numbersOf (sheet .table) (inForceAt sheet i) class in
-      pos (classCusum (sheet .table) (inForceAt sheet i) (before sheet i .cusums) (countsOf unit) class)
+      pos (classCusum (sheet .table) (inForceAt sheet i) (before sheet i .cusums) (tenthsOf unit) class)
       ≡ largestForm numbers (anchorValue numbers (trailAt sheet class i .failed)) (trailAt sheet class i .counts)
   largest-form i unit is-unit planned =
       let reached = at-unit (sheet .table) class in-range (before sheet i) unit (trailBefore sheet class i) planned (held-before i) in

@@ -7,7 +7,7 @@ use mathlib.Core.List.{List}
 use native.Mathlib.Omega.{arith}
 use lib.Dec.{eqb}
 use Rattle.cusum.specs.declared.Cusum.{Cusum}
-use Rattle.units.specs.Words.{substandard, Table, rowOf, countsOf}
+use Rattle.units.specs.Words.{substandard, Table, rowOf, tenthsOf}
 use Rattle.units.specs.Unit.{starting, classCusum, classOvershoot, unitFails, gradingOf, portionGradeOf}
 use Rattle.units.specs.Records.{portionGradeWith, worstBefore}
 use Rattle.units.specs.declared.SampleUnit.{SampleUnit}
@@ -91,14 +91,14 @@ module _ (table : Table) (designated : ℕ) where
   -- under the designated plan, where the unit does not fail behind one that failed
   passes : (previous : Previous) (cusums : List Cusum) (unit : SampleUnit) →
       let state = stateOf designated previous Designated cusums in
-      let grading = gradingOf table designated cusums (countsOf unit) in
+      let grading = gradingOf table designated cusums (tenthsOf unit) in
       (isFailure previous ≡ true → grading .fails ≡ false)
       → next table state (UnitRecord unit) ≡ stateOf designated (failureAfter Designated (grading .fails) (grading .grade)) Designated (grading .cusums)
   unfolding next graded inForceIn endsStepThree withUnit
   passes previous cusums unit none =
       let state = stateOf designated previous Designated cusums in
-      unit-passes table state (gradingOf table designated cusums (countsOf unit)) (qualifiesIn table state unit) refl
-      (no-two previous (unitFails table designated cusums (countsOf unit)) none)
+      unit-passes table state (gradingOf table designated cusums (tenthsOf unit)) (qualifiesIn table state unit) refl
+      (no-two previous (unitFails table designated cusums (tenthsOf unit)) none)
 
   -- at the start of the designated plan
   at-start : Both designated false (restarted table designated Designated) (restarted table designated Designated)
@@ -124,12 +124,12 @@ module _ (table : Table) (designated : ℕ) where
   unfolding Below NoRedesignation failsDesignated inStepThree
   record-beside p p' cs cs' just-failed (UnitRecord u) (UnitRecord v) new remembered lower below none two =
       let fewer = counts-fewer u v (below .fewer) in
-      let fails-too = unit-fails-mono table designated cs cs' (countsOf u) (countsOf v) lower fewer in
-      let second-once : isFailure p' ≡ true → unitFails table designated cs' (countsOf v) ≡ false =
+      let fails-too = unit-fails-mono table designated cs cs' (tenthsOf u) (tenthsOf v) lower fewer in
+      let second-once : isFailure p' ≡ true → unitFails table designated cs' (tenthsOf v) ≡ false =
       λ failed. and-then-false just-failed _ two (remembered failed) in
-      let first-once : isFailure p ≡ true → unitFails table designated cs (countsOf u) ≡ false =
-      λ failed. not-too (unitFails table designated cs (countsOf u)) (unitFails table designated cs' (countsOf v)) fails-too (second-once (new failed)) in
-      subst₂ (λ (first second : State). Both designated (unitFails table designated cs' (countsOf v)) first second)
+      let first-once : isFailure p ≡ true → unitFails table designated cs (tenthsOf u) ≡ false =
+      λ failed. not-too (unitFails table designated cs (tenthsOf u)) (unitFails table designated cs' (tenthsOf v)) fails-too (second-once (new failed)) in
+      subst₂ (λ (first second : State). Both designated (unitFails table designated cs' (tenthsOf v)) first second)
       (sym (passes p cs u first-once)) (sym (passes p' cs' v second-once))
       (record {
         first-designated = refl;
@@ -138,7 +138,7 @@ module _ (table : Table) (designated : ℕ) where
         second-phase = refl;
         no-new-failure = λ failed. failure-is _ _ ∙ fails-too (sym (failure-is _ _) ∙ failed);
         remembered = λ failed. sym (failure-is _ _) ∙ failed;
-        no-higher = cusums-mono table designated cs cs' (countsOf u) (countsOf v) lower fewer;
+        no-higher = cusums-mono table designated cs cs' (tenthsOf u) (tenthsOf v) lower fewer;
       })
     where
       not-too : (x y : Bool) → (x ≡ true → y ≡ true) → y ≡ false → x ≡ false
@@ -192,10 +192,10 @@ module _ (table : Table) (designated : ℕ) (es fs : ℕ → Entry) (size : ℕ)
   -- THE SECOND HALF OF DEMAND 3, over records: CuSums, overshoots and failures
   pub fewer-cusums : (i : ℕ) (u v : SampleUnit) → es i ≡ UnitRecord u → fs i ≡ UnitRecord v
       → ((j : ℕ) → j < i → secondInARow second j ≡ false) → (class : ℕ)
-      → (classCusum table (inForceAt first i) (before first i .cusums) (countsOf u) class
-      ≤ classCusum table (inForceAt second i) (before second i .cusums) (countsOf v) class)
-      × (classOvershoot table (inForceAt first i) (before first i .cusums) (countsOf u) class
-      ≤ classOvershoot table (inForceAt second i) (before second i .cusums) (countsOf v) class)
+      → (classCusum table (inForceAt first i) (before first i .cusums) (tenthsOf u) class
+      ≤ classCusum table (inForceAt second i) (before second i .cusums) (tenthsOf v) class)
+      × (classOvershoot table (inForceAt first i) (before first i .cusums) (tenthsOf u) class
+      ≤ classOvershoot table (inForceAt second i) (before second i .cusums) (tenthsOf v) class)
       × (classFailsAt first class i ≡ true → classFailsAt second class i ≡ true)
   unfolding Below classFailsAt failsAt
   fewer-cusums i u v eu ev h class =
@@ -204,9 +204,9 @@ module _ (table : Table) (designated : ℕ) (es fs : ℕ → Entry) (size : ℕ)
       let (plan, plan') = both-in-force i both in
       let fewer = counts-fewer u v (below .fewer) in
       rw (eu, ev, plan, plan') (
-        class-cusum-mono table _ _ _ (countsOf u) (countsOf v) (both .no-higher) fewer class,
-        class-overshoot-mono table _ _ _ (countsOf u) (countsOf v) (both .no-higher) fewer class,
-        class-fails-mono table _ _ _ (countsOf u) (countsOf v) (both .no-higher) fewer class,
+        class-cusum-mono table _ _ _ (tenthsOf u) (tenthsOf v) (both .no-higher) fewer class,
+        class-overshoot-mono table _ _ _ (tenthsOf u) (tenthsOf v) (both .no-higher) fewer class,
+        class-fails-mono table _ _ _ (tenthsOf u) (tenthsOf v) (both .no-higher) fewer class,
       )
 
   -- ---- grades, where the second never fails two in a row
@@ -246,7 +246,7 @@ module _ (table : Table) (designated : ℕ) (es fs : ℕ → Entry) (size : ℕ)
         (omega (
           arith,
           below .same-prerequisite,
-          defect-grade-mono table designated (before first i .cusums) (before second i .cusums) (countsOf u) (countsOf v) (both .no-higher)
+          defect-grade-mono table designated (before first i .cusums) (before second i .cusums) (tenthsOf u) (tenthsOf v) (both .no-higher)
               (counts-fewer u v (below .fewer)) graded-designated,
         ))
 

@@ -6,7 +6,7 @@ use mathlib.Core.Bool.{Bool, true, false, _&&_, false≢true, true≢false}
 use mathlib.Core.List.{List}
 use Rattle.cusum.specs.declared.Cusum.{Cusum}
 use Rattle.units.proofs.Tests.{and-both, and-false}
-use Rattle.units.specs.Words.{worse, Table, countsOf}
+use Rattle.units.specs.Words.{worse, Table, tenthsOf}
 use Rattle.units.specs.Unit.{unitFails}
 use Rattle.units.specs.declared.SampleUnit.{SampleUnit}
 use Rattle.units.specs.declared.Entry.{Entry}
@@ -51,7 +51,7 @@ failure-remembered : (table : Table) (designated : ℕ) (previous : Previous) (p
     Remembers (withUnit phase (qualifiesIn table state unit)) (failureAfter phase (graded table state unit .fails) (graded table state unit .grade))
     (failsDesignated table state (UnitRecord unit))
 unfolding Remembers withUnit failureAfter failsDesignated inStepThree graded inForceIn isFailure
-failure-remembered table designated previous Designated cusums unit = go (unitFails table designated cusums (countsOf unit)) _
+failure-remembered table designated previous Designated cusums unit = go (unitFails table designated cusums (tenthsOf unit)) _
   where
     go : (fails : Bool) (grade : ℕ) → isFailure (failureAfter Designated fails grade) ≡ fails
     go true grade = refl
@@ -89,9 +89,9 @@ second-by : (table : Table) (designated : ℕ) (previous : Previous) (phase : Ph
     → twoInARow previous (graded table state unit .fails) ≡ (failed && failsDesignated table state (UnitRecord unit))
 unfolding Remembers failsDesignated graded inForceIn inStepThree
 second-by table designated previous Designated cusums failed unit remembers =
-    two-in-a-row-is previous _ ∙ ap (λ (b : Bool). b && unitFails table designated cusums (countsOf unit)) remembers
+    two-in-a-row-is previous _ ∙ ap (λ (b : Bool). b && unitFails table designated cusums (tenthsOf unit)) remembers
 second-by table designated previous (StepThree lower run) cusums failed unit remembers =
-    two-in-a-row-is previous _ ∙ ap (λ (b : Bool). b && unitFails table lower cusums (countsOf unit)) remembers ∙ sym (and-false failed)
+    two-in-a-row-is previous _ ∙ ap (λ (b : Bool). b && unitFails table lower cusums (tenthsOf unit)) remembers ∙ sym (and-false failed)
 
 -- outside step 3 nothing ends it
 ends-none : (phase : Phase) (qualifies : Bool) → inStepThree phase ≡ false → endsStepThree phase qualifies ≡ false

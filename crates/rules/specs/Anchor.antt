@@ -5,7 +5,7 @@ use mathlib.Core.Bool.{Bool, true, false, not, _&&_, _||_}
 use mathlib.Core.List.{List, [], _∷_, _++_}
 use lib.Dec.{ltb}
 use Rattle.cusum.specs.declared.PlanNumbers.{PlanNumbers}
-use Rattle.units.specs.Words.{Table, countsOf, countIn}
+use Rattle.units.specs.Words.{Table, tenthsOf, countIn}
 use Rattle.units.specs.Unit.{classFails}
 use Rattle.units.specs.declared.Entry.{Entry}
 use Rattle.units.specs.declared.Entry.the-variants.{UnitRecord, Redesignation, Break}
@@ -17,13 +17,13 @@ use Rattle.rules.specs.declared.State.{State}
 
 -- a class fails at a record by rule 2
 unfoldable pub failsAt : Table → ℕ → State → Entry → Bool
-failsAt table class state (UnitRecord unit) = classFails table (inForce state) (state .cusums) (countsOf unit) class
+failsAt table class state (UnitRecord unit) = classFails table (inForce state) (state .cusums) (tenthsOf unit) class
 failsAt table class state (Redesignation new) = false
 failsAt table class state Break = false
 
--- the count of a class at a record, if that is a unit
+-- the count of a class at a record, in tenths, if that is a unit
 unfoldable pub countAt : ℕ → Entry → List ℕ
-countAt class (UnitRecord unit) = countIn (countsOf unit) class ∷ []
+countAt class (UnitRecord unit) = countIn (tenthsOf unit) class ∷ []
 countAt class (Redesignation new) = []
 countAt class Break = []
 
@@ -44,7 +44,7 @@ module _ (sheet : Sheet) where
   unfoldable pub classFailsAt : ℕ → ℕ → Bool
   classFailsAt class j = failsAt (sheet .table) class (before sheet j) (sheet .entry j)
 
-  -- the counts of the class at the units among the n records from record `from` on
+  -- the counts of the class, in tenths, at the units among the n records from record `from` on
   unfoldable pub countsFrom : ℕ → ℕ → ℕ → List ℕ
   countsFrom class from zero = []
   countsFrom class from (suc n) = countsFrom class from n ++ countAt class (sheet .entry (from + n))

@@ -3,7 +3,7 @@ use Prim.Native.Nat.{ℕ, _+_}
 use mathlib.Core.Bool.{Bool, true, false, cond, _&&_}
 use lib.Dec.{ltb, leb}
 use Rattle.units.specs.Conditions.{pick}
-use Rattle.units.specs.Words.{worse, Table, rowOf, countsOf}
+use Rattle.units.specs.Words.{worse, Table, rowOf, tenthsOf}
 use Rattle.units.specs.Unit.{starting, gradingOf, qualifies}
 use Rattle.units.specs.declared.SampleUnit.{SampleUnit}
 use Rattle.units.specs.declared.Grading.{Grading}
@@ -85,12 +85,12 @@ module _ (table : Table) where
 
   -- a unit graded under the plan in force
   unfoldable pub graded : State → SampleUnit → Grading
-  graded state unit = gradingOf table (inForce state) (state .cusums) (countsOf unit)
+  graded state unit = gradingOf table (inForce state) (state .cusums) (tenthsOf unit)
 
   -- a unit qualifies, with the CuSums of its grading; outside step 3 none does
   unfoldable pub qualifiesWith : State → SampleUnit → Grading → Bool
   qualifiesWith state unit grading =
-      inStepThree (state .phase) && qualifies table (state .designated) (grading .cusums) (countsOf unit)
+      inStepThree (state .phase) && qualifies table (state .designated) (grading .cusums) (tenthsOf unit)
 
   abbrev pub qualifiesIn : State → SampleUnit → Bool
   qualifiesIn state unit = qualifiesWith state unit (graded state unit)

@@ -1,7 +1,7 @@
 -- Two units in a row that fail the designated plan, told by their places.
 use Prim.Native.Nat.{ℕ, zero, suc}
 use mathlib.Core.Bool.{Bool, false, not, _&&_}
-use Rattle.units.specs.Words.{Table, countsOf}
+use Rattle.units.specs.Words.{Table, tenthsOf}
 use Rattle.units.specs.Unit.{unitFails}
 use Rattle.units.specs.declared.Entry.{Entry}
 use Rattle.units.specs.declared.Entry.the-variants.{UnitRecord, Redesignation, Break}
@@ -12,7 +12,7 @@ use Rattle.rules.specs.declared.State.{State}
 -- a record is a unit that fails the designated plan
 unfoldable pub failsDesignated : Table → State → Entry → Bool
 failsDesignated table state (UnitRecord unit) =
-    not (inStepThree (state .phase)) && unitFails table (state .designated) (state .cusums) (countsOf unit)
+    not (inStepThree (state .phase)) && unitFails table (state .designated) (state .cusums) (tenthsOf unit)
 failsDesignated table state (Redesignation new) = false
 failsDesignated table state Break = false
 

@@ -9,9 +9,10 @@ use native.Mathlib.Omega.{arith}
 use lib.Dec.{ltb, lit<}
 use lib.ListN.{length}
 use borrow.Author.Tests.{ltb-false, leb-false}
+use Rattle.cusum.specs.Counts.{tenTimes}
 use Rattle.cusum.specs.declared.PlanNumbers.{PlanNumbers}
 use Rattle.encoding.specs.Bytes.{byte}
-use Rattle.units.specs.Words.{substandard, classes, cellOf, numbersOf, tableOf, countsOf, countIn}
+use Rattle.units.specs.Words.{substandard, classes, cellOf, numbersOf, tableOf, tenthsOf, countIn}
 use Rattle.units.specs.declared.Plan.{Plan}
 use Rattle.units.specs.declared.SampleUnit.{SampleUnit}
 use Rattle.units.specs.declared.Entry.the-variants.{UnitRecord, Redesignation}
@@ -43,21 +44,21 @@ cell-passed plan e cell h =
 
 -- no count is too large
 record CountsFit (unit : SampleUnit) : Type 0 where
-  critical : unit .critical ≤ largestCount
-  severe : unit .severe ≤ largestCount
-  major : unit .major ≤ largestCount
-  minor : unit .minor ≤ largestCount
+  critical : unit .critical .0 ≤ largestCount
+  severe : unit .severe .0 ≤ largestCount
+  major : unit .major .0 ≤ largestCount
+  minor : unit .minor .0 ≤ largestCount
 
 counts-passed : (unit : SampleUnit) → countTooLarge unit ≡ false → CountsFit unit
 unfolding countTooLarge
 counts-passed unit e =
-    let behind-critical = or-second (ltb largestCount (unit .critical)) _ e in
-    let behind-severe = or-second (ltb largestCount (unit .severe)) _ behind-critical in
+    let behind-critical = or-second (ltb largestCount (unit .critical .0)) _ e in
+    let behind-severe = or-second (ltb largestCount (unit .severe .0)) _ behind-critical in
     record {
-      critical = ltb-false largestCount (unit .critical) (or-first _ _ e);
-      severe = ltb-false largestCount (unit .severe) (or-first _ _ behind-critical);
-      major = ltb-false largestCount (unit .major) (or-first _ _ behind-severe);
-      minor = ltb-false largestCount (unit .minor) (or-second (ltb largestCount (unit .major)) _ behind-severe);
+      critical = ltb-false largestCount (unit .critical .0) (or-first _ _ e);
+      severe = ltb-false largestCount (unit .severe .0) (or-first _ _ behind-critical);
+      major = ltb-false largestCount (unit .major .0) (or-first _ _ behind-severe);
+      minor = ltb-false largestCount (unit .minor .0) (or-second (ltb largestCount (unit .major .0)) _ behind-severe);
     }
 
 unit-passed : (bytes : List ℕ) (at units : ℕ) → unitRefusal bytes at units ≡ 0
@@ -133,8 +134,8 @@ module _ (bytes : List ℕ) (n : ℕ) (facts : Facts bytes n) where
       let same : sampleUnitAt bytes (offset bytes i) ≡ unit = cc in
       subst (λ (u : SampleUnit). u .prerequisite ≤ substandard) same (unit-here i is-unit .1)
 
-  -- the count of a class is at most the largest in every kind together
-  pub count-le : (i : ℕ) → mark bytes i ≡ UnitMark → (class : ℕ) → countIn (countsOf (sampleUnitAt bytes (offset bytes i))) class ≤ kinds * largestCount
+  -- the count of a class is at most the largest in every kind together, in tenths
+  pub count-le : (i : ℕ) → mark bytes i ≡ UnitMark → (class : ℕ) → countIn (tenthsOf (sampleUnitAt bytes (offset bytes i))) class ≤ tenTimes (kinds * largestCount)
   count-le i is-unit class =
       let unit = sampleUnitAt bytes (offset bytes i) in
       let fit = unit-here i is-unit .2 in

@@ -81,8 +81,8 @@ planRefusal bytes =
 -- 8: a count above 2,000
 unfoldable pub countTooLarge : SampleUnit → Bool
 countTooLarge unit =
-    ltb largestCount (unit .critical)
-    || (ltb largestCount (unit .severe) || (ltb largestCount (unit .major) || ltb largestCount (unit .minor)))
+    ltb largestCount (unit .critical .0)
+    || (ltb largestCount (unit .severe .0) || (ltb largestCount (unit .major .0) || ltb largestCount (unit .minor .0)))
 
 -- of a unit at an offset, with so many units before it. 7: cut short; 12: after the 1,000th; 8; 9: prerequisite above 3 or
 -- recoverable above 1

@@ -147,9 +147,9 @@ fn plan_refusal(bytes: &[u8]) -> u8
 fn count_too_large(unit: SampleUnit) -> bool
     ensures { λ r. ⌜ r ≡ countTooLarge unit ⌝ }
 {
-    (LARGEST_COUNT < unit.critical)
-        | ((LARGEST_COUNT < unit.severe)
-            | ((LARGEST_COUNT < unit.major) | (LARGEST_COUNT < unit.minor)))
+    (LARGEST_COUNT < unit.critical.0)
+        | ((LARGEST_COUNT < unit.severe.0)
+            | ((LARGEST_COUNT < unit.major.0) | (LARGEST_COUNT < unit.minor.0)))
 }
 
 fn unit_refusal(bytes: &[u8], at: usize, units: usize) -> u8

@@ -11,7 +11,7 @@ use lib.ListN.{length}
 use borrow.Author.Tests.{le-ltb, ltb-false}
 use Rattle.cusum.specs.Step.{largestTenths}
 use Rattle.cusum.specs.declared.Cusum.{Cusum}
-use Rattle.units.specs.Words.{classes, tenthsIn, overshootFor, tableOf, cellOf, countsOf}
+use Rattle.units.specs.Words.{classes, tenthsIn, overshootFor, tableOf, cellOf, tenthsOf}
 use Rattle.units.specs.Unit.{classCusum, newCusums, classOvershoot, newOvershoots}
 use Rattle.units.specs.declared.SampleUnit.{SampleUnit}
 use Rattle.units.specs.declared.Entry.{Entry}
@@ -31,17 +31,17 @@ use Rattle.tally.specs.Outcome.{anyTooLarge, overfullBy, overfullBefore,
 
 -- the CuSum of a class behind a unit
 pub cusum-graded : (sheet : Sheet) (i : ℕ) (unit : SampleUnit) (class : ℕ) → class < length classes
-    → tenthsIn (gradedAt sheet i unit .cusums) class ≡ classCusum (sheet .table) (inForceAt sheet i) (before sheet i .cusums) (countsOf unit) class
+    → tenthsIn (gradedAt sheet i unit .cusums) class ≡ classCusum (sheet .table) (inForceAt sheet i) (before sheet i .cusums) (tenthsOf unit) class
 unfolding graded newCusums
-cusum-graded sheet i unit class inside = at-class (classCusum (sheet .table) (inForceAt sheet i) (before sheet i .cusums) (countsOf unit)) class inside
+cusum-graded sheet i unit class inside = at-class (classCusum (sheet .table) (inForceAt sheet i) (before sheet i .cusums) (tenthsOf unit)) class inside
 
 -- its overshoot
 pub overshoot-graded : (sheet : Sheet) (i : ℕ) (unit : SampleUnit) (class : ℕ) → class < length classes
     → overshootFor (gradedAt sheet i unit .overshoots) class
-    ≡ classOvershoot (sheet .table) (inForceAt sheet i) (before sheet i .cusums) (countsOf unit) class
+    ≡ classOvershoot (sheet .table) (inForceAt sheet i) (before sheet i .cusums) (tenthsOf unit) class
 unfolding graded newOvershoots
 overshoot-graded sheet i unit class inside =
-    map-at (length classes) (classOvershoot (sheet .table) (inForceAt sheet i) (before sheet i .cusums) (countsOf unit)) 0 class inside
+    map-at (length classes) (classOvershoot (sheet .table) (inForceAt sheet i) (before sheet i .cusums) (tenthsOf unit)) 0 class inside
 
 by-entry : (sheet : Sheet) (i : ℕ) (entry : Entry) → ((unit : SampleUnit) → anyTooLarge (gradedAt sheet i unit .cusums) ≡ false) → overfullBy sheet i entry ≡ false
 unfolding overfullBy
@@ -64,7 +64,7 @@ module _ (bytes : List ℕ) (n : ℕ) (facts : Facts bytes n) where
       none-in (length classes) _
       (λ class inside.
       let table = tableOf (planOf bytes) in
-      let at-most = class-cusum-le table (inForceAt sheet i) (before sheet i .cusums) (countsOf unit) class in
+      let at-most = class-cusum-le table (inForceAt sheet i) (before sheet i .cusums) (tenthsOf unit) class in
       le-ltb largestTenths (tenthsIn (gradedAt sheet i unit .cusums) class)
       (omega (arith, cusum-graded sheet i unit class inside, at-most, limit-le bytes n facts (inForceAt sheet i) class)))
 

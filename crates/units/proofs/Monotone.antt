@@ -1,7 +1,7 @@
 -- Fewer defects and no higher CuSums before a unit give no higher CuSum, no larger overshoot, no failure that was not there, and no
 -- lower grade.
 -- For any class, from the step's own laws.
-use Prim.Native.Nat.{ℕ, zero, suc, _+_, _≤_}
+use Prim.Native.Nat.{ℕ, zero, suc, _≤_}
 use mathlib.Core.Path.{_≡_, refl}
 use mathlib.Core.Bool.{Bool, true, false, cond, _&&_, false≢true}
 use mathlib.Core.List.{List, [], _∷_, map}
@@ -10,21 +10,22 @@ use lib.Dec.{ltb, leb}
 use borrow.Author.Tests.{leb-true, le-leb, ltb-true}
 use Rattle.cusum.specs.declared.Cusum.{Cusum}
 use Rattle.cusum.specs.declared.PlanNumbers.{PlanNumbers}
-use Rattle.cusum.specs.Step.{tenthsOf, fails}
+use Rattle.cusum.specs.Counts.{tenTimes}
+use Rattle.cusum.specs.Step.{fails}
 use Rattle.cusum.proofs.Laws.{new-cusum-mono, overshoot-mono, fails-mono}
 use Rattle.units.specs.declared.SampleUnit.{SampleUnit}
-use Rattle.units.specs.Words.{substandard, hasPlan, classes, Table, rowOf, inClass, numbersOf, countsOf, countIn, tenthsIn}
+use Rattle.units.specs.Words.{substandard, hasPlan, classes, Table, rowOf, inClass, numbersOf, total, tenthsOf, countIn, tenthsIn}
 use Rattle.units.specs.Unit.{classFails, classCusum, newCusums, classOvershoot, unitFails, noneAbove, admits, bestLower, defectGrade}
 use Rattle.units.proofs.Tests.{and-both, any-mono, all-mono}
 
 -- no count of the first unit exceeds its fellow in the second
 pub record Fewer (u v : SampleUnit) : Type 0 where
-  pub critical : u .critical ≤ v .critical
-  pub severe : u .severe ≤ v .severe
-  pub major : u .major ≤ v .major
-  pub minor : u .minor ≤ v .minor
+  pub critical : u .critical .0 ≤ v .critical .0
+  pub severe : u .severe .0 ≤ v .severe .0
+  pub major : u .major .0 ≤ v .major .0
+  pub minor : u .minor .0 ≤ v .minor .0
 
--- the same of counts by class
+-- the same of counts by class, in tenths
 abbrev pub NoMore : List ℕ → List ℕ → Type 0
 NoMore counts counts' = (class : ℕ) → countIn counts class ≤ countIn counts' class
 
@@ -37,10 +38,12 @@ pairwise-no-more none class = omega arith
 pairwise-no-more (more h others) zero = h
 pairwise-no-more (more h others) (suc class) = pairwise-no-more others class
 
-pub counts-fewer : (u v : SampleUnit) → Fewer u v → NoMore (countsOf u) (countsOf v)
+pub counts-fewer : (u v : SampleUnit) → Fewer u v → NoMore (tenthsOf u) (tenthsOf v)
 counts-fewer u v f =
-    let total : u .critical + u .severe + u .major + u .minor ≤ v .critical + v .severe + v .major + v .minor = omega arith in
-    let counts : Pairwise (countsOf u) (countsOf v) = more (f .critical) (more (f .severe) (more (f .major) (more total none))) in
+    let tenths : (n m : ℕ) → n ≤ m → tenTimes n ≤ tenTimes m = λ n m h. omega arith in
+    let sum : total u .0 ≤ total v .0 = omega arith in
+    let counts : Pairwise (tenthsOf u) (tenthsOf v) =
+    more (tenths _ _ (f .critical)) (more (tenths _ _ (f .severe)) (more (tenths _ _ (f .major)) (more (tenths _ _ sum) none))) in
     pairwise-no-more counts
 
 -- no CuSum of the first list is higher
@@ -112,10 +115,10 @@ module _ (counts counts' : List ℕ) (fewer : NoMore counts counts') where
   unfolding noneAbove
   none-above-mono bound row e = all-mono _ _ step classes e
     where
-      step : (class : ℕ) → leb (tenthsOf (countIn counts' class)) (bound (inClass row class)) ≡ true
-          → leb (tenthsOf (countIn counts class)) (bound (inClass row class)) ≡ true
-      step class e = le-leb (tenthsOf (countIn counts class)) (bound (inClass row class))
-          (omega (arith, fewer class, leb-true (tenthsOf (countIn counts' class)) (bound (inClass row class)) e))
+      step : (class : ℕ) → leb (countIn counts' class) (bound (inClass row class)) ≡ true
+          → leb (countIn counts class) (bound (inClass row class)) ≡ true
+      step class e = le-leb (countIn counts class) (bound (inClass row class))
+          (omega (arith, fewer class, leb-true (countIn counts' class) (bound (inClass row class)) e))
 
   pub best-lower-mono : (table : Table) (grade : ℕ) → bestLower table grade counts ≤ bestLower table grade counts'
   unfolding bestLower admits

@@ -1,11 +1,12 @@
--- Grading a unit, rules 1 to 4, and whether it qualifies: under the plan of a grade, from the CuSums before it, by its counts.
+-- Grading a unit, rules 1 to 4, and whether it qualifies: under the plan of a grade, from the CuSums before it, by its counts,
+-- which are in tenths throughout, as CuSums are.
 use Prim.Native.Nat.{ℕ, _+_}
 use mathlib.Core.Bool.{Bool, cond, _&&_}
 use mathlib.Core.List.{List, map}
 use lib.Dec.{ltb, leb, eqb}
 use Rattle.cusum.specs.declared.PlanNumbers.{PlanNumbers}
 use Rattle.cusum.specs.declared.Cusum.{Cusum}
-use Rattle.cusum.specs.Step.{tenthsOf, startOf, fails, newCusum, overshoot}
+use Rattle.cusum.specs.Step.{startOf, fails, newCusum, overshoot}
 use Rattle.units.specs.Conditions.{any, all}
 use Rattle.units.specs.Words.{substandard, hasPlan, worse, classes, Table, rowOf, inClass, numbersOf, countIn, tenthsIn}
 use Rattle.units.specs.declared.Grading.{Grading}
@@ -43,7 +44,7 @@ module _ (table : Table) where
 
 -- ten times the count is in no class above a bound that goes by the class's S, T and L
 unfoldable pub noneAbove : (PlanNumbers → ℕ) → List PlanNumbers → List ℕ → Bool
-noneAbove bound row counts = all (λ class. leb (tenthsOf (countIn counts class)) (bound (inClass row class))) classes
+noneAbove bound row counts = all (λ class. leb (countIn counts class) (bound (inClass row class))) classes
 
 -- a plan admits the counts if its T+L is not exceeded by ten times the count in any class
 unfoldable pub admits : List PlanNumbers → List ℕ → Bool

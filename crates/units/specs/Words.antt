@@ -4,6 +4,8 @@ use mathlib.Core.Bool.{Bool}
 use mathlib.Core.List.{List, [], _∷_, map}
 use lib.Dec.{ltb}
 use lib.ListN.{getD, length}
+use Rattle.cusum.specs.Counts.{defectTenths}
+use Rattle.cusum.specs.declared.Defects.{Defects}
 use Rattle.cusum.specs.declared.PlanNumbers.{PlanNumbers}
 use Rattle.cusum.specs.declared.Cusum.{Cusum}
 use Rattle.units.specs.declared.Plan.{Plan}
@@ -66,12 +68,19 @@ upFrom first (suc size) = first ∷ upFrom (suc first) size
 abbrev pub tableOf : Plan → Table
 tableOf plan = map (λ grade. map (λ class. cellOf plan (length classes * grade + class)) classes) plannedGrades
 
--- a unit's counts by class: total is the sum of critical, severe, major and minor
-abbrev pub countsOf : SampleUnit → List ℕ
-countsOf unit =
-    unit .critical ∷ unit .severe ∷ unit .major ∷ (unit .critical + unit .severe + unit .major + unit .minor) ∷ []
+-- total is the sum of critical, severe, major and minor
+abbrev pub total : SampleUnit → Defects
+total unit = record { 0 = unit .critical .0 + unit .severe .0 + unit .major .0 + unit .minor .0 }
 
--- the count of a class
+-- a unit's counts by class
+abbrev pub countsOf : SampleUnit → List Defects
+countsOf unit = unit .critical ∷ unit .severe ∷ unit .major ∷ total unit ∷ []
+
+-- the same in tenths, as S, T and L are kept: a defect is ten tenths
+abbrev pub tenthsOf : SampleUnit → List ℕ
+tenthsOf unit = map defectTenths (countsOf unit)
+
+-- the count of a class, in tenths
 abbrev pub countIn : List ℕ → ℕ → ℕ
 countIn counts class = getD counts class 0
 

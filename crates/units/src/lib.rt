@@ -4,9 +4,10 @@ ghost use mathlib.Core.Bool.{cond};
 ghost use mathlib.Core.List.{map};
 ghost use Prim.Native.Nat.{_+_, _*_, _<_};
 ghost use lib.ListN.{length};
-ghost use Rattle.units.specs.Words.{plannedGrades, classes, cellOf, tableOf, noRow, rowOf, countsOf, worse};
+ghost use Rattle.units.specs.Words.{plannedGrades, classes, cellOf, tableOf, noRow, rowOf, tenthsOf, worse};
 ghost use Rattle.units.specs.Unit.{starting, steppedIn, steppedUnder, admits, withinTolerance, allZero, bestLower, qualifies};
 use cusum::Cusum;
+use cusum::Defects;
 use cusum::PlanNumbers;
 
 // Classes are critical, severe, major and total.
@@ -32,7 +33,7 @@ pub type Cusums = [Cusum; CLASSES];
 // An overshoot of each class, in tenths.
 pub type Overshoots = [u64; CLASSES];
 
-// A count of each class.
+// The count of each class, in tenths.
 type Counts = [u32; CLASSES];
 
 // The designated grade, and S, T and L of grades A, B, C, in each by class.
@@ -45,10 +46,10 @@ pub struct Plan {
 // for, is separately coded and within reach.
 pub struct SampleUnit {
     pub code: u16,
-    pub critical: u16,
-    pub severe: u16,
-    pub major: u16,
-    pub minor: u16,
+    pub critical: Defects,
+    pub severe: Defects,
+    pub major: Defects,
+    pub minor: Defects,
     pub prerequisite: u8,
     pub recoverable: bool,
 }
@@ -127,13 +128,14 @@ pub fn row_of(table: Table, grade: u8) -> Row
     no_row()
 }
 
+// In tenths; so is their sum, which is that of total.
 fn counts_of(unit: SampleUnit) -> Counts
-    ensures { λ r. ⌜ r ≡ countsOf unit ⌝ }
+    ensures { λ r. ⌜ r ≡ tenthsOf unit ⌝ }
 {
-    let critical = unit.critical as u32;
-    let severe = unit.severe as u32;
-    let major = unit.major as u32;
-    let minor = unit.minor as u32;
+    let critical = unit.critical.tenths();
+    let severe = unit.severe.tenths();
+    let major = unit.major.tenths();
+    let minor = unit.minor.tenths();
     [critical, severe, major, critical + severe + major + minor]
 }
 
@@ -159,7 +161,7 @@ pub fn starts(row: Row) -> Cusums
 
 // Rule 2 in every class of a plan.
 pub fn step_classes(row: Row, cusums: Cusums, unit: SampleUnit) -> SteppedClasses
-    ensures { λ r. ⌜ r ≡ steppedIn row cusums (countsOf unit) ⌝ }
+    ensures { λ r. ⌜ r ≡ steppedIn row cusums (tenthsOf unit) ⌝ }
 {
     let counts = counts_of(unit);
     let mut new = [Cusum::ZERO; CLASSES];
@@ -183,7 +185,7 @@ pub fn step_classes(row: Row, cusums: Cusums, unit: SampleUnit) -> SteppedClasse
 
 // Under the plan of a grade; where there is none no class fails, and every CuSum and overshoot is zero.
 pub fn step_in_force(table: Table, grade: u8, cusums: Cusums, unit: SampleUnit) -> SteppedClasses
-    ensures { λ r. ⌜ r ≡ steppedUnder table grade cusums (countsOf unit) ⌝ }
+    ensures { λ r. ⌜ r ≡ steppedUnder table grade cusums (tenthsOf unit) ⌝ }
 {
     if grade < SUBSTANDARD {
         return step_classes(row_of(table, grade), cusums, unit);
@@ -217,7 +219,7 @@ fn none_above(limits: bool, row: Row, counts: Counts) -> bool
 {
     let mut class: usize = 0;
     while class < CLASSES {
-        if highest_of(row[class], limits) < cusum::tenths(counts[class]) {
+        if highest_of(row[class], limits) < counts[class] as u64 {
             return false;
         }
         class += 1;
@@ -240,7 +242,7 @@ fn all_zero(cusums: Cusums) -> bool
 
 // The best grade lower than this one that admits the counts; Substandard if none does.
 pub fn best_lower(table: Table, grade: u8, unit: SampleUnit) -> u8
-    ensures { λ r. ⌜ r ≡ bestLower table grade (countsOf unit) ⌝ }
+    ensures { λ r. ⌜ r ≡ bestLower table grade (tenthsOf unit) ⌝ }
 {
     let counts = counts_of(unit);
     if (grade < 1) & none_above(WITH_LIMIT, row_of(table, 1), counts) {
@@ -254,7 +256,7 @@ pub fn best_lower(table: Table, grade: u8, unit: SampleUnit) -> u8
 
 // Whether a unit with these new CuSums qualifies in step 3.
 pub fn qualifies_with(table: Table, designated: u8, cusums: Cusums, unit: SampleUnit) -> bool
-    ensures { λ r. ⌜ r ≡ qualifies table designated cusums (countsOf unit) ⌝ }
+    ensures { λ r. ⌜ r ≡ qualifies table designated cusums (tenthsOf unit) ⌝ }
 {
     let zero = all_zero(cusums);
     zero & none_above(TOLERANCE_ALONE, row_of(table, designated), counts_of(unit))

@@ -7,7 +7,7 @@ use mathlib.Core.List.{List}
 use native.Mathlib.Omega.{arith}
 use lib.ListN.{length}
 use Rattle.cusum.specs.declared.PlanNumbers.{PlanNumbers}
-use Rattle.units.specs.Words.{Table, rowOf, countsOf, noOvershoots}
+use Rattle.units.specs.Words.{Table, rowOf, tenthsOf, noOvershoots}
 use Rattle.units.specs.Unit.{steppedIn}
 use Rattle.units.specs.Records.{unitsOf}
 use Rattle.units.specs.declared.SampleUnit.{SampleUnit}
@@ -78,16 +78,16 @@ module _ {bytes : List ℕ} {n : ℕ} {table : Table} {row : List PlanNumbers} {
         unit-at = unit-here at-record is-mark refl (unit-by-mark bytes (place .at) is-unit is-read)
 
         -- it does not fail under the row that was picked
-        pub met-step : {stepped : SteppedClasses} → stepped ≡ steppedIn row (state .cusums) (countsOf unit) → stepped .fails ≡ false
+        pub met-step : {stepped : SteppedClasses} → stepped ≡ steppedIn row (state .cusums) (tenthsOf unit) → stepped .fails ≡ false
             → record { cusums = stepped .cusums; overshoots = noOvershoots; fails = false }
-            ≡ steppedIn (rowOf table (state .designated)) (state .cusums) (countsOf unit)
+            ≡ steppedIn (rowOf table (state .designated)) (state .cusums) (tenthsOf unit)
         met-step {stepped} steps meets =
             let none : stepped .overshoots ≡ noOvershoots
             = ap (λ (s : SteppedClasses). s .overshoots) steps
-            ∙ none-over row (state .cusums) (countsOf unit) (sym (ap (λ (s : SteppedClasses). s .fails) steps) ∙ meets) in
+            ∙ none-over row (state .cusums) (tenthsOf unit) (sym (ap (λ (s : SteppedClasses). s .fails) steps) ∙ meets) in
             ap₂ (λ (over : List ℕ) (failed : Bool). record { cusums = stepped .cusums; overshoots = over; fails = failed }) (sym none) (sym meets)
             ∙ steps
-            ∙ ap (λ (r : List PlanNumbers). steppedIn r (state .cusums) (countsOf unit)) (here .is-row)
+            ∙ ap (λ (r : List PlanNumbers). steppedIn r (state .cusums) (tenthsOf unit)) (here .is-row)
 
         pub room-past-unit : length bytes ≤ largestOffset → RoomPast place UnitMark
         unfolding markFor

@@ -8,7 +8,7 @@ use native.Mathlib.Omega.{arith}
 use lib.ListN.{length}
 use lib.Seq.{sets}
 use Rattle.cusum.specs.declared.PlanNumbers.{PlanNumbers}
-use Rattle.units.specs.Words.{hasPlan, Table, rowOf, countsOf}
+use Rattle.units.specs.Words.{hasPlan, Table, rowOf, tenthsOf}
 use Rattle.units.specs.Unit.{bestLower, defectGrade, qualifies, steppedUnder, steppedIn}
 use Rattle.units.specs.Records.{unitsAmong}
 use Rattle.units.specs.declared.SampleUnit.{SampleUnit}
@@ -45,17 +45,17 @@ gradingBy stepped failed grade =
 -- under the designated plan
 pub graded-designated : (table : Table) (state : State) (unit : SampleUnit) (stepped : SteppedClasses) (grade : ℕ)
     → state .phase ≡ Designated → hasPlan (state .designated) ≡ true
-    → stepped ≡ steppedIn (rowOf table (state .designated)) (state .cusums) (countsOf unit)
-    → grade ≡ cond (stepped .fails) (bestLower table (state .designated) (countsOf unit)) (state .designated)
+    → stepped ≡ steppedIn (rowOf table (state .designated)) (state .cusums) (tenthsOf unit)
+    → grade ≡ cond (stepped .fails) (bestLower table (state .designated) (tenthsOf unit)) (state .designated)
     → gradingBy stepped (stepped .fails) grade ≡ graded table state unit
 unfolding graded defectGrade inForceIn
 graded-designated table state unit stepped grade outside planned steps grades =
-    rw (outside, grades, steps, stepped-under table (state .designated) (state .cusums) (countsOf unit) planned)
+    rw (outside, grades, steps, stepped-under table (state .designated) (state .cusums) (tenthsOf unit) planned)
 
 -- in step 3
 pub graded-lower : (table : Table) (state : State) (unit : SampleUnit) (stepped : SteppedClasses) (lower grade : ℕ) → lower ≡ inForce state
-    → stepped ≡ steppedUnder table lower (state .cusums) (countsOf unit)
-    → grade ≡ cond (stepped .fails) (bestLower table lower (countsOf unit)) lower
+    → stepped ≡ steppedUnder table lower (state .cusums) (tenthsOf unit)
+    → grade ≡ cond (stepped .fails) (bestLower table lower (tenthsOf unit)) lower
     → gradingBy stepped (stepped .fails) grade ≡ graded table state unit
 unfolding graded defectGrade
 graded-lower table state unit stepped lower grade in-force steps grades = rw (grades, steps, in-force)
@@ -66,15 +66,15 @@ graded-lower table state unit stepped lower grade in-force steps grades = rw (gr
 outside-none : (table : Table) (state : State) (unit : SampleUnit) → state .phase ≡ Designated → false ≡ qualifiesIn table state unit
 unfolding qualifiesWith inStepThree
 outside-none table state unit outside =
-    sym (ap (λ (phase : Phase). inStepThree phase && qualifies table (state .designated) (graded table state unit .cusums) (countsOf unit)) outside)
+    sym (ap (λ (phase : Phase). inStepThree phase && qualifies table (state .designated) (graded table state unit .cusums) (tenthsOf unit)) outside)
 
 inside-test : (table : Table) (state : State) (unit : SampleUnit) (grading : Grading) → inStepThree (state .phase) ≡ true
     → grading ≡ graded table state unit
-    → qualifies table (state .designated) (grading .cusums) (countsOf unit) ≡ qualifiesIn table state unit
+    → qualifies table (state .designated) (grading .cusums) (tenthsOf unit) ≡ qualifiesIn table state unit
 unfolding qualifiesWith
 inside-test table state unit grading inside grades =
-    ap (λ (g : Grading). qualifies table (state .designated) (g .cusums) (countsOf unit)) grades
-    ∙ sym (ap (λ (b : Bool). b && qualifies table (state .designated) (graded table state unit .cusums) (countsOf unit)) inside)
+    ap (λ (g : Grading). qualifies table (state .designated) (g .cusums) (tenthsOf unit)) grades
+    ∙ sym (ap (λ (b : Bool). b && qualifies table (state .designated) (graded table state unit .cusums) (tenthsOf unit)) inside)
 
 next-by : (table : Table) (state : State) (unit : SampleUnit) (grading : Grading) (qualifying : Bool) (after : State) → grading ≡ graded table state unit
     → qualifying ≡ qualifiesIn table state unit → after ≡ afterUnit table state grading qualifying → after ≡ next table state (UnitRecord unit)
@@ -243,9 +243,9 @@ module _ {bytes : List ℕ} {n : ℕ} {table : Table} {place : Place} {state : S
 pub unit-under-designated : {bytes : List ℕ} {n : ℕ} {table : Table} {place : Place} {state : State} {unit : SampleUnit} (results : List ℕ)
     → UnitHere bytes n table place state unit (length results) → state .phase ≡ Designated
     → {row : List PlanNumbers} → row ≡ rowOf table (state .designated)
-    → {stepped : SteppedClasses} → stepped ≡ steppedIn row (state .cusums) (countsOf unit)
+    → {stepped : SteppedClasses} → stepped ≡ steppedIn row (state .cusums) (tenthsOf unit)
     → {failed : Bool} → stepped .fails ≡ failed
-    → {grade : ℕ} → grade ≡ cond failed (bestLower table (state .designated) (countsOf unit)) (state .designated)
+    → {grade : ℕ} → grade ≡ cond failed (bestLower table (state .designated) (tenthsOf unit)) (state .designated)
     → {result : ResultRecord} → result ≡ resultWith state unit (gradingBy stepped failed grade) false
     → {behind : List ℕ} → behind ≡ sets results (resultSize * place .units) (resultBytes ungraded result)
     → {after : State} → after ≡ afterUnit table state (gradingBy stepped failed grade) false
@@ -256,8 +256,8 @@ unit-under-designated {bytes} {n} {table} {place} {state} {unit} results here ou
     let grades : grading ≡ graded table state unit =
     ap (λ (f : Bool). gradingBy stepped f grade) (sym is-failed)
     ∙ graded-designated table state unit stepped grade outside (here .stands .planned)
-    (steps ∙ ap (λ (r : List PlanNumbers). steppedIn r (state .cusums) (countsOf unit)) is-row)
-    (is-grade ∙ ap (λ (f : Bool). cond f (bestLower table (state .designated) (countsOf unit)) (state .designated)) (sym is-failed)) in
+    (steps ∙ ap (λ (r : List PlanNumbers). steppedIn r (state .cusums) (tenthsOf unit)) is-row)
+    (is-grade ∙ ap (λ (f : Bool). cond f (bestLower table (state .designated) (tenthsOf unit)) (state .designated)) (sym is-failed)) in
     let same-result = ap (λ (r : ResultRecord). sets results (resultSize * place .units) (resultBytes ungraded r)) is-result in (
       next-by table state unit grading false after grades (outside-none table state unit outside) is-after,
       designated-done here grading grades results behind refl (stored ∙ same-result) outside,
@@ -267,9 +267,9 @@ unit-under-designated {bytes} {n} {table} {place} {state} {unit} results here ou
 module _ {bytes : List ℕ} {n : ℕ} {table : Table} {place : Place} {state : State} {unit : SampleUnit} (results : List ℕ)
     (here : UnitHere bytes n table place state unit (length results)) (inside : inStepThree (state .phase) ≡ true)
     {lower : ℕ} (is-lower : lower ≡ inForce state) {stepped : SteppedClasses}
-    (steps : stepped ≡ steppedUnder table lower (state .cusums) (countsOf unit))
-    {grade : ℕ} (is-grade : grade ≡ cond (stepped .fails) (bestLower table lower (countsOf unit)) lower)
-    {qualifying : Bool} (tests : qualifying ≡ qualifies table (state .designated) (stepped .cusums) (countsOf unit)) where
+    (steps : stepped ≡ steppedUnder table lower (state .cusums) (tenthsOf unit))
+    {grade : ℕ} (is-grade : grade ≡ cond (stepped .fails) (bestLower table lower (tenthsOf unit)) lower)
+    {qualifying : Bool} (tests : qualifying ≡ qualifies table (state .designated) (stepped .cusums) (tenthsOf unit)) where
   abbrev grading : Grading
   grading = gradingBy stepped (stepped .fails) grade
 

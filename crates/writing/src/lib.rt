@@ -7,7 +7,7 @@ ghost use lib.ListN.{length, drop};
 ghost use Rattle.rules.specs.StepThree.{next, inStepThree};
 ghost use Rattle.units.specs.declared.Entry.the-variants.{UnitRecord};
 ghost use Rattle.rules.specs.declared.Phase.the-variants.{Designated};
-ghost use Rattle.units.specs.Words.{rowOf, countsOf, noOvershoots};
+ghost use Rattle.units.specs.Words.{rowOf, tenthsOf, noOvershoots};
 ghost use Rattle.units.specs.Unit.{bestLower, steppedIn};
 ghost use Rattle.layout.specs.Layout.{entryAt, unitsBefore};
 ghost use Rattle.results.specs.Record.{resultSize};
@@ -50,7 +50,7 @@ struct Position {
 
 // The defect grade of a unit under the plan of a grade, by whether it fails.
 fn defect_grade(table: Table, grade: u8, fails: bool, unit: SampleUnit) -> u8
-    ensures { λ r. ⌜ r ≡ cond fails (bestLower table grade (countsOf unit)) grade ⌝ }
+    ensures { λ r. ⌜ r ≡ cond fails (bestLower table grade (tenthsOf unit)) grade ⌝ }
 {
     if fails {
         return best_lower(table, grade, unit);
@@ -190,7 +190,7 @@ fn write_met(
     new: Cusums,
     results: &mut [u8],
 ) -> State
-    requires { ⌜ UnitHere (now bytes) records table place state unit (length (now results)) × (state .phase ≡ Designated) × (record { cusums = new; overshoots = noOvershoots; fails = false } ≡ steppedIn (rowOf table (state .designated)) (state .cusums) (countsOf unit)) ⌝ }
+    requires { ⌜ UnitHere (now bytes) records table place state unit (length (now results)) × (state .phase ≡ Designated) × (record { cusums = new; overshoots = noOvershoots; fails = false } ≡ steppedIn (rowOf table (state .designated)) (state .cusums) (tenthsOf unit)) ⌝ }
     ensures state { λ r. ⌜ (r ≡ next table state (UnitRecord unit)) × (r .phase ≡ Designated) ⌝ }
     ensures buffer { λ r. ⌜ OneMore (sheetOf (now (bytes .entry)) records) (place .index) (now (results .entry)) (now (results .exit)) ⌝ }
 {

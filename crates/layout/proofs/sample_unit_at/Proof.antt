@@ -34,17 +34,17 @@ add-number-at-5 c = search needs
 number-at-requires-5 : tie.Need-number-at-requires-5
 number-at-requires-5 c κs = search needs
 
-add-t13 : tie.Need-add-t13
-add-t13 c = search needs
+add-t17 : tie.Need-add-t17
+add-t17 c = search needs
 
-shared-slice-read-t15 : tie.Need-shared-slice-read-t15
-shared-slice-read-t15 c = search needs
+shared-slice-read-t19 : tie.Need-shared-slice-read-t19
+shared-slice-read-t19 c = search needs
 
-add-t16 : tie.Need-add-t16
-add-t16 c = search needs
+add-t20 : tie.Need-add-t20
+add-t20 c = search needs
 
-shared-slice-read-t18 : tie.Need-shared-slice-read-t18
-shared-slice-read-t18 c = search needs
+shared-slice-read-t22 : tie.Need-shared-slice-read-t22
+shared-slice-read-t22 c = search needs
 
 returns : tie.Need-returns
 unfolding sampleUnitAt
@@ -75,8 +75,8 @@ sample-unit-at-spec =
     number-at-requires-4
     add-number-at-5
     number-at-requires-5
-    add-t13
-    shared-slice-read-t15
-    add-t16
-    shared-slice-read-t18
+    add-t17
+    shared-slice-read-t19
+    add-t20
+    shared-slice-read-t22
     returns)

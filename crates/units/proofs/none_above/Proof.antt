@@ -8,7 +8,6 @@ use lib.Dec.{leb}
 use borrow.Author.Tests.{lt-leb, le-leb}
 use lib.ListN.{length, drop}
 use Rattle.cusum.specs.declared.PlanNumbers.{PlanNumbers}
-use Rattle.cusum.specs.Step.{tenthsOf}
 use Rattle.units.specs.Conditions.{all}
 use Rattle.units.specs.Words.{classes, inClass, countIn}
 use Rattle.units.specs.Unit.{noneAbove, admits, withinTolerance}
@@ -30,7 +29,7 @@ one-test false row counts = refl
 abbrev Inv-loop : tie.InvT-loop
 Inv-loop limits row counts class₀ class = (class ≤ length classes)
     × (cond limits (admits row counts) (withinTolerance row counts)
-    ≡ all (λ k. leb (tenthsOf (countIn counts k)) (bound limits (inClass row k))) (drop class classes))
+    ≡ all (λ k. leb (countIn counts k) (bound limits (inClass row k))) (drop class classes))
 
 abbrev μ-loop : tie.MeasureT-loop
 μ-loop limits row counts class₀ class = length classes - class
@@ -48,24 +47,24 @@ array-copy-out-highest-of c = search needs
 highest-of-requires : tie.Need-highest-of-requires Inv-loop μ-loop
 highest-of-requires c κs = search needs
 
-mul-tenths : tie.Need-mul-tenths Inv-loop μ-loop
-mul-tenths c = search needs
+mul-if1 : tie.Need-mul-if1 Inv-loop μ-loop
+mul-if1 c = search needs
 
-array-read-tenths : tie.Need-array-read-tenths Inv-loop μ-loop
-array-read-tenths c = search needs
+array-read-if1 : tie.Need-array-read-if1 Inv-loop μ-loop
+array-read-if1 c = search needs
 
-tenths-requires : tie.Need-tenths-requires Inv-loop μ-loop
-tenths-requires c κs = search needs
+cast-if1 : tie.Need-cast-if1 Inv-loop μ-loop
+cast-if1 c = search needs
 
 returns : tie.Need-returns Inv-loop μ-loop
 returns c =
-    let start = c .before .before .before .before .before in
+    let start = c .before .before .before .before in
     let args = start .before .args in
     let class = start .loop .class in
     sym
     (start .loop .inv .1
     ∙ all-miss (length classes) _ class (omega arith)
-    (lt-leb (tenthsOf (countIn (args .t3) class)) (bound (args .limits) (inClass (args .t2) class)) (omega arith)))
+    (lt-leb (countIn (args .t3) class) (bound (args .limits) (inClass (args .t2) class)) (omega arith)))
 
 add-class : tie.Need-add-class Inv-loop μ-loop
 add-class c = search needs
@@ -75,13 +74,13 @@ loop-less c = search needs
 
 loop-again : tie.Need-loop-again Inv-loop μ-loop
 loop-again c =
-    let start = c .before .before .before .before .before in
+    let start = c .before .before .before .before in
     let args = start .before .args in
     let class = start .loop .class in (
       search needs,
       start .loop .inv .1
           ∙ all-hit (length classes) _ class (omega arith)
-          (le-leb (tenthsOf (countIn (args .t3) class)) (bound (args .limits) (inClass (args .t2) class)) (omega arith)),
+          (le-leb (countIn (args .t3) class) (bound (args .limits) (inClass (args .t2) class)) (omega arith)),
     )
 
 returns-2 : tie.Need-returns-2 Inv-loop μ-loop
@@ -99,9 +98,9 @@ none-above-spec =
     mul-highest-of
     array-copy-out-highest-of
     highest-of-requires
-    mul-tenths
-    array-read-tenths
-    tenths-requires
+    mul-if1
+    array-read-if1
+    cast-if1
     returns
     add-class
     loop-less

@@ -8,9 +8,6 @@ use Rattle.cusum.proofs.Cusum.step.Tie as tie
 cast-sum : tie.Need-cast-sum
 cast-sum c = search needs
 
-tenths-requires : tie.Need-tenths-requires
-tenths-requires c κs = search needs
-
 add-sum : tie.Need-add-sum
 add-sum c = search needs
 
@@ -40,7 +37,6 @@ step-spec =
     tie.close
     (tie.spec
     cast-sum
-    tenths-requires
     add-sum
     cast-tolerance
     cast-limit
