@@ -11,8 +11,9 @@ use borrow.Author.Tests.{leb-true, leb-false}
 use Rattle.layout.specs.Layout.{offset, mark}
 use Rattle.layout.proofs.Offsets.{size-ge, offset-lt}
 use Rattle.results.specs.Record.{resultSize}
-use Rattle.tally.specs.declared.Answer.{Answer}
-use Rattle.tally.specs.Outcome.{Outcome, outcome}
+use Rattle.outcome.specs.declared.Answer.{Answer}
+use Rattle.outcome.specs.Outcome.{Outcome}
+use Rattle.tally.specs.Outcome.{outcome}
 use Rattle.tally.specs.Accepted.{AcceptedAs}
 use Rattle.answers.specs.Demand1.{StoppedAt, Listed}
 use Rattle.computed.specs.WorkedCases.{peachPlan, peach, peachResults}

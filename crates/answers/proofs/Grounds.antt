@@ -21,8 +21,9 @@ use Rattle.sheet.specs.declared.Verdict.the-variants.{Accepted, Refused}
 use Rattle.sheet.proofs.Accepted.{Facts, Says, verdict-says}
 use Rattle.results.specs.Record.{resultSize}
 use Rattle.recording.specs.Sheet.{sheetOf}
-use Rattle.tally.specs.declared.Answer.{Answer}
-use Rattle.tally.specs.Outcome.{overfullBefore, Outcome, refusal, acceptance, outcomeBy, outcome}
+use Rattle.outcome.specs.declared.Answer.{Answer}
+use Rattle.outcome.specs.Outcome.{Outcome, refusal}
+use Rattle.tally.specs.Outcome.{overfullBefore, acceptance, outcomeBy, outcome}
 use Rattle.tally.proofs.Overfull.{none-overfull, cusum-fits}
 use Rattle.answers.specs.Grounds.{PlanRow, RecordRow, BufferRow, row13, row14, Ground, of-plan, of-record, of-buffer, rowsAbove, row, Earlier, FirstRowMet, WholeSheet, RefusedByGround, Demand2Grounds}
 use Rattle.answers.proofs.Rows.{is-unit-mark}

@@ -17,7 +17,8 @@ use Rattle.sheet.specs.declared.Verdict.the-variants.{Accepted, Refused}
 use Rattle.sheet.proofs.Accepted.{Stops}
 use Rattle.sheet.proofs.Listed.{refusal-listed}
 use Rattle.results.specs.Record.{resultSize}
-use Rattle.tally.specs.Outcome.{overfullBefore, Outcome, refusal, acceptance, outcomeBy, outcome}
+use Rattle.outcome.specs.Outcome.{Outcome, refusal}
+use Rattle.tally.specs.Outcome.{overfullBefore, acceptance, outcomeBy, outcome}
 use Rattle.answers.specs.Demand1.{StoppedAt, Listed, Demand1}
 use Rattle.tally.proofs.AcceptedSheet.{accepted-sheet, refused-untouched, rest-untouched}
 

@@ -17,8 +17,9 @@ use Rattle.sheet.proofs.Accepted.{facts}
 use Rattle.sheet.proofs.Listed.{refusal-listed}
 use Rattle.results.specs.Record.{resultSize}
 use Rattle.recording.specs.Sheet.{sheetOf}
-use Rattle.tally.specs.declared.Answer.{Answer}
-use Rattle.tally.specs.Outcome.{overfullBefore, refusal, acceptance, outcomeBy, outcome}
+use Rattle.outcome.specs.declared.Answer.{Answer}
+use Rattle.outcome.specs.Outcome.{refusal}
+use Rattle.tally.specs.Outcome.{overfullBefore, acceptance, outcomeBy, outcome}
 use Rattle.tally.proofs.Overfull.{none-overfull}
 use Rattle.answers.specs.Demand1.{Listed}
 use Rattle.answers.specs.Grounds.{CusumAbove, row14, Ground, of-buffer, RefusedByGround, NeverOverfull}

@@ -9,8 +9,9 @@ use lib.ListN.{length, drop}
 use Rattle.layout.specs.Layout.{offset, unitsBefore}
 use Rattle.sheet.specs.Refusals.{planRefusal, recordRefusal}
 use Rattle.results.specs.Record.{resultSize}
-use Rattle.tally.specs.declared.Answer.{Answer}
-use Rattle.tally.specs.Outcome.{Outcome, outcome, recordsIn}
+use Rattle.outcome.specs.declared.Answer.{Answer}
+use Rattle.outcome.specs.Outcome.{Outcome}
+use Rattle.tally.specs.Outcome.{outcome, recordsIn}
 
 -- a record is refused: by its number, at the offset of its mark, and no record before it is
 pub record StoppedAt (bytes : List ℕ) (number at : ℕ) : Type 0 where

@@ -15,8 +15,9 @@ use Rattle.rules.specs.Sheet.{gradedAt}
 use Rattle.layout.specs.Layout.{gradeOffset, tableOffset, toleranceOffset, limitOffset, planNumbersSize, planSize, kinds, countOffset, prerequisiteOffset, recoverableOffset, unitSize, redesignationSize, sampleUnitAt, offset, unitsBefore}
 use Rattle.results.specs.Record.{resultSize}
 use Rattle.recording.specs.Sheet.{sheetOf}
-use Rattle.tally.specs.declared.Answer.{Answer}
-use Rattle.tally.specs.Outcome.{Outcome, outcome}
+use Rattle.outcome.specs.declared.Answer.{Answer}
+use Rattle.outcome.specs.Outcome.{Outcome}
+use Rattle.tally.specs.Outcome.{outcome}
 
 -- ---- the plan
 

@@ -10,7 +10,8 @@ use Rattle.sheet.specs.Refusals.{verdict}
 use Rattle.sheet.specs.declared.Verdict.the-variants.{Accepted}
 use Rattle.results.specs.Record.{resultSize}
 use Rattle.recording.specs.Sheet.{sheetOf}
-use Rattle.tally.specs.Outcome.{overfullBefore, refusal, acceptance, outcomeBy, outcome}
+use Rattle.outcome.specs.Outcome.{refusal}
+use Rattle.tally.specs.Outcome.{overfullBefore, acceptance, outcomeBy, outcome}
 
 module _ (bytes buffer : List ℕ) (records units : ℕ) (passes : verdict bytes ≡ Accepted records units) where
   -- a buffer that holds the records, and no number 14

@@ -17,7 +17,8 @@ use Rattle.sheet.specs.Refusals.{mostUnits, refusedIf, planRefusal, countTooLar
 use Rattle.sheet.specs.declared.Verdict.the-variants.{Refused}
 use Rattle.sheet.proofs.Grounds.{refusal-by-mark}
 use Rattle.sheet.proofs.Computing.{computing}
-use Rattle.tally.specs.Outcome.{outcomeBy, outcome, refusal}
+use Rattle.outcome.specs.Outcome.{refusal}
+use Rattle.tally.specs.Outcome.{outcomeBy, outcome}
 use Rattle.computed.specs.WorkedCases.{peachPlan}
 use Rattle.computed.specs.FurtherSheets.{repeated}
 

@@ -8,7 +8,7 @@ use borrow.Author.Tests.{lt-ltb}
 use Rattle.cusum.specs.Step.{rawValue, aboveLimit, cusumOf, overshootOf, fails, newCusum, overshoot, stepOf}
 use Rattle.cusum.specs.declared.PlanNumbers.{PlanNumbers}
 use Rattle.cusum.proofs.Laws.{step-within}
-use Rattle.tally.specs.Outcome.{Outcome}
+use Rattle.outcome.specs.Outcome.{Outcome}
 use Rattle.tally.proofs.Computing.{computing}
 use Rattle.computed.proofs.Computed.{accepts}
 use Rattle.computed.specs.WorkedCases.{met, failed, inTenths, stepsFrom, minorSheet, minorGraded, minorQualifies, peachPlan, peachUnits, peach, peachResults, oneUnit, WorkedCases}

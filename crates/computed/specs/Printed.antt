@@ -5,7 +5,8 @@ use Prim.Native.Char.{code}
 use mathlib.Core.Path.{_≡_}
 use mathlib.Core.List.{List, [], _∷_, _++_}
 use lib.ListN.{length, replicate}
-use Rattle.tally.specs.Outcome.{outcome, refusal}
+use Rattle.outcome.specs.Outcome.{refusal}
+use Rattle.tally.specs.Outcome.{outcome}
 use Rattle.lines.specs.Ascii.{ascii}
 use Rattle.lines.specs.Lines.{decimal, linesOf, textOf, printed}
 use Rattle.computed.specs.FurtherSheets.{PrintedSheets}

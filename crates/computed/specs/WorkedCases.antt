@@ -19,7 +19,8 @@ use Rattle.rules.specs.Sheet.{Sheet, inForceAt, gradedAt, qualifiesAt, stepThre
 use Rattle.units.specs.declared.SampleUnit.{SampleUnit}
 use Rattle.units.specs.declared.Grading.{Grading}
 use Rattle.units.specs.declared.Entry.the-variants.{UnitRecord, Break}
-use Rattle.tally.specs.Outcome.{outcome, refusal}
+use Rattle.outcome.specs.Outcome.{refusal}
+use Rattle.tally.specs.Outcome.{outcome}
 
 -- ---- one class from unit to unit
 

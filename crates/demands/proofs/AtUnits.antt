@@ -23,7 +23,7 @@ use Rattle.layout.specs.Layout.{unitsIn, mark}
 use Rattle.layout.specs.declared.Mark.{Mark}
 use Rattle.layout.specs.declared.Mark.the-variants.{UnitMark, RedesignationMark, BreakMark, NoMark}
 use Rattle.results.specs.Record.{resultSize}
-use Rattle.tally.specs.declared.Answer.{Answer}
+use Rattle.outcome.specs.declared.Answer.{Answer}
 use Rattle.tally.specs.Outcome.{recordsIn}
 use Rattle.tally.specs.Accepted.{AcceptedAs, sheetIn, UnitAt, recordedPortionGrade, recordedCodeGrade, numbersInForce}
 use Rattle.demands.specs.Course.{Course, prerequisite, ClassFails, RuleTwo}

@@ -40,7 +40,7 @@ use Rattle.layout.specs.Layout.{recoverableOffset, sampleUnitAt, offset}
 use Rattle.sheet.proofs.Accepted.{Facts}
 use Rattle.sheet.proofs.Ranges.{designated-le}
 use Rattle.recording.specs.Sheet.{sheetOf}
-use Rattle.tally.specs.declared.Answer.{Answer}
+use Rattle.outcome.specs.declared.Answer.{Answer}
 use Rattle.tally.specs.Outcome.{recordsIn}
 use Rattle.tally.specs.Accepted.{AcceptedAs, sheetIn, UnitAt, recordedOvershoot, recordedPortionGrade, recordedCodeGrade}
 use Rattle.tally.proofs.AcceptedSheet.{accepted-sheet}

@@ -12,7 +12,7 @@ use Rattle.rules.specs.TwoInARow.{secondInARow}
 use Rattle.rules.specs.Anchor.{classFailsAt, restart, failure, Latest}
 use Rattle.layout.specs.Layout.{offset}
 use Rattle.results.specs.Record.{resultSize}
-use Rattle.tally.specs.declared.Answer.{Answer}
+use Rattle.outcome.specs.declared.Answer.{Answer}
 use Rattle.tally.specs.Accepted.{AcceptedAs, sheetIn}
 use Rattle.demands.specs.Demand3.{NeverWorse}
 use Rattle.computed.specs.WorkedCases.{peachPlan, peachUnits, peach, peachResults}

@@ -22,7 +22,7 @@ use Rattle.sheet.proofs.Accepted.{Facts}
 use Rattle.layout.proofs.Offsets.{past-entry, inside-unit}
 use Rattle.layout.proofs.Units.{entry-unit}
 use Rattle.sheet.proofs.Ranges.{designated-le}
-use Rattle.tally.specs.declared.Answer.{Answer}
+use Rattle.outcome.specs.declared.Answer.{Answer}
 use Rattle.tally.specs.Outcome.{recordsIn}
 use Rattle.tally.specs.Accepted.{sheetIn, UnitAt}
 use Rattle.demands.specs.Demand3.{FewerDefects, NoHigherAt, NoLowerAt, Demand3FewerDefects}

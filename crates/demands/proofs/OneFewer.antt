@@ -14,7 +14,7 @@ use Rattle.units.specs.Conditions.{any}
 use Rattle.units.specs.Words.{upFrom}
 use Rattle.units.proofs.Lists.{in-none}
 use Rattle.layout.specs.Layout.{countsOffset, redesignationSize, sizeOf, offset, mark}
-use Rattle.tally.specs.declared.Answer.{Answer}
+use Rattle.outcome.specs.declared.Answer.{Answer}
 use Rattle.tally.specs.Outcome.{recordsIn}
 use Rattle.tally.specs.Accepted.{AcceptedAs}
 use Rattle.demands.specs.Demand3.{InCount, Alike, FewerDefects, NeverWorse}

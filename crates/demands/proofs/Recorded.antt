@@ -25,7 +25,7 @@ use Rattle.results.specs.Record.{resultSize, markIn, codeIn, portionGradeIn, co
 use Rattle.results.specs.declared.ResultRecord.{ResultRecord}
 use Rattle.results.proofs.Written.{mark-written, portion-written, code-grade-written, plan-written, standing-written, code-written, cusum-written, overshoot-written}
 use Rattle.recording.specs.Sheet.{sheetOf, resultWith, resultOf}
-use Rattle.tally.specs.declared.Answer.{Answer}
+use Rattle.outcome.specs.declared.Answer.{Answer}
 use Rattle.tally.specs.Outcome.{resultsOf, recordsIn}
 use Rattle.tally.specs.Accepted.{AcceptedAs, sheetIn, UnitAt, recordedCusum, recordedOvershoot, recordedPortionGrade, recordedCodeGrade, numbersInForce}
 use Rattle.tally.proofs.AcceptedSheet.{AcceptedSheet, accepted-sheet}

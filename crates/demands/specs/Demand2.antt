@@ -14,7 +14,7 @@ use Rattle.rules.specs.Anchor.{classFailsAt, restartAt, countsFrom}
 use Rattle.layout.specs.Layout.{codeOffset, offset, mark, unitsBefore}
 use Rattle.layout.specs.declared.Mark.the-variants.{RedesignationMark}
 use Rattle.results.specs.Record.{markIn, codeIn, planGradeIn, standingIn}
-use Rattle.tally.specs.declared.Answer.{Answer}
+use Rattle.outcome.specs.declared.Answer.{Answer}
 use Rattle.tally.specs.Outcome.{recordsIn}
 use Rattle.tally.specs.Accepted.{AcceptedAs, sheetIn, UnitAt, recordedCusum, recordedOvershoot, recordedPortionGrade, recordedCodeGrade, numbersInForce}
 use Rattle.answers.specs.Tells.{Tells}

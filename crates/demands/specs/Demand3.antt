@@ -13,7 +13,7 @@ use Rattle.rules.specs.Anchor.{classFailsAt, countsFrom, Anchor, Latest, anchor
 use Rattle.rules.specs.TwoInARow.{secondInARow}
 use Rattle.layout.specs.Layout.{countsOffset, countOffset, kinds, prerequisiteOffset, offset, mark}
 use Rattle.layout.specs.declared.Mark.the-variants.{RedesignationMark}
-use Rattle.tally.specs.declared.Answer.{Answer}
+use Rattle.outcome.specs.declared.Answer.{Answer}
 use Rattle.tally.specs.Outcome.{recordsIn}
 use Rattle.tally.specs.Accepted.{AcceptedAs, sheetIn, UnitAt, recordedCusum, recordedOvershoot, recordedPortionGrade, recordedCodeGrade, numbersInForce}
 

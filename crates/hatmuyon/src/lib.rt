@@ -1,7 +1,8 @@
 // The grader for C and Rust.
 ghost use mathlib.Core.Path.{_≡_};
-ghost use Rattle.tally.specs.Outcome.{Outcome, outcome};
-use tally::Answer;
+ghost use Rattle.outcome.specs.Outcome.{Outcome};
+ghost use Rattle.tally.specs.Outcome.{outcome};
+use outcome::Answer;
 
 // Grades a whole sheet into a result buffer; see tally::grade. A slice passes as a pointer and then a length.
 #[no_mangle]

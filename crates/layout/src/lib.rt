@@ -15,7 +15,7 @@ use units::SampleUnit;
 // Sizes of the records, and offsets of their fields, each behind the one before it.
 pub const MARK_SIZE: usize = 2;
 
-const NUMBER_SIZE: usize = 2;
+pub const NUMBER_SIZE: usize = 2;
 
 // The designated grade of a plan, the new one of a redesignation.
 pub const GRADE_OFFSET: usize = MARK_SIZE;

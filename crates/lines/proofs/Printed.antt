@@ -10,8 +10,9 @@ use lib.ListN.{length, drop, length-append, length-replicate}
 use lib.Seq.{sets-eq}
 use Rattle.sheet.specs.Refusals.{mostUnits}
 use Rattle.results.specs.Record.{resultSize}
-use Rattle.tally.specs.declared.Answer.{Answer}
-use Rattle.tally.specs.Outcome.{Outcome, outcome}
+use Rattle.outcome.specs.declared.Answer.{Answer}
+use Rattle.outcome.specs.Outcome.{Outcome}
+use Rattle.tally.specs.Outcome.{outcome}
 use Rattle.tally.proofs.AcceptedSheet.{accepted-sheet}
 use Rattle.lines.specs.Lines.{linesOf, refusedLine, textOf, largestInput, tooMuchInput, emptyResults, printed, Printing, printing}
 use Rattle.lines.specs.Wrote.{Wrote}

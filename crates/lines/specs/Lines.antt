@@ -8,7 +8,7 @@ use lib.ListN.{length, drop, getD, replicate}
 use Rattle.units.specs.Words.{classes}
 use Rattle.sheet.specs.Refusals.{mostUnits}
 use Rattle.results.specs.Record.{resultSize, codeIn, portionGradeIn, codeGradeIn, planGradeIn, standingIn, cusumIn}
-use Rattle.tally.specs.declared.Answer.{Answer}
+use Rattle.outcome.specs.declared.Answer.{Answer}
 use Rattle.tally.specs.Outcome.{outcome}
 use Rattle.lines.specs.Ascii.{ascii}
 

@@ -4,6 +4,8 @@ use mathlib.Core.Bool.{Bool, true, false, not, _||_}
 use mathlib.Core.List.{List}
 use lib.Dec.{ltb, leb, eqb}
 use lib.ListN.{length}
+use Rattle.outcome.specs.Outcome.{refusedAs}
+use Rattle.outcome.specs.declared.Answer.{Answer}
 use Rattle.cusum.specs.declared.PlanNumbers.{PlanNumbers}
 use Rattle.encoding.specs.Bytes.{byte, number}
 use Rattle.units.specs.Conditions.{any, pick}
@@ -140,13 +142,7 @@ verdict bytes =
 
 -- ---- the answer
 
--- a number (0 for acceptance), the units and an offset
-pub record CheckAnswer : Type 0 where
-  pub number : ℕ
-  pub units : ℕ
-  pub offset : ℕ
-
 -- of each case: acceptance has the number of units and the sheet's length, a refusal no units and the place where the sheet stopped
-abbrev pub answerOf : List ℕ → Verdict → CheckAnswer
+abbrev pub answerOf : List ℕ → Verdict → Answer
 answerOf bytes (Accepted records units) = record { number = 0; units = units; offset = length bytes }
-answerOf bytes (Refused number offset) = record { number = number; units = 0; offset = offset }
+answerOf bytes (Refused number offset) = refusedAs number offset

@@ -20,8 +20,9 @@ use Rattle.sheet.proofs.Accepted.{Facts, facts, refusal-number}
 use Rattle.results.specs.Record.{resultSize}
 use Rattle.results.proofs.Written.{length-written}
 use Rattle.recording.specs.Sheet.{sheetOf, resultOf}
-use Rattle.tally.specs.declared.Answer.{Answer}
-use Rattle.tally.specs.Outcome.{overfullBefore, Outcome, refusal, resultsOf, acceptance, outcomeBy, outcome, recordsOf, recordsIn}
+use Rattle.outcome.specs.declared.Answer.{Answer}
+use Rattle.outcome.specs.Outcome.{Outcome, refusal}
+use Rattle.tally.specs.Outcome.{overfullBefore, resultsOf, acceptance, outcomeBy, outcome, recordsOf, recordsIn}
 use Rattle.tally.specs.Accepted.{AcceptedAs, sheetIn}
 
 -- ---- the cases of the outcome

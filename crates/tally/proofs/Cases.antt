@@ -29,7 +29,8 @@ use Rattle.codes.specs.Codes.{ungraded, codesGraded, Ungraded}
 use Rattle.codes.proofs.Coding.{Gradable, ungraded-yet, codes-are}
 use Rattle.recording.specs.Sheet.{sheetOf, resultWith, resultOf}
 use Rattle.writing.specs.Writable.{Writable}
-use Rattle.tally.specs.Outcome.{Outcome, refusal, resultsOf, acceptance, outcomeBy, limitTooLarge}
+use Rattle.outcome.specs.Outcome.{Outcome, refusal}
+use Rattle.tally.specs.Outcome.{resultsOf, acceptance, outcomeBy, limitTooLarge}
 use Rattle.tally.proofs.Overfull.{limits-fit, none-overfull}
 use Rattle.tally.proofs.Entries.{code-fits, designated-planned, portion-le}
 

@@ -9,8 +9,9 @@ use Rattle.layout.specs.Layout.{mark, unitsBefore}
 use Rattle.layout.specs.declared.Mark.the-variants.{UnitMark}
 use Rattle.results.specs.Record.{cusumIn, overshootIn, portionGradeIn, codeGradeIn}
 use Rattle.recording.specs.Sheet.{sheetOf}
-use Rattle.tally.specs.declared.Answer.{Answer}
-use Rattle.tally.specs.Outcome.{Outcome, outcome, recordsIn}
+use Rattle.outcome.specs.declared.Answer.{Answer}
+use Rattle.outcome.specs.Outcome.{Outcome}
+use Rattle.tally.specs.Outcome.{outcome, recordsIn}
 
 -- grading a sheet into a buffer gave this answer and left these bytes, as the promise of `grade` says, and the sheet was accepted
 pub record AcceptedAs (bytes buffer : List ℕ) (answer : Answer) (results : List ℕ) : Type 0 where

@@ -12,13 +12,13 @@ use Rattle.units.specs.Words.{classes, tenthsIn}
 use Rattle.units.specs.declared.Entry.{Entry}
 use Rattle.units.specs.declared.Entry.the-variants.{UnitRecord, Redesignation, Break}
 use Rattle.rules.specs.Sheet.{Sheet, gradedAt, codeGrade}
-use Rattle.sheet.specs.Refusals.{verdict, CheckAnswer, answerOf}
+use Rattle.sheet.specs.Refusals.{verdict, answerOf}
 use Rattle.sheet.specs.declared.Verdict.{Verdict}
 use Rattle.sheet.specs.declared.Verdict.the-variants.{Accepted, Refused}
 use Rattle.results.specs.Record.{resultSize}
 use Rattle.results.specs.Written.{written}
 use Rattle.recording.specs.Sheet.{sheetOf, resultOf}
-use Rattle.tally.specs.declared.Answer.{Answer}
+use Rattle.outcome.specs.Outcome.{Outcome, refusal}
 
 -- ---- number 14
 
@@ -38,34 +38,21 @@ overfullBefore sheet (suc n) = overfullBefore sheet n || overfullBy sheet n (she
 
 -- ---- the outcome
 
--- the answer, and the result buffer as it is left
-pub record Outcome : Type 0 where
-  pub answer : Answer
-  pub buffer : List ℕ
-
--- a refusal returns its number, no units and an offset; the buffer keeps every byte
-abbrev pub refusal : ℕ → ℕ → List ℕ → Outcome
-refusal number offset buffer = record { answer = record { number = number; units = 0; offset = offset }; buffer = buffer }
-
 -- what a sheet writes: the result records of its units, one after the other, with the code grades of the sheet
 abbrev pub resultsOf : Sheet → List ℕ
 resultsOf sheet = written (resultOf sheet) (codeGrade sheet) (sheet .entry) (sheet .size)
-
--- an answer of the check, as it is
-abbrev pub answeredBy : CheckAnswer → Answer
-answeredBy given = record { number = given .number; units = given .units; offset = given .offset }
 
 -- acceptance is the check's; bytes behind the last result record keep theirs
 unfoldable pub acceptance : List ℕ → List ℕ → ℕ → ℕ → Outcome
 acceptance bytes buffer records units =
     record {
-      answer = answeredBy (answerOf bytes (Accepted records units));
+      answer = answerOf bytes (Accepted records units);
       buffer = resultsOf (sheetOf bytes records) ++ drop (resultSize * units) buffer;
     }
 
 -- 1 to 12 by the check of the sheet; then 13, a buffer shorter than 32 times the units; then 14; both at the sheet's length
 unfoldable pub outcomeBy : List ℕ → List ℕ → Verdict → Outcome
-outcomeBy bytes buffer (Refused number offset) = record { answer = answeredBy (answerOf bytes (Refused number offset)); buffer = buffer }
+outcomeBy bytes buffer (Refused number offset) = record { answer = answerOf bytes (Refused number offset); buffer = buffer }
 outcomeBy bytes buffer (Accepted records units) =
     pick (ltb (length buffer) (resultSize * units)) (refusal 13 (length bytes) buffer)
     (pick (overfullBefore (sheetOf bytes records) records) (refusal 14 (length bytes) buffer)

@@ -2,25 +2,20 @@
 ghost use mathlib.Core.Path.{_≡_};
 ghost use Rattle.sheet.specs.Refusals.{verdict, anyNumbers};
 ghost use Rattle.sheet.specs.declared.Verdict.the-variants.{Accepted};
-ghost use Rattle.tally.specs.Outcome.{Outcome, limitTooLarge, outcomeBy, outcome};
+ghost use Rattle.outcome.specs.Outcome.{Outcome};
+ghost use Rattle.tally.specs.Outcome.{limitTooLarge, outcomeBy, outcome};
 use codes::grade_codes;
 use cusum::Cusum;
 use cusum::PlanNumbers;
 use layout::plan_of;
+use outcome::Answer;
+use outcome::refusal;
 use results::RESULT_SIZE;
 use sheet::Verdict;
 use sheet::check;
 use units::CELLS;
 use units::Plan;
 use writing::write_records;
-
-// Acceptance: 0, the number of units, the sheet's length. A refusal: its number, no units, an offset in the sheet.
-#[repr(C)]
-pub struct Answer {
-    pub number: u32,
-    pub units: usize,
-    pub offset: usize,
-}
 
 // Whether an L is too large for two bytes. A CuSum is at most its L, so that none is too large where no L is (law `none-overfull`).
 fn limit_too_large(numbers: PlanNumbers) -> bool
@@ -41,16 +36,6 @@ fn any_limit_too_large(plan: Plan) -> bool
         cell += 1;
     }
     found
-}
-
-fn refusal(number: u32, offset: usize) -> Answer
-    ensures { λ r. ⌜ r ≡ record { number = number; units = 0; offset = offset } ⌝ }
-{
-    Answer {
-        number: number,
-        units: 0,
-        offset: offset,
-    }
 }
 
 // Grades a sheet that passes refusals 1 to 12.

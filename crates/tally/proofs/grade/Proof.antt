@@ -1,6 +1,6 @@
 -- By cases on the verdict of the check.
 use mathlib.Core.Path.{sym, _∙_, ap}
-use Rattle.tally.specs.declared.Answer.{Answer}
+use Rattle.outcome.specs.declared.Answer.{Answer}
 use Rattle.tally.specs.Outcome.{outcomeBy, outcome}
 use borrow.Author.Needs.{needs}
 use Rattle.tally.proofs.grade.Statement.{statement}

@@ -4,7 +4,7 @@ use native.Mathlib.Omega.{arith}
 use Rattle.units.specs.Words.{tableOf}
 use Rattle.units.specs.declared.Plan.{Plan}
 use Rattle.sheet.specs.Refusals.{anyNumbers}
-use Rattle.tally.specs.declared.Answer.{Answer}
+use Rattle.outcome.specs.declared.Answer.{Answer}
 use Rattle.tally.specs.Outcome.{limitTooLarge}
 use Rattle.tally.proofs.Cases.{units-few, plan-here, too-short, never-overfull, writable, ready-for-codes, done}
 use borrow.Author.Needs.{needs}

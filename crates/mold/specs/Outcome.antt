@@ -1,0 +1,22 @@
+-- Grading a mold sheet into a result buffer: the answer and the buffer as it is left, for every sheet and every buffer.
+use Prim.Native.Nat.{ℕ, _*_}
+use mathlib.Core.List.{List, _++_}
+use lib.Dec.{ltb, eqb}
+use lib.ListN.{length, drop}
+use Rattle.outcome.specs.Outcome.{Outcome, refusal}
+use Rattle.units.specs.Conditions.{pick}
+use Rattle.mold.specs.Refusals.{acceptedAs, checked}
+use Rattle.mold.specs.Results.{resultSize, written}
+
+-- accepted with so many units: their result records; bytes behind the last one keep theirs
+abbrev pub acceptance : List ℕ → List ℕ → ℕ → Outcome
+acceptance bytes buffer units =
+    record { answer = acceptedAs bytes units; buffer = written bytes units ++ drop (resultSize * units) buffer }
+
+-- 1, 16, 6, 7, 12 and 17 by the check of the sheet; then 13, a buffer shorter than 5 times the units, at the sheet's length
+unfoldable pub outcome : List ℕ → List ℕ → Outcome
+outcome bytes buffer =
+    let answer = checked bytes in
+    pick (eqb (answer .number) 0)
+    (pick (ltb (length buffer) (resultSize * answer .units)) (refusal 13 (length bytes) buffer) (acceptance bytes buffer (answer .units)))
+    (record { answer = answer; buffer = buffer })
