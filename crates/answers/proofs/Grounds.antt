@@ -145,7 +145,7 @@ module _ (bytes buffer : List ℕ) where
       inr (
         refused,
         subst⁻¹ (FirstRowMet bytes buffer number) (stops .at-offset)
-            (record-refused number (stops .stop) passed (stops .inside) (stops .refusal) refused (λ j h. stops .earlier j (omega arith) h)),
+            (record-refused number (stops .stop) passed (stops .inside) (stops .refusal) refused (stops .earlier)),
       )
   judged-by (Accepted records units) (facts, counted) =
       go (ltb (length buffer) (resultSize * units)) refl (overfullBefore (sheetOf bytes records) records) refl

@@ -22,14 +22,14 @@ use Rattle.tally.specs.Outcome.{overfullBefore, acceptance, outcomeBy, outcome}
 use Rattle.answers.specs.Demand1.{StoppedAt, Listed, Demand1}
 use Rattle.tally.proofs.AcceptedSheet.{accepted-sheet, refused-untouched, rest-untouched}
 
-stopped : {bytes : List ℕ} {number at : ℕ} → Stops bytes 0 number at → StoppedAt bytes number at
+stopped : {bytes : List ℕ} {number at : ℕ} → Stops bytes number at → StoppedAt bytes number at
 stopped {bytes} stops =
     record {
       stop = stops .stop;
       at-mark = stops .at-offset;
       inside = subst⁻¹ (λ (place : ℕ). place < length bytes) (stops .at-offset) (stops .inside);
       refusal = stops .refusal;
-      earlier = λ j before. stops .earlier j (omega arith) (omega arith);
+      earlier = stops .earlier;
     }
 
 listed-by : (bytes buffer : List ℕ) (v : Verdict) → verdict bytes ≡ v → Listed bytes (outcomeBy bytes buffer v .answer)

@@ -13,6 +13,7 @@ use Rattle.encoding.specs.Bytes.{byte, number}
 use Rattle.units.specs.Conditions.{pick}
 use Rattle.layout.specs.Layout.{planSize, countOffset, prerequisiteOffset, recoverableOffset, unitSize, sampleUnitAt, markOf, markAt, sizeOf, unitsIn, offset, mark, unitsBefore}
 use Rattle.layout.specs.declared.Mark.the-variants.{UnitMark}
+use Rattle.sheet.specs.LeftToRight.{leftToRight}
 use Rattle.sheet.specs.Refusals.{mostUnits, refusedIf, planRefusal, countTooLarge, unitRefusal, refusalBy, refusalAt, designatedBefore, recordRefusal, checkFrom, verdict}
 use Rattle.sheet.specs.declared.Verdict.the-variants.{Refused}
 use Rattle.sheet.proofs.Grounds.{refusal-by-mark}
@@ -125,7 +126,7 @@ module _ (behind : List ℕ) where
     before-end i h = lt-leb (length full) (offset full i) (omega (arith, full-length, inside, stands i h .0))
 
     comes-to : (left most i : ℕ) → i + left ≡ mostUnits → left < most → checkFrom full most i ≡ Refused number (place mostUnits)
-    unfolding checkFrom pick
+    unfolding leftToRight pick
     comes-to left zero i h enough = absurd (omega arith)
     comes-to zero (suc most) i h enough =
         let here : i ≡ mostUnits = omega arith in

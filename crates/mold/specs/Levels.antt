@@ -7,8 +7,8 @@ use Rattle.cusum.specs.declared.DefectiveFields.{DefectiveFields}
 use Rattle.cusum.specs.declared.PlanNumbers.{PlanNumbers}
 
 -- rows 0 to 5 are defect action levels 5, 10, 12, 15, 20, 25
-abbrev pub levels : List ℕ
-levels = 5 ∷ 10 ∷ 12 ∷ 15 ∷ 20 ∷ 25 ∷ []
+abbrev pub lastRow : ℕ
+lastRow = 5
 
 -- S, T and L of each row
 abbrev pub starts : List ℕ

@@ -1,5 +1,5 @@
 -- Where a mold sheet is turned away before the result buffer is looked at: numbers 1, 16, 6, 7, 12 and 17, in this order.
-use Prim.Native.Nat.{ℕ, zero, suc, _+_}
+use Prim.Native.Nat.{ℕ, _+_}
 use mathlib.Core.Bool.{Bool, not, _||_}
 use mathlib.Core.List.{List}
 use lib.Dec.{ltb, leb, eqb}
@@ -9,8 +9,9 @@ use Rattle.outcome.specs.declared.Answer.{Answer}
 use Rattle.encoding.specs.Bytes.{number}
 use Rattle.units.specs.Conditions.{pick}
 use Rattle.layout.specs.Layout.{markSize}
+use Rattle.sheet.specs.LeftToRight.{leftToRight}
 use Rattle.sheet.specs.Refusals.{refusedIf, mostUnits}
-use Rattle.mold.specs.Levels.{levels}
+use Rattle.mold.specs.Levels.{lastRow}
 use Rattle.mold.specs.Layout.{openingSize, unitSize, levelRow, offset, moldUnitAt}
 
 -- positive fields are counted out of 25
@@ -25,7 +26,7 @@ noOpening bytes = ltb (length bytes) openingSize || not (eqb (number bytes 0) 0x
 unfoldable pub openingRefusal : List ℕ → ℕ
 openingRefusal bytes =
     refusedIf (noOpening bytes) 1
-    (refusedIf (leb (length levels) (levelRow bytes)) 16
+    (refusedIf (ltb lastRow (levelRow bytes)) 16
     0)
 
 -- 6: one byte left (with none left there is no record), or any mark but 4D 55
@@ -50,14 +51,9 @@ recordRefusal bytes i = unitRefusal bytes (offset i) i
 abbrev pub acceptedAs : List ℕ → ℕ → Answer
 acceptedAs bytes units = record { number = 0; units = units; offset = length bytes }
 
--- records are checked left to right, each wholly before the next; the first ground met is returned. From record i on, at most so many
--- (no sheet has more records than bytes)
-unfoldable pub checkFrom : List ℕ → ℕ → ℕ → Answer
-checkFrom bytes zero i = acceptedAs bytes i
-checkFrom bytes (suc most) i =
-    pick (leb (length bytes) (offset i)) (acceptedAs bytes i)
-    (pick (eqb (recordRefusal bytes i) 0) (checkFrom bytes most (suc i))
-    (refusedAs (recordRefusal bytes i) (offset i)))
+-- records are checked left to right, from record i on, at most so many (the sheet's length is always enough: law `check-says`)
+abbrev pub checkFrom : List ℕ → ℕ → ℕ → Answer
+checkFrom bytes = leftToRight (length bytes) offset (recordRefusal bytes) (acceptedAs bytes) refusedAs
 
 -- of a sheet: acceptance, or the number of the first ground met and its offset
 unfoldable pub checked : List ℕ → Answer

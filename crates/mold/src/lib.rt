@@ -1,12 +1,13 @@
 // Grading a mold sheet: positive fields out of 25, under the S, T and L of a defect action level.
 ghost use mathlib.Core.Path.{_≡_};
-ghost use Prim.Native.Nat.{_+_, _*_, _≤_, _<_};
+ghost use mathlib.Core.Bool.{cond};
+ghost use Prim.Native.Nat.{_+_, _*_, _≤_};
 ghost use mathlib.Core.List.{_++_};
 ghost use lib.ListN.{length, drop};
 ghost use lib.Seq.{sets};
 ghost use Rattle.outcome.specs.Outcome.{Outcome};
 ghost use Rattle.cusum.specs.Counts.{fieldTenths};
-ghost use Rattle.mold.specs.Levels.{levels, levelNumbers};
+ghost use Rattle.mold.specs.Levels.{lastRow, levelNumbers};
 ghost use Rattle.mold.specs.Layout.{openingSize, unitSize, levelRow, offset, moldUnitAt};
 ghost use Rattle.mold.specs.Refusals.{openingRefusal, unitRefusal, checkFrom, checked};
 ghost use Rattle.mold.specs.Results.{resultSize, resultBytes, written};
@@ -25,6 +26,8 @@ use sheet::MOST_UNITS;
 
 // Defect action levels 5, 10, 12, 15, 20 and 25, and S, T and L of each, in whole fields.
 const LEVELS: usize = 6;
+
+const LAST_ROW: u8 = 5;
 
 const STARTS: [u8; LEVELS] = [0, 1, 0, 1, 0, 1];
 
@@ -68,10 +71,11 @@ fn tenths_of(fields: u8) -> u16
 }
 
 // S, T and L of a row.
-fn level_numbers(row: usize) -> PlanNumbers
-    requires { ⌜ row < length levels ⌝ }
+fn level_numbers(row: u8) -> PlanNumbers
+    requires { ⌜ row ≤ lastRow ⌝ }
     ensures { λ r. ⌜ r ≡ levelNumbers row ⌝ }
 {
+    let row = row as usize;
     PlanNumbers {
         start: tenths_of(STARTS[row]),
         tolerance: tenths_of(TOLERANCES[row]),
@@ -89,7 +93,7 @@ fn opening_refusal(bytes: &[u8]) -> u32
     if number_at(bytes, 0) != 0x4d44 {
         return 1;
     }
-    if LEVELS <= bytes[LEVEL_OFFSET] as usize {
+    if LAST_ROW < bytes[LEVEL_OFFSET] {
         return 16;
     }
     0
@@ -104,6 +108,14 @@ pub fn mold_unit_at(bytes: &[u8], at: usize) -> MoldUnit
         code: number_at(bytes, at + CODE_OFFSET),
         fields: DefectiveFields(bytes[at + FIELDS_OFFSET]),
     }
+}
+
+// Its positive fields in tenths, as rule 2 takes them.
+fn tenths_at(bytes: &[u8], at: usize) -> u32
+    requires { ⌜ at + unitSize ≤ length (now bytes) ⌝ }
+    ensures { λ r. ⌜ r ≡ fieldTenths (moldUnitAt (now (bytes .entry)) at .fields) ⌝ }
+{
+    mold_unit_at(bytes, at).fields.tenths()
 }
 
 // The number of the first ground that the record at an offset meets, or 0.
@@ -163,6 +175,13 @@ fn check(bytes: &[u8]) -> Answer
     check_records(bytes)
 }
 
+// 1 for met, 0 for failed.
+fn met_byte(fails: bool) -> u8
+    ensures { λ r. ⌜ r ≡ cond fails 0 1 ⌝ }
+{
+    if fails { 0 } else { 1 }
+}
+
 // Writes the result record of a unit to the start of the rest of the result buffer.
 fn write(rest: &mut [u8], stepped: Stepped)
     requires { ⌜ resultSize ≤ length (now rest) ⌝ }
@@ -171,7 +190,7 @@ fn write(rest: &mut [u8], stepped: Stepped)
     let tenths = stepped.cusum.tenths;
     rest[0] = 0x4d;
     rest[1] = 0x52;
-    rest[MET_OFFSET] = if stepped.fails { 0 } else { 1 };
+    rest[MET_OFFSET] = met_byte(stepped.fails);
     rest[CUSUM_OFFSET] = (tenths / 256 % 256) as u8;
     rest[CUSUM_OFFSET + 1] = (tenths % 256) as u8;
 }
@@ -186,15 +205,15 @@ fn write_at(results: &mut [u8], at: usize, stepped: Stepped)
 
 // Writes the result records of so many units, which are whole.
 fn write_units(bytes: &[u8], units: usize, results: &mut [u8])
-    requires { ⌜ (levelRow (now bytes) < length levels) × (offset units ≤ length (now bytes)) × (resultSize * units ≤ length (now results)) ⌝ }
+    requires { ⌜ (levelRow (now bytes) ≤ lastRow) × (offset units ≤ length (now bytes)) × (resultSize * units ≤ length (now results)) ⌝ }
     ensures { λ _. ⌜ now (results .exit) ≡ written (now (bytes .entry)) units ++ drop (resultSize * units) (now (results .entry)) ⌝ }
 {
-    let numbers = level_numbers(bytes[LEVEL_OFFSET] as usize);
+    let numbers = level_numbers(bytes[LEVEL_OFFSET]);
     let mut cusum = Cusum::starting(numbers);
     let mut unit: usize = 0;
     while unit < units {
-        let fields = mold_unit_at(bytes, OPENING_SIZE + UNIT_SIZE * unit).fields;
-        let stepped = cusum.step(numbers, fields.tenths());
+        let tenths = tenths_at(bytes, OPENING_SIZE + UNIT_SIZE * unit);
+        let stepped = cusum.step(numbers, tenths);
         write_at(results, RESULT_SIZE * unit, stepped);
         cusum = stepped.cusum;
         unit += 1;

@@ -20,33 +20,9 @@ use Rattle.layout.proofs.Offsets.{size-ge, offset-ge, short-mark}
 use Rattle.layout.proofs.Walk.{walk-first, walk-longer, at-is, units-are, whole-here, next-place, room-past}
 use Rattle.sheet.specs.Refusals.{refusalBy, designatedBefore, recordRefusal, checkFrom}
 use Rattle.sheet.specs.declared.Verdict.the-variants.{Accepted, Refused}
+use Rattle.sheet.proofs.LeftToRight.{check-done, check-more, check-refused}
+use Rattle.sheet.proofs.Accepted.{offset-further}
 use Rattle.sheet.proofs.Grounds.{refusal-by-mark, whole-record}
-
--- ---- one step of `checkFrom`
-
-module _ (bytes : List ℕ) (i : ℕ) where
-  pub check-done : (most : ℕ) → length bytes ≤ offset bytes i → checkFrom bytes most i ≡ Accepted i (unitsBefore bytes i)
-  unfolding checkFrom pick
-  check-done zero h = refl
-  check-done (suc most) h = rw (le-leb (length bytes) (offset bytes i) h)
-
-  module _ (h : offset bytes i < length bytes) where
-    left : length bytes - i ≡ suc (length bytes - suc i)
-    left = omega (arith, offset-ge bytes i)
-
-    pub check-more : recordRefusal bytes i ≡ 0
-        → checkFrom bytes (length bytes - i) i ≡ checkFrom bytes (length bytes - suc i) (suc i)
-    unfolding checkFrom pick
-    check-more e =
-        ap (λ (most : ℕ). checkFrom bytes most i) left
-        ∙ rw (lt-leb (length bytes) (offset bytes i) h, eq-eqb (recordRefusal bytes i) 0 e)
-
-    pub check-refused : (recordRefusal bytes i ≡ 0 → ⊥)
-        → checkFrom bytes (length bytes - i) i ≡ Refused (recordRefusal bytes i) (offset bytes i)
-    unfolding checkFrom pick
-    check-refused e =
-        ap (λ (most : ℕ). checkFrom bytes most i) left
-        ∙ rw (lt-leb (length bytes) (offset bytes i) h, ne-eqb (recordRefusal bytes i) 0 e)
 
 -- ---- the loop
 
@@ -82,7 +58,7 @@ module _ (bytes : List ℕ) (place : Place) (designated : ℕ) (stands : Stands 
 
   pub stands-done : length bytes ≤ place .at → Accepted i (place .units) ≡ checkFrom bytes (length bytes) 0
   stands-done h =
-      ap (Accepted i) units-before ∙ sym (stands .still ∙ check-done bytes i (length bytes - i) (omega (arith, at-offset)))
+      ap (Accepted i) units-before ∙ sym (stands .still ∙ check-done _ _ _ _ _ (length bytes - i) i (omega (arith, at-offset)))
 
   module _ (h : place .at < length bytes) (mark : Mark) (is-mark : mark ≡ markAt bytes (place .at))
       (number : ℕ) (e : number ≡ refusalBy bytes (place .at) (place .units) designated mark) where
@@ -100,7 +76,7 @@ module _ (bytes : List ℕ) (place : Place) (designated : ℕ) (stands : Stands 
     pub stands-refused : (number ≡ 0 → ⊥) → Refused number (place .at) ≡ checkFrom bytes (length bytes) 0
     stands-refused refused =
         ap₂ Refused refusal-here at-offset
-        ∙ sym (stands .still ∙ check-refused bytes i before-end (λ zero-here. refused (refusal-here ∙ zero-here)))
+        ∙ sym (stands .still ∙ check-refused _ _ _ _ _ (offset-further bytes) i before-end (λ zero-here. refused (refusal-here ∙ zero-here)))
 
     module _ (passed : number ≡ 0) where
       -- the walk over one record more
@@ -127,7 +103,7 @@ module _ (bytes : List ℕ) (place : Place) (designated : ℕ) (stands : Stands 
             walk = record { whole = longer .whole; inside = omega arith; here = refl };
             within = longer .whole i (omega arith);
             designated-before = q ∙ rw (is-mark, at-offset, stands .designated-before);
-            still = stands .still ∙ check-more bytes i before-end (sym refusal-here ∙ passed);
+            still = stands .still ∙ check-more _ _ _ _ _ (offset-further bytes) i before-end (sym refusal-here ∙ passed);
           })
 
   -- where one byte is left, there is no mark

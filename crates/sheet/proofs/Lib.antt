@@ -1,3 +1,4 @@
+pub mod LeftToRight
 pub mod Grounds
 pub mod Checking
 pub mod Accepted

@@ -62,7 +62,7 @@ some first last number known other same (inr (from, to)) = (omega arith, omega a
 -- a refusal of the plan, or of the first record refused
 abbrev pub Which : List ℕ → ℕ → ℕ → Type 0
 Which bytes number at =
-    ((1 ≤ number) × (number ≤ 5) × (number ≡ planRefusal bytes) × (at ≡ 0)) ⊎ ((6 ≤ number) × (number ≤ 12) × Stops bytes 0 number at)
+    ((1 ≤ number) × (number ≤ 5) × (number ≡ planRefusal bytes) × (at ≡ 0)) ⊎ ((6 ≤ number) × (number ≤ 12) × Stops bytes number at)
 
 pub refusal-listed : (bytes : List ℕ) (number at : ℕ) → verdict bytes ≡ Refused number at → Which bytes number at
 unfolding Says

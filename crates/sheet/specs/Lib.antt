@@ -1,1 +1,2 @@
+pub mod LeftToRight
 pub mod Refusals

@@ -16,6 +16,7 @@ use Rattle.units.specs.declared.SampleUnit.{SampleUnit}
 use Rattle.layout.specs.Layout.{markSize, gradeOffset, planSize, unitSize, redesignationSize, prerequisiteOffset, recoverableOffset, cells, planOf, sampleUnitAt, markAt, offset, entryAt, unitsBefore}
 use Rattle.layout.specs.declared.Mark.{Mark}
 use Rattle.layout.specs.declared.Mark.the-variants.{UnitMark, RedesignationMark, BreakMark, NoMark}
+use Rattle.sheet.specs.LeftToRight.{leftToRight}
 use Rattle.sheet.specs.declared.Verdict.{Verdict}
 use Rattle.sheet.specs.declared.Verdict.the-variants.{Accepted, Refused}
 
@@ -126,14 +127,10 @@ recordRefusal bytes i = refusalAt bytes (offset bytes i) (unitsBefore bytes i) (
 
 -- ---- the sheet
 
--- records are checked left to right, each wholly before the next; the first ground met is returned. From record i on, at most so many
--- (every record has two bytes or more, so the sheet's length is always enough: law `check-fits`)
-unfoldable pub checkFrom : List ℕ → ℕ → ℕ → Verdict
-checkFrom bytes zero i = Accepted i (unitsBefore bytes i)
-checkFrom bytes (suc most) i =
-    pick (leb (length bytes) (offset bytes i)) (Accepted i (unitsBefore bytes i))
-    (pick (eqb (recordRefusal bytes i) 0) (checkFrom bytes most (suc i))
-    (Refused (recordRefusal bytes i) (offset bytes i)))
+-- records are checked left to right, from record i on, at most so many (every record has two bytes or more, so the sheet's length is
+-- always enough: law `check-says`)
+abbrev pub checkFrom : List ℕ → ℕ → ℕ → Verdict
+checkFrom bytes = leftToRight (length bytes) (offset bytes) (recordRefusal bytes) (λ i. Accepted i (unitsBefore bytes i)) Refused
 
 -- a sheet that passes numbers 1 to 12, with its records and units, or the number of the first ground met and its offset
 unfoldable pub verdict : List ℕ → Verdict
