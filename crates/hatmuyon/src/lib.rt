@@ -1,6 +1,7 @@
 // The grader for C and Rust.
 ghost use mathlib.Core.Path.{_≡_};
 ghost use Rattle.outcome.specs.Outcome.{Outcome};
+ghost use Rattle.mold.specs.Outcome.{moldOutcome};
 ghost use Rattle.tally.specs.Outcome.{outcome};
 use outcome::Answer;
 
@@ -10,4 +11,12 @@ pub extern "C" fn hatmuyon_grade(sheet: &[u8], results: &mut [u8]) -> Answer
     ensures { λ r. ⌜ _≡_ {A = Outcome} (record { answer = r; buffer = now (results .exit) }) (outcome (now (sheet .entry)) (now (results .entry))) ⌝ }
 {
     tally::grade(sheet, results)
+}
+
+// Grades a mold sheet into a result buffer; see mold::grade_mold.
+#[no_mangle]
+pub extern "C" fn hatmuyon_grade_mold(sheet: &[u8], results: &mut [u8]) -> Answer
+    ensures { λ r. ⌜ _≡_ {A = Outcome} (record { answer = r; buffer = now (results .exit) }) (moldOutcome (now (sheet .entry)) (now (results .entry))) ⌝ }
+{
+    mold::grade_mold(sheet, results)
 }

@@ -1,2 +1,3 @@
 pub mod Checking
 pub mod Written
+pub mod Cases

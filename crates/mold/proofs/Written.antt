@@ -24,6 +24,14 @@ length-written bytes zero = refl
 length-written bytes (suc n) =
     length-append (written bytes n) (resultOf bytes n) ∙ omega (arith, length-written bytes n, length-result bytes n)
 
+-- the step that a unit takes
+abbrev pub stepAt : List ℕ → ℕ → Stepped
+stepAt bytes unit = stepOf (numbersOf bytes) (record { tenths = cusumBefore bytes unit }) (tenthsAt bytes unit)
+
+pub next-cusum : (bytes : List ℕ) (unit : ℕ) (stepped : Stepped) → stepped ≡ stepAt bytes unit → stepped .cusum ≡ record { tenths = cusumBefore bytes (unit + 1) }
+unfolding cusumBefore
+next-cusum bytes unit stepped e = rw (e, add-one unit)
+
 module _ (bytes : List ℕ) (unit : ℕ) (old : List ℕ) (room : resultSize * (unit + 1) ≤ length old) where
   -- the record of the next unit, stored behind those before it
   stored : sets (written bytes unit ++ drop (resultSize * unit) old) (resultSize * unit) (resultOf bytes unit)
@@ -39,7 +47,7 @@ module _ (bytes : List ℕ) (unit : ℕ) (old : List ℕ) (room : resultSize * (
 
   -- as the code takes the step
   pub one-more : (before after : List ℕ) → before ≡ written bytes unit ++ drop (resultSize * unit) old
-      → (stepped : Stepped) → stepped ≡ stepOf (numbersOf bytes) (record { tenths = cusumBefore bytes unit }) (tenthsAt bytes unit)
+      → (stepped : Stepped) → stepped ≡ stepAt bytes unit
       → after ≡ sets before (resultSize * unit) (resultBytes (stepped .fails) (stepped .cusum .tenths))
       → after ≡ written bytes (unit + 1) ++ drop (resultSize * (unit + 1)) old
   unfolding cusumBefore failsAt

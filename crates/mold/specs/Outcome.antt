@@ -14,8 +14,8 @@ acceptance bytes buffer units =
     record { answer = acceptedAs bytes units; buffer = written bytes units ++ drop (resultSize * units) buffer }
 
 -- 1, 16, 6, 7, 12 and 17 by the check of the sheet; then 13, a buffer shorter than 5 times the units, at the sheet's length
-unfoldable pub outcome : List ℕ → List ℕ → Outcome
-outcome bytes buffer =
+unfoldable pub moldOutcome : List ℕ → List ℕ → Outcome
+moldOutcome bytes buffer =
     let answer = checked bytes in
     pick (eqb (answer .number) 0)
     (pick (ltb (length buffer) (resultSize * answer .units)) (refusal 13 (length bytes) buffer) (acceptance bytes buffer (answer .units)))

@@ -11,7 +11,7 @@ ghost use Rattle.mold.specs.Levels.{lastRow, levelNumbers};
 ghost use Rattle.mold.specs.Layout.{openingSize, unitSize, levelRow, offset, moldUnitAt};
 ghost use Rattle.mold.specs.Refusals.{openingRefusal, unitRefusal, checkFrom, checked};
 ghost use Rattle.mold.specs.Results.{resultSize, resultBytes, written};
-ghost use Rattle.mold.specs.Outcome.{outcome};
+ghost use Rattle.mold.specs.Outcome.{moldOutcome};
 use cusum::Cusum;
 use cusum::DefectiveFields;
 use cusum::PlanNumbers;
@@ -223,7 +223,7 @@ fn write_units(bytes: &[u8], units: usize, results: &mut [u8])
 // Grades a mold sheet into a result buffer. Every sheet is accepted or refused by a listed number with the place; a refused sheet
 // leaves the buffer as it was, an accepted one changes only its result records.
 pub fn grade_mold(sheet: &[u8], results: &mut [u8]) -> Answer
-    ensures { λ r. ⌜ _≡_ {A = Outcome} (record { answer = r; buffer = now (results .exit) }) (outcome (now (sheet .entry)) (now (results .entry))) ⌝ }
+    ensures { λ r. ⌜ _≡_ {A = Outcome} (record { answer = r; buffer = now (results .exit) }) (moldOutcome (now (sheet .entry)) (now (results .entry))) ⌝ }
 {
     let answer = check(sheet);
     if answer.number != 0 {

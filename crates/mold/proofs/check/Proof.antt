@@ -1,31 +1,32 @@
+-- The refusal of the opening, else what its records come to.
+use mathlib.Core.Path.{sym, _∙_, ap}
+use borrow.Author.Tests.{eq-eqb, ne-eqb}
+use Rattle.outcome.specs.Outcome.{refusedAs}
+use Rattle.units.specs.Conditions.{pick}
+use Rattle.mold.specs.Refusals.{checked}
+use Rattle.mold.proofs.Checking.{opening-passed}
 use borrow.Author.Needs.{needs}
 use Rattle.mold.proofs.check.Statement.{statement}
 use Rattle.mold.proofs.check.Tie as tie
-use Rattle.mold.proofs.check.Reads as reads
-use Rattle.mold.proofs.check.Lts as lts
-use Rattle.mold.proofs.check_records.Reads as check-records-reads
-use Rattle.mold.proofs.opening_refusal.Reads as opening-refusal-reads
-use Rattle.outcome.proofs.refusal.Reads as refusal-reads
 
--- src/lib.rt:163:9
 opening-refusal-requires : tie.Need-opening-refusal-requires
 opening-refusal-requires c κs = search needs
 
--- src/lib.rt:165:9
 refusal-requires : tie.Need-refusal-requires
 refusal-requires c κs = search needs
 
--- src/lib.rt:165:9
 returns : tie.Need-returns
-returns c = ?
+unfolding checked pick
+returns c =
+    rw (c .refusal .ensures, ← c .before .before .opening-refusal .ensures, ne-eqb _ _ (c .before .if1 .taken))
 
--- src/lib.rt:167:5
 check-records-requires : tie.Need-check-records-requires
-check-records-requires c κs = ?
+check-records-requires c κs = opening-passed _ (sym (c .before .opening-refusal .ensures) ∙ c .if1 .left) .0
 
--- src/lib.rt:160:1
 returns-2 : tie.Need-returns-2
-returns-2 c = ?
+unfolding checked pick
+returns-2 c =
+    rw (c .check-records .ensures, ← c .before .before .opening-refusal .ensures, eq-eqb _ _ (c .before .if1 .left))
 
 pub check-spec : {M : Type 1} → statement M
 check-spec =

@@ -1,78 +1,95 @@
+-- The loop's invariant: the records of the units before this one stand at the front of the buffer, and the CuSum is the one before it.
+use Prim.Native.Nat.{ℕ, _*_, _-_, _≤_}
+use mathlib.Core.Path.{_≡_, refl, sym, _∙_, ap, ap₂}
+use mathlib.Core.List.{_++_}
+use native.Mathlib.Numerals.{add-one}
+use native.Mathlib.Omega.{arith}
+use lib.ListN.{length, drop}
+use Rattle.cusum.specs.Step.{startOf, stepOf}
+use Rattle.cusum.specs.declared.Cusum.{Cusum}
+use Rattle.cusum.specs.declared.PlanNumbers.{PlanNumbers}
+use Rattle.cusum.specs.declared.Stepped.{Stepped}
+use Rattle.mold.specs.Grading.{numbersOf, tenthsAt, cusumBefore}
+use Rattle.mold.specs.Results.{resultSize, written}
+use Rattle.mold.proofs.Written.{stepAt, next-cusum, one-more}
+use borrow.Author.Needs.{needs}
 use Rattle.mold.proofs.write_units.Statement.{statement}
 use Rattle.mold.proofs.write_units.Tie as tie
-use Rattle.mold.proofs.write_units.Reads as reads
-use Rattle.mold.proofs.write_units.Lts as lts
-use Rattle.cusum.proofs.Cusum.starting.Reads as starting-reads
-use Rattle.cusum.proofs.Cusum.step.Reads as step-reads
-use Rattle.mold.proofs.level_numbers.Reads as level-numbers-reads
-use Rattle.mold.proofs.tenths_at.Reads as tenths-at-reads
-use Rattle.mold.proofs.write_at.Reads as write-at-reads
 
 abbrev Inv-loop : tie.InvT-loop
-Inv-loop bytes units results₀ numbers cusum₀ unit₀ results cusum unit = ?
+Inv-loop bytes units results₀ numbers cusum₀ unit₀ results cusum unit =
+    (unit ≤ units) × (length results ≡ length results₀) × (numbers ≡ numbersOf bytes)
+    × (cusum ≡ record { tenths = cusumBefore bytes unit }) × (results ≡ written bytes unit ++ drop (resultSize * unit) results₀)
 
 abbrev μ-loop : tie.MeasureT-loop
-μ-loop bytes units results₀ numbers cusum₀ unit₀ results cusum unit = ?
+μ-loop bytes units results₀ numbers cusum₀ unit₀ results cusum unit = units - unit
 
--- src/lib.rt:211:33
 shared-slice-read-level-numbers : tie.Need-shared-slice-read-level-numbers Inv-loop μ-loop
-shared-slice-read-level-numbers c = ?
+shared-slice-read-level-numbers c = search needs
 
--- src/lib.rt:211:9
 level-numbers-requires : tie.Need-level-numbers-requires Inv-loop μ-loop
-level-numbers-requires c κs = ?
+level-numbers-requires c κs = search needs
 
--- src/lib.rt:212:9
 starting-requires : tie.Need-starting-requires Inv-loop μ-loop
-starting-requires c κs = ?
+starting-requires c κs = search needs
 
--- src/lib.rt:214:5
 loop-holds : tie.Need-loop-holds Inv-loop μ-loop
-loop-holds c = ?
+unfolding written cusumBefore
+loop-holds c =
+    let numbers = c .before .level-numbers .ensures in
+    (search needs, refl, numbers, c .starting .ensures ∙ ap (λ (n : PlanNumbers). startOf n) numbers, refl)
 
--- src/lib.rt:215:54
 mul-tenths-at : tie.Need-mul-tenths-at Inv-loop μ-loop
-mul-tenths-at c = ?
+mul-tenths-at c = search needs
 
--- src/lib.rt:215:39
 add-tenths-at : tie.Need-add-tenths-at Inv-loop μ-loop
-add-tenths-at c = ?
+add-tenths-at c = search needs
 
--- src/lib.rt:215:13
 tenths-at-requires : tie.Need-tenths-at-requires Inv-loop μ-loop
-tenths-at-requires c κs = ?
+tenths-at-requires c κs = search needs
 
--- src/lib.rt:216:13
 step-requires : tie.Need-step-requires Inv-loop μ-loop
-step-requires c κs = ?
+step-requires c κs = search needs
 
--- src/lib.rt:217:27
 mul-write-at : tie.Need-mul-write-at Inv-loop μ-loop
-mul-write-at c = ?
+mul-write-at c = search needs
 
--- src/lib.rt:217:9
 write-at-requires : tie.Need-write-at-requires Inv-loop μ-loop
-write-at-requires c κs = ?
+write-at-requires c κs = search needs
 
--- src/lib.rt:219:9
 add-unit : tie.Need-add-unit Inv-loop μ-loop
-add-unit c = ?
+add-unit c = search needs
 
--- src/lib.rt:214:5
 loop-less : tie.Need-loop-less Inv-loop μ-loop
-loop-less c = ?
+loop-less c = search needs
 
--- src/lib.rt:214:5
 loop-again : tie.Need-loop-again Inv-loop μ-loop
-loop-again c = ?
+loop-again c =
+    let written-at = c .before .before .before in
+    let step = written-at .before .before in
+    let tenths = step .before in
+    let start = tenths .before .before in
+    let inv = start .loop .inv in
+    let entry = start .before .before .before .before .before .before in
+    let bytes = entry .args .bytes .now in
+    let stepped : step .step .result ≡ stepAt bytes (start .loop .unit)
+    = step .step .ensures ∙ rw (inv .2, inv .3, tenths .tenths-at .ensures) in (
+      search needs,
+      search needs,
+      inv .2,
+      next-cusum _ _ _ stepped,
+      one-more _ _ _ (omega (arith, entry .pre .2, tenths .before .loop-test .taken)) _ _ (inv .4) _ stepped (written-at .write-at .ensures),
+    )
 
--- src/lib.rt:207:1
 same-length : tie.Need-same-length Inv-loop μ-loop
-same-length c = ?
+same-length c = search needs
 
--- src/lib.rt:207:1
 returns : tie.Need-returns Inv-loop μ-loop
-returns c = ?
+returns c =
+    let loop = c .before .loop in
+    let args = c .before .before .before .before .before .before .before .args in
+    let done : loop .unit ≡ args .units = omega arith in
+    loop .inv .4 ∙ ap (λ (n : ℕ). written (args .bytes .now) n ++ drop (resultSize * n) (args .results .now)) done
 
 pub write-units-spec : {M : Type 1} → statement M
 write-units-spec =
