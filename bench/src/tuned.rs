@@ -420,7 +420,10 @@ impl Tuned {
     }
 }
 
-/// S, T and L of a level row of mold sheets, in whole fields.
+/// Offset of the positive fields in a unit of a mold sheet.
+const POSITIVE_FIELDS: usize = 4;
+
+/// S, T and L of each level row of mold sheets, in whole fields.
 const LEVELS: [[i32; 3]; 6] = [[0, 1, 1], [1, 2, 3], [0, 3, 2], [1, 3, 3], [0, 5, 2], [1, 6, 3]];
 
 /// Refusals 1 and 16 of a mold sheet; else S, T and L of its level row.
@@ -456,7 +459,7 @@ fn grade_mold_units(sheet: &[u8], results: &mut [u8]) -> Result<usize, (u32, usi
     let records = sheet[MOLD_OPENING_SIZE..].chunks_exact(MOLD_UNIT_SIZE);
     let mut cusum = level.start;
     for (record, result) in records.zip(results.chunks_exact_mut(MOLD_RESULT_SIZE)) {
-        let raw = (cusum + 10 * i32::from(record[4]) - level.tolerance).max(0);
+        let raw = (cusum + 10 * i32::from(record[POSITIVE_FIELDS]) - level.tolerance).max(0);
         cusum = raw.min(level.limit);
         let [high, low] = (cusum as u16).to_be_bytes();
         result.copy_from_slice(&[0x4D, 0x52, u8::from(raw == cusum), high, low]);
