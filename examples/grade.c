@@ -1,7 +1,7 @@
 /*
- * Grades a tally sheet and prints the answer and the result records.
+ * Grades a tally sheet, or a mold sheet, and prints the answer and the result records.
  *
- *   grade [FILE]    reads standard input if no file is named
+ *   grade [-mold] [FILE]    reads standard input if no file is named
  *
  * The first line has number, units and offset; then comes a line for each result record, its fields
  * in hexadecimal. The exit status is 0 for an accepted sheet, 2 for a refused one, and 1 if the
@@ -49,8 +49,8 @@ static unsigned long four(const uint8_t *bytes)
     return 65536ul * two(bytes) + two(bytes + 2);
 }
 
-/* Prints a result record: mark, code, portion, code grade, plan, standing, four CuSums, four
- * overshoots. */
+/* Prints a result record of a tally sheet: mark, code, portion, code grade, plan, standing, four
+ * CuSums, four overshoots. */
 static void print_record(const uint8_t *record)
 {
     printf("%04x %04x %02x %02x %02x %02x %04x %04x %04x %04x %08lx %08lx %08lx %08lx\n",
@@ -65,30 +65,45 @@ static void print_record(const uint8_t *record)
            four(record + HATMUYON_RESULT_TOTAL_OVERSHOOT));
 }
 
+/* Prints a result record of a mold sheet: mark, met, CuSum. */
+static void print_mold_record(const uint8_t *record)
+{
+    printf("%04x %02x %04x\n", two(record), record[HATMUYON_MOLD_RESULT_MET],
+           two(record + HATMUYON_MOLD_RESULT_CUSUM));
+}
+
 int main(int argc, char **argv)
 {
+    /* Of a mold sheet the result records are smaller. */
     static uint8_t results[HATMUYON_RESULT_SIZE * HATMUYON_MOST_UNITS];
+    int mold = argc > 1 && strcmp(argv[1], "-mold") == 0;
+    const char *name = argc > 1 + mold ? argv[1 + mold] : NULL;
 
-    if (argc > 2) {
-        fprintf(stderr, "usage: grade [FILE]\n");
+    if (argc > 2 + mold) {
+        fprintf(stderr, "usage: grade [-mold] [FILE]\n");
         return 1;
     }
-    FILE *file = argc == 2 ? fopen(argv[1], "rb") : stdin;
+    FILE *file = name != NULL ? fopen(name, "rb") : stdin;
     size_t length = 0;
     uint8_t *sheet = file != NULL ? read_all(file, &length) : NULL;
     if (sheet == NULL) {
-        fprintf(stderr, "grade: cannot read %s: %s\n", argc == 2 ? argv[1] : "standard input",
+        fprintf(stderr, "grade: cannot read %s: %s\n", name != NULL ? name : "standard input",
                 strerror(errno));
         return 1;
     }
 
-    struct hatmuyon_answer answer = hatmuyon_grade(sheet, length, results, sizeof results);
+    struct hatmuyon_answer answer =
+        mold ? hatmuyon_grade_mold(sheet, length, results, sizeof results)
+             : hatmuyon_grade(sheet, length, results, sizeof results);
     free(sheet);
 
     printf("number %lu, units %zu, offset %zu\n", (unsigned long)answer.number, answer.units,
            answer.offset);
     for (size_t unit = 0; unit < answer.units; unit++)
-        print_record(results + HATMUYON_RESULT_SIZE * unit);
+        if (mold)
+            print_mold_record(results + HATMUYON_MOLD_RESULT_SIZE * unit);
+        else
+            print_record(results + HATMUYON_RESULT_SIZE * unit);
 
     if (fflush(stdout) != 0 || ferror(stdout)) {
         fprintf(stderr, "grade: cannot write: %s\n", strerror(errno));

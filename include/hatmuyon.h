@@ -1,6 +1,6 @@
 /*
- * hatmuyon: grades the tally sheet of an on-line inspection under the USDA cumulative sum plan,
- * File Code 120 A-6 of August 1978.
+ * hatmuyon: grades the tally sheet of an on-line inspection, and the mold sheet of a tomato line,
+ * under the USDA cumulative sum plan, File Code 120 A-6 of August 1978.
  *
  * Link with libhatmuyon.a, which `rt staticlib hatmuyon` writes to target/staticlib (x86-64).
  * The archive needs no other library. The header is C99 and C++11.
@@ -20,9 +20,9 @@ extern "C" {
  * and of the functions and types in C or Rust. A program, the header and the archive of one version
  * belong together. The archive does not carry its version, so that nothing notices another one.
  */
-#define HATMUYON_VERSION "0.3.0"
+#define HATMUYON_VERSION "0.4.0"
 #define HATMUYON_VERSION_MAJOR 0
-#define HATMUYON_VERSION_MINOR 3
+#define HATMUYON_VERSION_MINOR 4
 #define HATMUYON_VERSION_PATCH 0
 
 /*
@@ -54,8 +54,8 @@ extern "C" {
 #define HATMUYON_BREAK_SIZE 2
 #define HATMUYON_RESULT_SIZE 32
 
-/* The most units, and the largest count, S, T and L, of a sheet. A result buffer for any sheet has
- * HATMUYON_RESULT_SIZE * HATMUYON_MOST_UNITS bytes. */
+/* The most units, and the largest count, S, T and L, of a tally sheet. A result buffer for any tally
+ * sheet has HATMUYON_RESULT_SIZE * HATMUYON_MOST_UNITS bytes. */
 #define HATMUYON_MOST_UNITS 1000
 #define HATMUYON_LARGEST_COUNT 2000
 #define HATMUYON_LARGEST_PLAN_NUMBER 9999 /* of S, T and L, in tenths */
@@ -100,12 +100,63 @@ enum hatmuyon_standing {
 };
 
 /*
- * The number of an answer: 0, or the ground on which the sheet is refused. The place is 0 for 1 to
- * 5, the offset of the record's mark for 6 to 12, and the sheet's length for 13 and 14.
+ * A mold sheet is an opening and then sample units, with marks and numbers as on a tally sheet.
  *
- * The plan is checked first, for 1 to 5 in turn; then the records from left to right, each wholly
- * before the next, for 6, 7, 12, 8, 9, 10, 11 in this order; then the result buffer, for 13 and 14.
+ *   opening        4D 44, level row (1)
+ *   sample unit    4D 55, production code (2), positive fields (1)
+ *
+ * Mold is judged by positive fields out of 25, as percent defective, not by defects. A defective
+ * field is one however many defects it holds, so that a count of positive fields and a count of
+ * defects, as on a tally sheet, must never be added or compared.
+ *
+ * The level row tells the defect action level, and with it S, T and L, in whole fields:
+ *
+ *   row                       0    1    2    3    4    5
+ *   action level, percent     5   10   12   15   20   25
+ *   S                         0    1    0    1    0    1
+ *   T                         1    2    3    3    5    6
+ *   L                         1    3    2    3    2    3
+ *
+ * The CuSum steps as that of a class on a tally sheet, with the positive fields as the count. A
+ * unit meets or fails; there is no lower grade and no step 3.
+ */
+
+#define HATMUYON_MOLD_SHEET_MARK 0x4D44
+#define HATMUYON_MOLD_UNIT_MARK 0x4D55
+#define HATMUYON_MOLD_RESULT_MARK 0x4D52
+
+#define HATMUYON_MOLD_OPENING_SIZE 3
+#define HATMUYON_MOLD_UNIT_SIZE 5
+#define HATMUYON_MOLD_RESULT_SIZE 5
+
+/* The level rows, from 0 on, and the fields to a count. A mold sheet has at most HATMUYON_MOST_UNITS
+ * units, too: a result buffer for any has HATMUYON_MOLD_RESULT_SIZE * HATMUYON_MOST_UNITS bytes. */
+#define HATMUYON_MOLD_LEVELS 6
+#define HATMUYON_MOST_POSITIVE_FIELDS 25
+
+/* Offsets of the fields of a mold sheet's result record, which opens with the mark 4D 52. It has
+ * neither the code nor an overshoot. */
+#define HATMUYON_MOLD_RESULT_MET 2   /* 1 byte: 1 if the unit met, 0 if it failed */
+#define HATMUYON_MOLD_RESULT_CUSUM 3 /* 2 bytes: the CuSum in tenths of a field */
+
+/*
+ * The number of an answer: 0, or the ground on which the sheet is refused. The place is 0 for 1 to 5
+ * and 16, the offset of the record's mark for 6 to 12 and 17, and the sheet's length for 13 and 14.
  * The first ground met is the answer.
+ *
+ * A tally sheet is refused by 1 to 14. The plan is checked first, for 1 to 5 in turn; then the
+ * records from left to right, each wholly before the next, for 6, 7, 12, 8, 9, 10, 11 in this order;
+ * then the result buffer, for 13 and 14.
+ *
+ * A mold sheet is refused by 1, 6, 7, 12, 13, 16 and 17. The opening is checked first, for 1 and 16;
+ * then the records in the same way, for 6, 7, 12, 17 in this order; then the result buffer, for 13.
+ * The words below are those of a tally sheet; of a mold sheet these read otherwise:
+ *
+ *   1     shorter than 3 bytes, or first mark not 4D 44
+ *   6     one byte left, or a mark not 4D 55
+ *   13    result buffer shorter than 5 times the units
+ *
+ * 15 is answered by the printing program alone, for an input above 65,536 bytes.
  */
 enum hatmuyon_number {
     HATMUYON_ACCEPTED = 0,
@@ -122,7 +173,9 @@ enum hatmuyon_number {
     HATMUYON_REFUSED_SAME_GRADE = 11,              /* new grade equals the one designated just before this record */
     HATMUYON_REFUSED_TOO_MANY_UNITS = 12,          /* a unit after the 1,000th */
     HATMUYON_REFUSED_RESULT_BUFFER_TOO_SHORT = 13, /* result buffer shorter than 32 times the units */
-    HATMUYON_REFUSED_CUSUM_TOO_LARGE = 14          /* a CuSum too large for two bytes; no sheet leads to it */
+    HATMUYON_REFUSED_CUSUM_TOO_LARGE = 14,         /* a CuSum too large for two bytes; no sheet leads to it */
+    HATMUYON_REFUSED_BAD_LEVEL_ROW = 16,           /* level row above 5 */
+    HATMUYON_REFUSED_TOO_MANY_POSITIVE_FIELDS = 17 /* positive fields above 25 */
 };
 
 /* What the grading answers. */
@@ -133,14 +186,17 @@ struct hatmuyon_answer {
 };
 
 /*
- * hatmuyon_grade needs at most 2 KiB of stack, its return address among them. This is measured and
- * not proved: the disassembled archive takes about 900 bytes, in frames of fixed size and without
- * recursion, and a test of bindings/rust fails if it takes more than this of a painted stack.
+ * Either function needs at most 2 KiB of stack, its return address among them. This is measured and
+ * not proved: hatmuyon_grade, disassembled, takes about 900 bytes, in frames of fixed size and
+ * without recursion, and a test of bindings/rust fails if either takes more than this of a painted
+ * stack.
  */
 #define HATMUYON_STACK_SIZE 2048
 
 /*
- * Grades a sheet into a result buffer: one result record for each sample unit, in their order.
+ * hatmuyon_grade grades a tally sheet, hatmuyon_grade_mold a mold sheet, into a result buffer: one
+ * result record for each sample unit, in their order. The size of a result record, below, is
+ * HATMUYON_RESULT_SIZE, and for a mold sheet HATMUYON_MOLD_RESULT_SIZE.
  *
  * The caller owes:
  *   - `sheet` may be read for `sheet_length` bytes, `results` may be read and written for
@@ -150,27 +206,29 @@ struct hatmuyon_answer {
  *   - during the call no other thread writes to the sheet, and none reads or writes the results.
  * Nothing is owed of the bytes: any sheet may be passed, and any result buffer.
  *
- * The function promises:
- *   - it accepts the sheet, or refuses it by one of the numbers 1 to 14 with the place, and refuses
- *     none to which no ground applies;
+ * Either function promises:
+ *   - it accepts the sheet, or refuses it by one of the numbers for such a sheet with the place, and
+ *     refuses none to which no ground applies;
  *   - refused: every byte of `results` is kept;
- *   - accepted: the first HATMUYON_RESULT_SIZE * units bytes of `results` are the result records,
- *     and every byte behind them is kept;
+ *   - accepted: the first size * units bytes of `results` are the result records, and every byte
+ *     behind them is kept;
  *   - no byte of the sheet is changed, no other memory is touched but the stack, nothing is
  *     allocated, and nothing is kept from one call to the next;
  *   - it always returns.
  */
 struct hatmuyon_answer hatmuyon_grade(const uint8_t *sheet, size_t sheet_length,
                                       uint8_t *results, size_t results_length);
+struct hatmuyon_answer hatmuyon_grade_mold(const uint8_t *sheet, size_t sheet_length,
+                                           uint8_t *results, size_t results_length);
 
 /*
- * The same, but where a length is 0 nothing is owed of its pointer: it may be null, as that of an
- * empty vector in C++ may be. The address of a local byte is passed on in its place.
+ * The same two, but where a length is 0 nothing is owed of its pointer: it may be null, as that of
+ * an empty vector in C++ may be. The address of a local byte is passed on in its place.
  *
- * Where a length is not 0, all is owed that hatmuyon_grade asks: the pointer is not null and valid
- * for its length, the two buffers do not overlap, and other threads keep away as said there. The
- * promises are those of hatmuyon_grade: a sheet of length 0 is refused by number 1, and a result
- * buffer of length 0 is long enough for a sheet without a unit.
+ * Where a length is not 0, all is owed that is asked above: the pointer is not null and valid for
+ * its length, the two buffers do not overlap, and other threads keep away as said there. The
+ * promises are the same: a sheet of length 0 is refused by number 1, and a result buffer of length 0
+ * is long enough for a sheet without a unit.
  */
 static inline struct hatmuyon_answer hatmuyon_grade_nullable(const uint8_t *sheet,
                                                              size_t sheet_length, uint8_t *results,
@@ -180,6 +238,17 @@ static inline struct hatmuyon_answer hatmuyon_grade_nullable(const uint8_t *shee
 
     return hatmuyon_grade(sheet_length == 0 ? &no_byte : sheet, sheet_length,
                           results_length == 0 ? &no_byte : results, results_length);
+}
+
+static inline struct hatmuyon_answer hatmuyon_grade_mold_nullable(const uint8_t *sheet,
+                                                                  size_t sheet_length,
+                                                                  uint8_t *results,
+                                                                  size_t results_length)
+{
+    uint8_t no_byte = 0;
+
+    return hatmuyon_grade_mold(sheet_length == 0 ? &no_byte : sheet, sheet_length,
+                               results_length == 0 ? &no_byte : results, results_length);
 }
 
 #ifdef __cplusplus

@@ -5,15 +5,17 @@
 //! sheet, each time into a buffer of its own that was cleared before; the clearing is not timed. The
 //! table has the median over the rounds and, as other work on the machine slows some of them, the
 //! least. Before a sheet is timed the contenders must agree on it; before any is, the library and
-//! the tuned grader must agree on seeded random sheets, refused ones among them.
+//! the tuned grader must agree on seeded random sheets, refused ones among them. So it is with mold
+//! sheets, which each contender grades by a function of their own.
 
-use grader::generate::{self, table, PEACH};
+use grader::generate::{self, table, Dice, PEACH};
 use grader::sheet::{Record, Sheet, Unit};
 use hatmuyon::ffi::{
-    RESULT_CODE, RESULT_CODE_GRADE, RESULT_CRITICAL_OVERSHOOT, RESULT_PORTION_GRADE,
-    RESULT_STANDING,
+    MOLD_RESULT_MET, RESULT_CODE, RESULT_CODE_GRADE, RESULT_CRITICAL_OVERSHOOT,
+    RESULT_PORTION_GRADE, RESULT_STANDING,
 };
-use hatmuyon::RESULT_SIZE;
+use hatmuyon::{MOLD_LEVELS, MOLD_RESULT_SIZE, MOLD_UNIT_SIZE, MOST_POSITIVE_FIELDS};
+use hatmuyon::{MOST_UNITS, RESULT_SIZE};
 use std::hint::black_box;
 use std::time::Instant;
 use tuned::Tuned;
@@ -34,6 +36,18 @@ fn library(sheet: &[u8], results: &mut [u8]) -> Answer {
 
 fn grader(sheet: &[u8], results: &mut [u8]) -> Answer {
     let answer = grader::grade(sheet, results);
+    (answer.number, answer.units, answer.offset)
+}
+
+fn library_mold(sheet: &[u8], results: &mut [u8]) -> Answer {
+    match hatmuyon::grade_mold(sheet, results) {
+        Ok(graded) => (0, graded.units(), sheet.len()),
+        Err(refusal) => (refusal.number, 0, refusal.offset),
+    }
+}
+
+fn grader_mold(sheet: &[u8], results: &mut [u8]) -> Answer {
+    let answer = grader::mold::grade(sheet, results);
     (answer.number, answer.units, answer.offset)
 }
 
@@ -83,7 +97,7 @@ fn grade_codes(results: &mut [u8]) {
     }
 }
 
-/// So many random sheets the library and the tuned grader are compared on.
+/// So many random sheets of each kind the library and the tuned grader are compared on.
 const RANDOM_SHEETS: u64 = 4000;
 
 /// The library and the tuned grader, with its table and without, must agree on random sheets: on the
@@ -106,6 +120,40 @@ fn compare(tuned: &mut Tuned) {
     }
 }
 
+/// The same with random mold sheets.
+fn compare_mold() {
+    for seed in 0..RANDOM_SHEETS {
+        let (sheet, room) = random_mold(&mut Dice(seed));
+        let outcome = |contender: Contender| {
+            let mut buffer = vec![seed as u8; room];
+            (contender(&sheet, &mut buffer), buffer)
+        };
+        assert!(
+            outcome(&mut tuned::grade_mold) == outcome(&mut library_mold),
+            "the tuned grader differs on the mold sheet of seed {seed}"
+        );
+    }
+}
+
+/// A random mold sheet, and room for its results, or a little less. Some have a level row or a count
+/// too large, a unit too many, another byte somewhere, or are cut.
+fn random_mold(dice: &mut Dice) -> (Vec<u8>, usize) {
+    let row = if dice.chance(5) { MOLD_LEVELS } else { dice.below(MOLD_LEVELS.into()) as u8 };
+    let units = if dice.chance(2) { MOST_UNITS - 2 + dice.below(5) } else { dice.below(30) };
+    let most = usize::from(MOST_POSITIVE_FIELDS);
+    let end = dice.pick(&[3, 6, 12, most + 1, most + 2]);
+    let mut sheet = mold(row, (0..units).map(|_| dice.below(end) as u8));
+    if dice.chance(10) {
+        let at = dice.below(sheet.len());
+        sheet[at] = dice.below(256) as u8;
+    }
+    if dice.chance(10) {
+        sheet.truncate(dice.below(sheet.len()));
+    }
+    let room = MOLD_RESULT_SIZE * units + dice.below(8);
+    (sheet, room.saturating_sub(dice.pick(&[0, 0, 4])))
+}
+
 /// The time of one grading.
 #[derive(Clone, Copy)]
 struct Time {
@@ -119,20 +167,22 @@ impl Time {
     }
 }
 
-/// The time of each contender in nanoseconds; the answer and the buffer.
+/// The time of each contender in nanoseconds; the answer and the buffer. It has room for the result
+/// records of so many units, of this size.
 fn times<const N: usize>(
     mut contenders: [Contender; N],
     sheet: &[u8],
     units: usize,
+    result_size: usize,
     rounds: usize,
 ) -> ([Time; N], Answer, Vec<u8>) {
     let outcomes = contenders.each_mut().map(|contender| {
-        let mut buffer = vec![0; RESULT_SIZE * units];
+        let mut buffer = vec![0; result_size * units];
         (contender(sheet, &mut buffer), buffer)
     });
     assert!(outcomes.iter().all(|outcome| *outcome == outcomes[0]), "the contenders differ");
     let gradings = (1000 / units).max(1);
-    let mut buffers = vec![vec![0; RESULT_SIZE * units]; gradings];
+    let mut buffers = vec![vec![0; result_size * units]; gradings];
     let mut samples = [(); N].map(|()| Vec::with_capacity(rounds));
     for _ in 0..rounds {
         for (contender, samples) in contenders.iter_mut().zip(&mut samples) {
@@ -196,6 +246,17 @@ fn bytes(records: Vec<Record>) -> Vec<u8> {
     Sheet { designated: 0, table, records }.bytes()
 }
 
+/// A mold sheet with a level row and units of so many positive fields, all with one code.
+fn mold(row: u8, fields: impl Iterator<Item = u8>) -> Vec<u8> {
+    let units = fields.flat_map(|fields| -> [u8; MOLD_UNIT_SIZE] { [0x4D, 0x55, 0, 1, fields] });
+    [0x4D, 0x44, row].into_iter().chain(units).collect()
+}
+
+/// The manual's mold count record, again and again: every fifth unit fails.
+fn every_fifth_fails() -> Vec<u8> {
+    mold(2, [3, 3, 2, 6, 3].into_iter().cycle().take(1000))
+}
+
 /// The library, the independent grader and the tuned one.
 type Times = [Time; 3];
 
@@ -225,12 +286,16 @@ fn main() {
     };
     let mut table_by_code = Tuned::new();
     compare(&mut table_by_code);
+    compare_mold();
     let mut tuned = |sheet: &[u8], results: &mut [u8]| table_by_code.grade(sheet, results);
     println!("The library beside the independent grader and the tuned one, peach plan, {rounds}");
     println!(
         "rounds; all built for release, result buffers cleared before each grading (not timed)."
     );
-    println!("The library and the tuned grader agree on {RANDOM_SHEETS} random sheets.");
+    println!(
+        "The library and the tuned grader agree on {RANDOM_SHEETS} random sheets, and on as many"
+    );
+    println!("mold sheets.");
     println!();
 
     head("sheet", "us");
@@ -246,7 +311,8 @@ fn main() {
         ("1,000 units, 20,000 breaks", 1000, with_breaks(), 0, 0, 0),
     ] {
         let contenders: [Contender; 3] = [&mut library, &mut grader, &mut tuned];
-        let (times, answer, results) = times(contenders, &bytes(records), units, rounds);
+        let (times, answer, results) =
+            times(contenders, &bytes(records), units, RESULT_SIZE, rounds);
         let count = |holds: fn(&[u8]) -> bool| {
             results.chunks_exact(RESULT_SIZE).filter(|record| holds(record)).count()
         };
@@ -260,8 +326,15 @@ fn main() {
     }
     let sheet = bytes(plain(1000, 1000));
     let alike: [Contender; 3] = [&mut library, &mut grader_reads_alike, &mut tuned_reads_alike];
-    let (alike, ..) = times(alike, &sheet, 1000, rounds);
+    let (alike, ..) = times(alike, &sheet, 1000, RESULT_SIZE, rounds);
     row("1,000 units, 1,000 codes; all read alike (*)", alike.map(|time| time.per(1000.0)));
+    let contenders: [Contender; 3] = [&mut library_mold, &mut grader_mold, &mut tuned::grade_mold];
+    let (mold, answer, results) =
+        times(contenders, &every_fifth_fails(), 1000, MOLD_RESULT_SIZE, rounds);
+    let failed =
+        results.chunks_exact(MOLD_RESULT_SIZE).filter(|record| record[MOLD_RESULT_MET] == 0);
+    assert_eq!((answer.0, failed.count()), (0, 200), "mold");
+    row("1,000 mold units, every fifth fails", mold.map(|time| time.per(1000.0)));
     println!();
     println!("(*) The grader's map and the tuned grader's table are left out. The code grades are");
     println!("    found over the result records, in the library's scheme: from each code's first");
@@ -272,7 +345,8 @@ fn main() {
         head(name, "ns/unit");
         for units in [10, 100, 1000] {
             let contenders: [Contender; 3] = [&mut library, &mut grader, &mut tuned];
-            let (times, ..) = times(contenders, &bytes(plain(units, codes)), units, rounds);
+            let (times, ..) =
+                times(contenders, &bytes(plain(units, codes)), units, RESULT_SIZE, rounds);
             row(&format!("{units} units"), times.map(|time| time.per(units as f64)));
         }
     }

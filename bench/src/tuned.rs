@@ -8,6 +8,8 @@
 //! bytes at a time.
 //!
 //! Refusal 14 is left out: no limit of an accepted plan is too large for two bytes.
+//!
+//! A mold sheet is read twice in the same way, by [`grade_mold`].
 
 use crate::Answer;
 use hatmuyon::ffi::{
@@ -15,6 +17,7 @@ use hatmuyon::ffi::{
     RESULT_MAJOR_OVERSHOOT, RESULT_PLAN_GRADE, RESULT_PORTION_GRADE, RESULT_STANDING,
 };
 use hatmuyon::{BREAK_SIZE, MOST_UNITS, PLAN_SIZE, REDESIGNATION_SIZE, RESULT_SIZE, UNIT_SIZE};
+use hatmuyon::{MOLD_OPENING_SIZE, MOLD_RESULT_SIZE, MOLD_UNIT_SIZE, MOST_POSITIVE_FIELDS};
 
 const CLASSES: usize = 4;
 /// Grades A, B and C have a plan.
@@ -370,12 +373,17 @@ fn grade_units(sheet: &[u8], results: &mut [u8]) -> Result<usize, (u32, usize)> 
     Ok(units)
 }
 
-/// Grades a sheet into a result buffer, all but the code grades, which stay as they were.
-pub fn grade_but_codes(sheet: &[u8], results: &mut [u8]) -> Answer {
-    match grade_units(sheet, results) {
+/// What is answered of a sheet with so many units, or refused by a number at an offset.
+fn answer(sheet: &[u8], graded: Result<usize, (u32, usize)>) -> Answer {
+    match graded {
         Ok(units) => (0, units, sheet.len()),
         Err((number, offset)) => (number, 0, offset),
     }
+}
+
+/// Grades a sheet into a result buffer, all but the code grades, which stay as they were.
+pub fn grade_but_codes(sheet: &[u8], results: &mut [u8]) -> Answer {
+    answer(sheet, grade_units(sheet, results))
 }
 
 /// The grader with its table: the worst portion grade by code, zero between sheets.
@@ -410,4 +418,56 @@ impl Tuned {
             self.worst[code(record)] = 0;
         }
     }
+}
+
+/// Offset of the positive fields in a unit of a mold sheet.
+const POSITIVE_FIELDS: usize = 4;
+
+/// S, T and L of each level row of mold sheets, in whole fields.
+const LEVELS: [[i32; 3]; 6] = [[0, 1, 1], [1, 2, 3], [0, 3, 2], [1, 3, 3], [0, 5, 2], [1, 6, 3]];
+
+/// Refusals 1 and 16 of a mold sheet; else S, T and L of its level row.
+fn check_opening(sheet: &[u8]) -> Result<Numbers, u32> {
+    let &[0x4D, 0x44, row, ..] = sheet else { return Err(1) };
+    let &[start, tolerance, limit] = LEVELS.get(usize::from(row)).ok_or(16u32)?;
+    Ok(Numbers { start: 10 * start, tolerance: 10 * tolerance, limit: 10 * limit })
+}
+
+/// Refusals 6, 7, 12 and 17 of the records of a mold sheet, each with its offset; else the number of
+/// units.
+fn check_mold_units(sheet: &[u8]) -> Result<usize, (u32, usize)> {
+    let records = &sheet[MOLD_OPENING_SIZE..];
+    for (unit, record) in records.chunks(MOLD_UNIT_SIZE).enumerate() {
+        let number = match record {
+            [0x4D, 0x55, _, _, _] if unit == MOST_UNITS => 12,
+            [0x4D, 0x55, _, _, fields] if *fields > MOST_POSITIVE_FIELDS => 17,
+            [0x4D, 0x55, _, _, _] => continue,
+            [0x4D, 0x55, ..] => 7,
+            _ => 6,
+        };
+        return Err((number, MOLD_OPENING_SIZE + MOLD_UNIT_SIZE * unit));
+    }
+    Ok(records.len() / MOLD_UNIT_SIZE)
+}
+
+/// Grades a mold sheet into a result buffer: the number of units, or the number and the offset of a
+/// refusal.
+fn grade_mold_units(sheet: &[u8], results: &mut [u8]) -> Result<usize, (u32, usize)> {
+    let level = check_opening(sheet).map_err(|number| (number, 0))?;
+    let units = check_mold_units(sheet)?;
+    let results = results.get_mut(..MOLD_RESULT_SIZE * units).ok_or((13, sheet.len()))?;
+    let records = sheet[MOLD_OPENING_SIZE..].chunks_exact(MOLD_UNIT_SIZE);
+    let mut cusum = level.start;
+    for (record, result) in records.zip(results.chunks_exact_mut(MOLD_RESULT_SIZE)) {
+        let raw = (cusum + 10 * i32::from(record[POSITIVE_FIELDS]) - level.tolerance).max(0);
+        cusum = raw.min(level.limit);
+        let [high, low] = (cusum as u16).to_be_bytes();
+        result.copy_from_slice(&[0x4D, 0x52, u8::from(raw == cusum), high, low]);
+    }
+    Ok(units)
+}
+
+/// Grades a mold sheet into a result buffer.
+pub fn grade_mold(sheet: &[u8], results: &mut [u8]) -> Answer {
+    answer(sheet, grade_mold_units(sheet, results))
 }

@@ -1,4 +1,5 @@
-//! The boundary as `include/hatmuyon.h` declares it. [`grade`](crate::grade) is the safe way in.
+//! The boundary as `include/hatmuyon.h` declares it. [`grade`](crate::grade) and
+//! [`grade_mold`](crate::grade_mold) are the safe ways in.
 
 /// Offset of the production code in a result record, 2 bytes with the high byte first.
 pub const RESULT_CODE: usize = 2;
@@ -27,14 +28,21 @@ pub const RESULT_MAJOR_OVERSHOOT: usize = 24;
 /// Offset of the overshoot of total defects.
 pub const RESULT_TOTAL_OVERSHOOT: usize = 28;
 
-/// Bytes of stack that [`hatmuyon_grade`] needs at most; the header says how they were measured.
+/// Offset of the byte in a mold sheet's result record that is 1 if the unit met, 0 if it failed.
+pub const MOLD_RESULT_MET: usize = 2;
+/// Offset of the CuSum of positive fields, 2 bytes, tenths.
+pub const MOLD_RESULT_CUSUM: usize = 3;
+
+/// Bytes of stack that [`hatmuyon_grade`] and [`hatmuyon_grade_mold`] need at most; the header says
+/// how they were measured.
 pub const STACK_SIZE: usize = 2048;
 
 /// `struct hatmuyon_answer`.
 #[derive(Clone, Copy, Debug, PartialEq, Eq)]
 #[repr(C)]
 pub struct Answer {
-    /// 0, or the number of the refusal, 1 to 14 from an archive of this version.
+    /// 0, or the number of the refusal. From an archive of this version it is that of a
+    /// [`Ground`](crate::Ground), or of a [`MoldGround`](crate::MoldGround) for a mold sheet.
     pub number: u32,
     /// Accepted: the number of sample units. Refused: 0.
     pub units: usize,
@@ -43,7 +51,7 @@ pub struct Answer {
 }
 
 extern "C" {
-    /// Grades a sheet into a result buffer.
+    /// Grades a tally sheet into a result buffer.
     ///
     /// # Safety
     ///
@@ -52,6 +60,18 @@ extern "C" {
     /// is 0. The two must not overlap, and during the call no other thread may write to the sheet
     /// or touch the results.
     pub fn hatmuyon_grade(
+        sheet: *const u8,
+        sheet_length: usize,
+        results: *mut u8,
+        results_length: usize,
+    ) -> Answer;
+
+    /// Grades a mold sheet into a result buffer.
+    ///
+    /// # Safety
+    ///
+    /// As for [`hatmuyon_grade`].
+    pub fn hatmuyon_grade_mold(
         sheet: *const u8,
         sheet_length: usize,
         results: *mut u8,

@@ -1,9 +1,9 @@
-//! Grades the tally sheet of an on-line inspection under the USDA cumulative sum plan, File Code
-//! 120 A-6 of August 1978.
+//! Grades the tally sheet of an on-line inspection, and the mold sheet of a tomato line, under the
+//! USDA cumulative sum plan, File Code 120 A-6 of August 1978.
 //!
-//! A sheet is bytes: a plan record, and then sample units, redesignations and breaks in any order.
-//! `include/hatmuyon.h` describes them. [`grade`] takes any bytes, and either grades the sheet into
-//! a result buffer or refuses it with the [`Ground`] and the place:
+//! A tally sheet is bytes: a plan record, and then sample units, redesignations and breaks in any
+//! order. `include/hatmuyon.h` describes them. [`grade`] takes any bytes, and either grades the sheet
+//! into a result buffer or refuses it with the [`Ground`] and the place:
 //!
 //! ```
 //! use hatmuyon::{grade, Grade, Ground, Standing, RESULT_SIZE};
@@ -40,6 +40,10 @@
 //! # Ok::<(), hatmuyon::Refusal>(())
 //! ```
 //!
+//! [`grade_mold`] does the same with a mold sheet, which counts positive fields. They and defects are
+//! never to be added or compared: the records, refusals and grounds of the two sheets are of types
+//! apart, and so are the counts, `u8` and `u16`.
+//!
 //! The grading itself is the proved library `libhatmuyon.a`, which `rt staticlib hatmuyon` writes
 //! (x86-64). The build links it from target/staticlib of the repository, or from the folder that
 //! the environment variable `HATMUYON_ARCHIVE_DIR` names.
@@ -50,20 +54,28 @@
 //! the build cannot compare them. Linked with an archive of another version:
 //!
 //! - A refusal by a number that this version does not know is handed on with its number and offset;
-//!   its [`Refusal::ground`] is `None`.
+//!   its [`Refusal::ground`] or [`MoldRefusal::ground`] is `None`.
 //! - An answer of more result records than the result buffer has room for, at this version's
-//!   [`RESULT_SIZE`], panics.
+//!   [`RESULT_SIZE`] or [`MOLD_RESULT_SIZE`], panics.
 //! - Nothing else is checked. If that archive writes records of another size or with other fields,
 //!   it keeps to the buffer, but they are read as if they were of this version, and the [`Record`]s
-//!   are wrong. If its answer or the function itself has another form, the behaviour is undefined.
+//!   or [`MoldRecord`]s are wrong. If its answer or a function itself has another form, the behaviour
+//!   is undefined.
 
 #![warn(missing_docs)]
 
 use std::fmt;
 use std::iter::FusedIterator;
+use std::marker::PhantomData;
 use std::slice::ChunksExact;
 
 pub mod ffi;
+mod mold;
+
+pub use mold::{grade_mold, GradedMold, MoldGround, MoldRecord, MoldRefusal};
+pub use mold::{MOLD_LEVELS, MOLD_OPENING_SIZE, MOLD_RESULT_SIZE, MOLD_UNIT_SIZE};
+pub use mold::{MOLD_RESULT_MARK, MOLD_SHEET_MARK, MOLD_UNIT_MARK, MOST_POSITIVE_FIELDS};
+use sealed::ResultRecord;
 
 /// The version of the crate, which is `HATMUYON_VERSION` of the header: raised with each change of a
 /// record or an answer, and of the functions and types in C or Rust.
@@ -92,15 +104,15 @@ pub const BREAK_SIZE: usize = 2;
 pub const RESULT_SIZE: usize = 32;
 
 /// The most sample units on a sheet, so that `RESULT_SIZE * MOST_UNITS` bytes hold the results of
-/// any sheet.
+/// any tally sheet, and `MOLD_RESULT_SIZE * MOST_UNITS` those of any mold sheet.
 pub const MOST_UNITS: usize = 1000;
-/// The largest count of a sample unit.
+/// The largest count of defects of a sample unit.
 pub const LARGEST_COUNT: u16 = 2000;
 /// The largest S, T and L of a plan, in tenths.
 pub const LARGEST_PLAN_NUMBER: u16 = 9999;
 
-/// Grades a sheet into a result buffer: one result record of [`RESULT_SIZE`] bytes for each sample
-/// unit, in their order.
+/// Grades a tally sheet into a result buffer: one result record of [`RESULT_SIZE`] bytes for each
+/// sample unit, in their order.
 ///
 /// An accepted sheet changes only the bytes of its result records, which are lent on in the
 /// [`Graded`]; a refused one changes no byte of the buffer. No sheet is refused to which none of
@@ -122,93 +134,113 @@ pub fn grade<'r>(sheet: &[u8], results: &'r mut [u8]) -> Result<Graded<'r>, Refu
     let answer = unsafe {
         ffi::hatmuyon_grade(sheet.as_ptr(), sheet.len(), results.as_mut_ptr(), results.len())
     };
-    outcome(answer, results)
+    outcome(answer, results).map_err(|(number, offset)| Refusal { number, offset })
 }
 
-/// What an answer says, after which the result records are in the buffer if the sheet is accepted.
-fn outcome(answer: ffi::Answer, results: &[u8]) -> Result<Graded<'_>, Refusal> {
+mod sealed {
+    /// What is recorded of a sample unit: a [`Record`](crate::Record), or a
+    /// [`MoldRecord`](crate::MoldRecord).
+    pub trait ResultRecord {
+        /// Bytes of the result record.
+        const SIZE: usize;
+
+        /// From the bytes of the result record.
+        fn from_bytes(bytes: &[u8]) -> Self;
+    }
+}
+
+/// What an answer says, after which the result records are in the buffer if the sheet is accepted;
+/// number and offset if it is refused.
+fn outcome<R: ResultRecord>(
+    answer: ffi::Answer,
+    results: &[u8],
+) -> Result<Graded<'_, R>, (u32, usize)> {
     let ffi::Answer { number, units, offset } = answer;
     if number != 0 {
-        return Err(Refusal { number, offset });
+        return Err((number, offset));
     }
-    let room = results.len() / RESULT_SIZE;
+    let room = results.len() / R::SIZE;
     assert!(units <= room, "an archive of another version: {units} records where {room} have room");
-    Ok(Graded { bytes: &results[..RESULT_SIZE * units] })
+    Ok(Graded { bytes: &results[..R::SIZE * units], records: PhantomData })
 }
 
-/// The result records of an accepted sheet, borrowed from the result buffer.
+/// The result records of an accepted sheet, borrowed from the result buffer: each a [`Record`], or a
+/// [`MoldRecord`] in the [`GradedMold`] of a mold sheet.
 #[derive(Clone, Copy, Debug, PartialEq, Eq)]
-pub struct Graded<'r> {
+pub struct Graded<'r, R = Record> {
     bytes: &'r [u8],
+    records: PhantomData<R>,
 }
 
-impl<'r> Graded<'r> {
+impl<'r, R: ResultRecord> Graded<'r, R> {
     /// The number of sample units on the sheet, which is the number of result records.
     pub fn units(&self) -> usize {
-        self.bytes.len() / RESULT_SIZE
+        self.bytes.len() / R::SIZE
     }
 
-    /// The result records as they stand in the buffer, [`RESULT_SIZE`] bytes each.
+    /// The result records as they stand in the buffer, [`RESULT_SIZE`] bytes each, or
+    /// [`MOLD_RESULT_SIZE`].
     pub fn bytes(&self) -> &'r [u8] {
         self.bytes
     }
 
     /// The result records, one for each sample unit, in their order.
-    pub fn records(&self) -> Records<'r> {
-        Records { chunks: self.bytes.chunks_exact(RESULT_SIZE) }
+    pub fn records(&self) -> Records<'r, R> {
+        Records { chunks: self.bytes.chunks_exact(R::SIZE), records: PhantomData }
     }
 }
 
-impl<'r> IntoIterator for Graded<'r> {
-    type Item = Record;
-    type IntoIter = Records<'r>;
+impl<'r, R: ResultRecord> IntoIterator for Graded<'r, R> {
+    type Item = R;
+    type IntoIter = Records<'r, R>;
 
-    fn into_iter(self) -> Records<'r> {
+    fn into_iter(self) -> Records<'r, R> {
         self.records()
     }
 }
 
-impl<'r> IntoIterator for &Graded<'r> {
-    type Item = Record;
-    type IntoIter = Records<'r>;
+impl<'r, R: ResultRecord> IntoIterator for &Graded<'r, R> {
+    type Item = R;
+    type IntoIter = Records<'r, R>;
 
-    fn into_iter(self) -> Records<'r> {
+    fn into_iter(self) -> Records<'r, R> {
         self.records()
     }
 }
 
 /// An iterator over result records; see [`Graded::records`].
 #[derive(Clone, Debug)]
-pub struct Records<'r> {
+pub struct Records<'r, R = Record> {
     chunks: ChunksExact<'r, u8>,
+    records: PhantomData<R>,
 }
 
-impl Iterator for Records<'_> {
-    type Item = Record;
+impl<R: ResultRecord> Iterator for Records<'_, R> {
+    type Item = R;
 
-    fn next(&mut self) -> Option<Record> {
-        self.chunks.next().map(Record::from_bytes)
+    fn next(&mut self) -> Option<R> {
+        self.chunks.next().map(R::from_bytes)
     }
 
     fn size_hint(&self) -> (usize, Option<usize>) {
         self.chunks.size_hint()
     }
 
-    fn nth(&mut self, n: usize) -> Option<Record> {
-        self.chunks.nth(n).map(Record::from_bytes)
+    fn nth(&mut self, n: usize) -> Option<R> {
+        self.chunks.nth(n).map(R::from_bytes)
     }
 }
 
-impl DoubleEndedIterator for Records<'_> {
-    fn next_back(&mut self) -> Option<Record> {
-        self.chunks.next_back().map(Record::from_bytes)
+impl<R: ResultRecord> DoubleEndedIterator for Records<'_, R> {
+    fn next_back(&mut self) -> Option<R> {
+        self.chunks.next_back().map(R::from_bytes)
     }
 }
 
-impl ExactSizeIterator for Records<'_> {}
-impl FusedIterator for Records<'_> {}
+impl<R: ResultRecord> ExactSizeIterator for Records<'_, R> {}
+impl<R: ResultRecord> FusedIterator for Records<'_, R> {}
 
-/// What is recorded of a sample unit.
+/// What is recorded of a sample unit on a tally sheet.
 ///
 /// An archive of this version writes grades and standings from 0 to 3. A larger byte would be read
 /// as 3: [`Grade::Substandard`], no plan in force, [`Standing::Recovered`]. The mark is not read.
@@ -233,8 +265,9 @@ pub struct Record {
     pub overshoots: [u32; 4],
 }
 
-impl Record {
-    /// From the bytes of a result record.
+impl ResultRecord for Record {
+    const SIZE: usize = RESULT_SIZE;
+
     fn from_bytes(bytes: &[u8]) -> Record {
         use ffi::*;
         let two = |at: usize| u16::from_be_bytes([bytes[at], bytes[at + 1]]);
@@ -319,7 +352,7 @@ impl Standing {
     }
 }
 
-/// A refused sheet: the number of the ground, and the place.
+/// A refused tally sheet: the number of the ground, and the place.
 ///
 /// ```
 /// let refusal = hatmuyon::grade(&[], &mut []).unwrap_err();
@@ -347,18 +380,27 @@ impl Refusal {
 
 impl fmt::Display for Refusal {
     fn fmt(&self, f: &mut fmt::Formatter<'_>) -> fmt::Result {
-        let Refusal { number, offset } = self;
-        write!(f, "refused {number} at offset {offset}: ")?;
-        match self.ground() {
-            Some(ground) => ground.fmt(f),
-            None => write!(f, "a number that version {VERSION} does not know"),
-        }
+        say_refused(f, self.number, self.offset, self.ground())
     }
 }
 
 impl std::error::Error for Refusal {}
 
-/// A ground on which a sheet is refused.
+/// Says in words that a sheet is refused.
+fn say_refused(
+    f: &mut fmt::Formatter<'_>,
+    number: u32,
+    offset: usize,
+    ground: Option<impl fmt::Display>,
+) -> fmt::Result {
+    write!(f, "refused {number} at offset {offset}: ")?;
+    match ground {
+        Some(ground) => ground.fmt(f),
+        None => write!(f, "a number that version {VERSION} does not know"),
+    }
+}
+
+/// A ground on which a tally sheet is refused.
 ///
 /// The plan is checked first, for grounds 1 to 5 in turn; then the records from left to right, each
 /// wholly before the next, for 6, 7, 12, 8, 9, 10, 11 in this order; then the result buffer. More
@@ -464,26 +506,51 @@ mod tests {
 
     #[test]
     fn a_number_not_known() {
-        let refusal = outcome(Answer { number: 15, units: 0, offset: 75 }, &[]).unwrap_err();
-        assert_eq!(refusal, Refusal { number: 15, offset: 75 });
-        assert_eq!(refusal.ground(), None);
-        assert_eq!(
-            refusal.to_string(),
-            format!("refused 15 at offset 75: a number that version {VERSION} does not know")
-        );
+        let answer = Answer { number: 15, units: 0, offset: 75 };
+        assert_eq!(outcome::<Record>(answer, &[]), Err((15, 75)));
+        assert_eq!(outcome::<MoldRecord>(answer, &[]), Err((15, 75)));
+        let words =
+            format!("refused 15 at offset 75: a number that version {VERSION} does not know");
+        let refusal = Refusal { number: 15, offset: 75 };
+        assert_eq!((refusal.ground(), refusal.to_string()), (None, words.clone()));
+        let refusal = MoldRefusal { number: 15, offset: 75 };
+        assert_eq!((refusal.ground(), refusal.to_string()), (None, words));
+    }
+
+    #[test]
+    fn a_number_of_the_other_sheet() {
+        for number in [2, 5, 8, 11, 14] {
+            assert_eq!(MoldRefusal { number, offset: 0 }.ground(), None);
+        }
+        for number in [16, 17] {
+            assert_eq!(Refusal { number, offset: 0 }.ground(), None);
+        }
     }
 
     #[test]
     fn records_up_to_the_room() {
         let results = [0; 3 * RESULT_SIZE - 1];
-        let graded = outcome(Answer { number: 0, units: 2, offset: 103 }, &results).unwrap();
+        let graded =
+            outcome::<Record>(Answer { number: 0, units: 2, offset: 103 }, &results).unwrap();
         assert_eq!((graded.units(), graded.bytes().len()), (2, 2 * RESULT_SIZE));
+        let results = [0; 3 * MOLD_RESULT_SIZE - 1];
+        let graded =
+            outcome::<MoldRecord>(Answer { number: 0, units: 2, offset: 13 }, &results).unwrap();
+        assert_eq!((graded.units(), graded.bytes().len()), (2, 2 * MOLD_RESULT_SIZE));
     }
 
     #[test]
     #[should_panic(expected = "an archive of another version")]
     fn more_records_than_room() {
-        let _ = outcome(Answer { number: 0, units: 3, offset: 117 }, &[0; 3 * RESULT_SIZE - 1]);
+        let answer = Answer { number: 0, units: 3, offset: 117 };
+        let _ = outcome::<Record>(answer, &[0; 3 * RESULT_SIZE - 1]);
+    }
+
+    #[test]
+    #[should_panic(expected = "an archive of another version")]
+    fn more_mold_records_than_room() {
+        let answer = Answer { number: 0, units: 3, offset: 18 };
+        let _ = outcome::<MoldRecord>(answer, &[0; 3 * MOLD_RESULT_SIZE - 1]);
     }
 
     #[test]
@@ -491,7 +558,7 @@ mod tests {
     fn more_records_than_any_room() {
         // Times RESULT_SIZE this would be 0.
         let units = usize::MAX / RESULT_SIZE + 1;
-        let _ = outcome(Answer { number: 0, units, offset: 75 }, &[]);
+        let _ = outcome::<Record>(Answer { number: 0, units, offset: 75 }, &[]);
     }
 
     #[test]

@@ -2,7 +2,7 @@
 //! include/hatmuyon.h, linked with the archive and run.
 
 use hatmuyon::ffi::{self, Answer};
-use hatmuyon::{Grade, Ground, Standing};
+use hatmuyon::{Grade, Ground, MoldGround, Standing};
 use std::collections::{BTreeMap, BTreeSet};
 use std::mem::{align_of, offset_of, size_of};
 use std::path::Path;
@@ -68,9 +68,17 @@ fn same_as_in_c() {
     put("redesignation size", hatmuyon::REDESIGNATION_SIZE);
     put("break size", hatmuyon::BREAK_SIZE);
     put("result size", hatmuyon::RESULT_SIZE);
+    put("mold sheet mark", hatmuyon::MOLD_SHEET_MARK.into());
+    put("mold unit mark", hatmuyon::MOLD_UNIT_MARK.into());
+    put("mold result mark", hatmuyon::MOLD_RESULT_MARK.into());
+    put("mold opening size", hatmuyon::MOLD_OPENING_SIZE);
+    put("mold unit size", hatmuyon::MOLD_UNIT_SIZE);
+    put("mold result size", hatmuyon::MOLD_RESULT_SIZE);
     put("most units", hatmuyon::MOST_UNITS);
     put("largest count", hatmuyon::LARGEST_COUNT.into());
     put("largest plan number", hatmuyon::LARGEST_PLAN_NUMBER.into());
+    put("mold levels", hatmuyon::MOLD_LEVELS.into());
+    put("most positive fields", hatmuyon::MOST_POSITIVE_FIELDS.into());
     put("stack size", ffi::STACK_SIZE);
     put("code at", ffi::RESULT_CODE);
     put("portion grade at", ffi::RESULT_PORTION_GRADE);
@@ -85,6 +93,8 @@ fn same_as_in_c() {
     put("severe overshoot at", ffi::RESULT_SEVERE_OVERSHOOT);
     put("major overshoot at", ffi::RESULT_MAJOR_OVERSHOOT);
     put("total overshoot at", ffi::RESULT_TOTAL_OVERSHOOT);
+    put("mold met at", ffi::MOLD_RESULT_MET);
+    put("mold cusum at", ffi::MOLD_RESULT_CUSUM);
     for grade in [Grade::A, Grade::B, Grade::C, Grade::Substandard] {
         put(&format!("{grade:?}"), grade as usize);
     }
@@ -94,6 +104,9 @@ fn same_as_in_c() {
     put("accepted", 0);
     for ground in Ground::ALL {
         put(&format!("{ground:?}"), ground.number() as usize);
+    }
+    for ground in MoldGround::ALL {
+        put(&format!("mold {ground:?}"), ground.number() as usize);
     }
 
     let text = printed_by("layout.c", "cc", "c99", &[]);
@@ -128,9 +141,10 @@ fn empty_vectors_in_cpp() {
 
 #[test]
 fn stack_at_most_that_of_the_header() {
-    let sheets = ["peach", "pea", "damaged"].map(|name| format!("../../examples/{name}.sheet"));
+    let sheets = ["peach.sheet", "pea.sheet", "damaged.sheet", "tomato.mold"]
+        .map(|name| format!("../../examples/{name}"));
     let text = printed_by("stack.c", "cc", "c99", &sheets);
     let used: Vec<usize> = text.lines().map(|line| line.parse().expect("not a number")).collect();
-    assert_eq!(used.len(), sheets.len());
+    assert_eq!(used.len(), 2 * sheets.len());
     assert!(used.iter().all(|&used| used <= ffi::STACK_SIZE), "{used:?} bytes of stack");
 }

@@ -1,11 +1,16 @@
-//! The library over its boundary: the example sheets, every refusal, and what the result buffer keeps.
+//! The library over its boundary: the example sheets, every refusal, and what the result buffer keeps,
+//! first of tally sheets and then of mold sheets.
 
 use hatmuyon::{grade, Grade, Ground, Record, Refusal, Standing};
-use hatmuyon::{MOST_UNITS, PLAN_SIZE, RESULT_SIZE, UNIT_SIZE};
+use hatmuyon::{
+    grade_mold, MoldGround, MoldRecord, MoldRefusal, MOLD_LEVELS, MOST_POSITIVE_FIELDS,
+};
+use hatmuyon::{MOLD_RESULT_SIZE, MOST_UNITS, PLAN_SIZE, RESULT_SIZE, UNIT_SIZE};
 
 const PEACH: &[u8] = include_bytes!("../../../examples/peach.sheet");
 const PEA: &[u8] = include_bytes!("../../../examples/pea.sheet");
 const DAMAGED: &[u8] = include_bytes!("../../../examples/damaged.sheet");
+const TOMATO: &[u8] = include_bytes!("../../../examples/tomato.mold");
 
 const BREAK: [u8; 2] = [0x42, 0x4B];
 
@@ -306,4 +311,126 @@ fn grounds_and_errors() {
     assert_eq!(Ground::from_number(15), None);
     let error: Box<dyn std::error::Error> = Box::new(grade(DAMAGED, &mut []).unwrap_err());
     assert_eq!(error.to_string(), "refused 8 at offset 103: a count above 2,000");
+}
+
+/// A mold sheet with this level row and units of so many positive fields each.
+fn mold_sheet(row: u8, fields: &[u8]) -> Vec<u8> {
+    let units = fields.iter().flat_map(|&fields| [0x4D, 0x55, 0, 1, fields]);
+    [0x4D, 0x44, row].into_iter().chain(units).collect()
+}
+
+/// Met and CuSum of each unit of an accepted mold sheet.
+fn mold_records(sheet: &[u8]) -> Vec<(bool, u16)> {
+    let mut results = vec![0xEE; MOLD_RESULT_SIZE * MOST_UNITS];
+    let graded = grade_mold(sheet, &mut results).expect("the sheet is refused");
+    graded.records().map(|record| (record.met, record.cusum)).collect()
+}
+
+/// As [`refused`], of a mold sheet.
+fn mold_refused(sheet: &[u8], room: usize) -> (u32, usize) {
+    let mut results = vec![0xEE; room];
+    let MoldRefusal { number, offset } =
+        grade_mold(sheet, &mut results).expect_err("the sheet is accepted");
+    assert!(results.iter().all(|&byte| byte == 0xEE), "a byte was changed");
+    (number, offset)
+}
+
+#[test]
+fn tomato_sheet() {
+    let mut results = [0xEE; 5 * MOLD_RESULT_SIZE + 3];
+    let graded = grade_mold(TOMATO, &mut results).unwrap();
+    assert_eq!(graded.units(), 5);
+    let record = |met, cusum| MoldRecord { met, cusum };
+    let meets = record(true, 0);
+    let expected = [meets, meets, meets, record(false, 20), record(true, 20)];
+    assert_eq!(graded.records().collect::<Vec<_>>(), expected);
+    assert_eq!(graded.bytes()[15..20], [0x4D, 0x52, 0, 0, 20]);
+    assert_eq!(graded.records().next_back(), Some(record(true, 20)));
+    assert_eq!((&graded).into_iter().len(), 5);
+    assert_eq!(results[25..], [0xEE; 3]);
+}
+
+#[test]
+fn mold_rows() {
+    // S, T and L of each row, in whole fields.
+    let rows = [[0, 1, 1], [1, 2, 3], [0, 3, 2], [1, 3, 3], [0, 5, 2], [1, 6, 3]];
+    assert_eq!(rows.len(), usize::from(MOLD_LEVELS));
+    for (row, [start, tolerance, limit]) in (0..).zip(rows) {
+        let tenths = 10 * u16::from(limit);
+        // From S up to L, one above it, none at all, and all there are.
+        let fields = [tolerance + limit - start, tolerance, tolerance + 1, 0, MOST_POSITIVE_FIELDS];
+        let below = 10 * u16::from(limit.saturating_sub(tolerance));
+        assert_eq!(
+            mold_records(&mold_sheet(row, &fields)),
+            [(true, tenths), (true, tenths), (false, tenths), (true, below), (false, tenths)]
+        );
+        assert_eq!(
+            mold_records(&mold_sheet(row, &[tolerance + limit - start + 1])),
+            [(false, tenths)]
+        );
+    }
+}
+
+#[test]
+fn every_mold_refusal() {
+    let two = mold_sheet(2, &[3, 4]);
+    let full = mold_sheet(5, &[0; MOST_UNITS]);
+    let behind = |sheet: &[u8], bytes: &[u8]| [sheet, bytes].concat();
+    let unit = [0x4D, 0x55, 0, 1, 25];
+    let too_many = [0x4D, 0x55, 0, 1, 26];
+    let cases: Vec<(u32, Vec<u8>, usize)> = vec![
+        (1, vec![], 0),
+        (1, vec![0x4D, 0x44], 0),
+        (1, vec![0x4D, 0x45, 6], 0),
+        (1, PEACH.to_vec(), 0),
+        (16, mold_sheet(6, &[26]), 0),
+        (16, mold_sheet(255, &[]), 0),
+        (6, behind(&two, &[0x4D]), 13),
+        (6, behind(&two, b"SU"), 13),
+        (6, behind(&two, b"MD\x02"), 13),
+        (7, behind(&two, &too_many[..4]), 13),
+        (7, behind(&full, &unit[..2]), 5003),
+        (12, behind(&full, &unit), 5003),
+        (12, behind(&full, &too_many), 5003),
+        (17, behind(&two, &too_many), 13),
+        (17, mold_sheet(0, &[255, 3]), 3),
+    ];
+    for (number, sheet, offset) in &cases {
+        for room in [0, MOLD_RESULT_SIZE * MOST_UNITS] {
+            assert_eq!(mold_refused(sheet, room), (*number, *offset));
+        }
+    }
+    for room in [0, 1, MOLD_RESULT_SIZE, 2 * MOLD_RESULT_SIZE - 1] {
+        assert_eq!(mold_refused(&two, room), (13, 13));
+    }
+    let mut met: Vec<u32> = cases.iter().map(|(number, _, _)| *number).collect();
+    met.push(13);
+    met.sort();
+    met.dedup();
+    let grounds: Vec<u32> = MoldGround::ALL.iter().map(|ground| ground.number()).collect();
+    assert_eq!(met, grounds);
+    assert_eq!(grade(TOMATO, &mut []).unwrap_err().ground(), Some(Ground::NoPlan));
+}
+
+#[test]
+fn largest_mold_sheet_and_none() {
+    let last = mold_records(&mold_sheet(5, &[MOST_POSITIVE_FIELDS; MOST_UNITS]));
+    assert_eq!(last, [(false, 30); MOST_UNITS]);
+    assert_eq!(grade_mold(&mold_sheet(5, &[]), &mut []).unwrap().units(), 0);
+}
+
+#[test]
+fn mold_grounds_and_errors() {
+    for &ground in MoldGround::ALL {
+        assert_eq!(MoldGround::from_number(ground.number()), Some(ground));
+        assert!(!ground.to_string().is_empty());
+    }
+    for number in [0, 2, 8, 14, 15, 18] {
+        assert_eq!(MoldGround::from_number(number), None);
+    }
+    let error: Box<dyn std::error::Error> = Box::new(grade_mold(PEACH, &mut []).unwrap_err());
+    assert_eq!(
+        error.to_string(),
+        "refused 1 at offset 0: shorter than 3 bytes, or first mark not 4D 44"
+    );
 }

@@ -42,9 +42,19 @@ int main(void)
     value("break size", HATMUYON_BREAK_SIZE);
     value("result size", HATMUYON_RESULT_SIZE);
 
+    value("mold sheet mark", HATMUYON_MOLD_SHEET_MARK);
+    value("mold unit mark", HATMUYON_MOLD_UNIT_MARK);
+    value("mold result mark", HATMUYON_MOLD_RESULT_MARK);
+
+    value("mold opening size", HATMUYON_MOLD_OPENING_SIZE);
+    value("mold unit size", HATMUYON_MOLD_UNIT_SIZE);
+    value("mold result size", HATMUYON_MOLD_RESULT_SIZE);
+
     value("most units", HATMUYON_MOST_UNITS);
     value("largest count", HATMUYON_LARGEST_COUNT);
     value("largest plan number", HATMUYON_LARGEST_PLAN_NUMBER);
+    value("mold levels", HATMUYON_MOLD_LEVELS);
+    value("most positive fields", HATMUYON_MOST_POSITIVE_FIELDS);
     value("stack size", HATMUYON_STACK_SIZE);
 
     value("code at", HATMUYON_RESULT_CODE);
@@ -60,6 +70,8 @@ int main(void)
     value("severe overshoot at", HATMUYON_RESULT_SEVERE_OVERSHOOT);
     value("major overshoot at", HATMUYON_RESULT_MAJOR_OVERSHOOT);
     value("total overshoot at", HATMUYON_RESULT_TOTAL_OVERSHOOT);
+    value("mold met at", HATMUYON_MOLD_RESULT_MET);
+    value("mold cusum at", HATMUYON_MOLD_RESULT_CUSUM);
 
     value("A", HATMUYON_GRADE_A);
     value("B", HATMUYON_GRADE_B);
@@ -86,5 +98,13 @@ int main(void)
     value("TooManyUnits", HATMUYON_REFUSED_TOO_MANY_UNITS);
     value("ResultBufferTooShort", HATMUYON_REFUSED_RESULT_BUFFER_TOO_SHORT);
     value("CusumTooLarge", HATMUYON_REFUSED_CUSUM_TOO_LARGE);
+
+    value("mold NoOpening", HATMUYON_REFUSED_NO_PLAN);
+    value("mold UnknownMark", HATMUYON_REFUSED_UNKNOWN_MARK);
+    value("mold CutShort", HATMUYON_REFUSED_CUT_SHORT);
+    value("mold TooManyUnits", HATMUYON_REFUSED_TOO_MANY_UNITS);
+    value("mold ResultBufferTooShort", HATMUYON_REFUSED_RESULT_BUFFER_TOO_SHORT);
+    value("mold BadLevelRow", HATMUYON_REFUSED_BAD_LEVEL_ROW);
+    value("mold TooManyPositiveFields", HATMUYON_REFUSED_TOO_MANY_POSITIVE_FIELDS);
     return 0;
 }

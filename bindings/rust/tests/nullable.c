@@ -1,12 +1,16 @@
 /*
- * hatmuyon_grade_nullable with null pointers and, compiled as C++, with empty vectors. The first
- * thing that is not as it should be is printed, and the exit status is 1.
+ * hatmuyon_grade_nullable and hatmuyon_grade_mold_nullable with null pointers and, compiled as C++,
+ * with empty vectors. The first thing that is not as it should be is printed, and the exit status is
+ * 1.
  *
- * The header's function calls watched_grade here, which looks at the pointers and calls the archive.
+ * The header's functions call watched_grade and watched_grade_mold here, which look at the pointers
+ * and call the archive.
  */
 #define hatmuyon_grade watched_grade
+#define hatmuyon_grade_mold watched_grade_mold
 #include "hatmuyon.h"
 #undef hatmuyon_grade
+#undef hatmuyon_grade_mold
 
 #include <stdio.h>
 #include <stdlib.h>
@@ -32,17 +36,31 @@ static void must(int holds, const char *what, int line)
 extern "C" {
 #endif
 
-struct hatmuyon_answer hatmuyon_grade(const uint8_t *sheet, size_t sheet_length,
-                                      uint8_t *results, size_t results_length);
+typedef struct hatmuyon_answer grading(const uint8_t *sheet, size_t sheet_length,
+                                       uint8_t *results, size_t results_length);
 
-struct hatmuyon_answer watched_grade(const uint8_t *sheet, size_t sheet_length,
-                                     uint8_t *results, size_t results_length)
+grading hatmuyon_grade, hatmuyon_grade_mold;
+
+static struct hatmuyon_answer watched(grading *archive, const uint8_t *sheet, size_t sheet_length,
+                                      uint8_t *results, size_t results_length)
 {
     MUST(sheet != NULL);
     MUST(results != NULL);
     last_sheet = sheet;
     last_results = results;
-    return hatmuyon_grade(sheet, sheet_length, results, results_length);
+    return archive(sheet, sheet_length, results, results_length);
+}
+
+struct hatmuyon_answer watched_grade(const uint8_t *sheet, size_t sheet_length,
+                                     uint8_t *results, size_t results_length)
+{
+    return watched(hatmuyon_grade, sheet, sheet_length, results, results_length);
+}
+
+struct hatmuyon_answer watched_grade_mold(const uint8_t *sheet, size_t sheet_length,
+                                          uint8_t *results, size_t results_length)
+{
+    return watched(hatmuyon_grade_mold, sheet, sheet_length, results, results_length);
 }
 
 #ifdef __cplusplus
@@ -54,47 +72,60 @@ static int is(struct hatmuyon_answer answer, uint32_t number, size_t units, size
     return answer.number == number && answer.units == units && answer.offset == offset;
 }
 
-int main(void)
+/* Tries the nullable form of a grading on a sheet of one unit: its first bytes, so many, are a sheet
+ * without a unit. */
+static void try_with(grading *nullable, grading *archive, const uint8_t *sheet, size_t without,
+                     size_t whole, size_t result_size)
 {
-    enum { PLAN = HATMUYON_PLAN_SIZE, WHOLE = PLAN + HATMUYON_UNIT_SIZE };
-    /* A plan of zeros, which no ground refuses, and a unit of zeros. */
-    uint8_t sheet[WHOLE] = {0x50, 0x4C};
     uint8_t results[HATMUYON_RESULT_SIZE], filled[HATMUYON_RESULT_SIZE];
     uint8_t expected[HATMUYON_RESULT_SIZE];
 
-    sheet[PLAN] = 0x53;
-    sheet[PLAN + 1] = 0x55;
     memset(filled, 0xEE, sizeof filled);
     memset(results, 0xEE, sizeof results);
-    MUST(is(hatmuyon_grade(sheet, WHOLE, expected, sizeof expected), 0, 1, WHOLE));
+    MUST(is(archive(sheet, whole, expected, result_size), 0, 1, whole));
 
-    MUST(is(hatmuyon_grade_nullable(NULL, 0, NULL, 0), 1, 0, 0));
-    MUST(is(hatmuyon_grade_nullable(NULL, 0, results, sizeof results), 1, 0, 0));
+    MUST(is(nullable(NULL, 0, NULL, 0), 1, 0, 0));
+    MUST(is(nullable(NULL, 0, results, result_size), 1, 0, 0));
     MUST(last_results == results);
-    MUST(is(hatmuyon_grade_nullable(sheet, PLAN, NULL, 0), 0, 0, PLAN));
+    MUST(is(nullable(sheet, without, NULL, 0), 0, 0, without));
     MUST(last_sheet == sheet);
-    MUST(is(hatmuyon_grade_nullable(sheet, WHOLE, NULL, 0), 13, 0, WHOLE));
+    MUST(is(nullable(sheet, whole, NULL, 0), 13, 0, whole));
     /* A pointer whose length is 0 need not be null. */
-    MUST(is(hatmuyon_grade_nullable(sheet, 0, results, 0), 1, 0, 0));
+    MUST(is(nullable(sheet, 0, results, 0), 1, 0, 0));
     MUST(last_sheet != sheet && last_results != results);
     MUST(memcmp(results, filled, sizeof results) == 0);
-    MUST(is(hatmuyon_grade_nullable(sheet, WHOLE, results, sizeof results), 0, 1, WHOLE));
+    MUST(is(nullable(sheet, whole, results, result_size), 0, 1, whole));
     MUST(last_sheet == sheet && last_results == results);
-    MUST(memcmp(results, expected, sizeof results) == 0);
+    MUST(memcmp(results, expected, result_size) == 0);
 
 #ifdef __cplusplus
     const std::vector<uint8_t> no_sheet;
-    const std::vector<uint8_t> vector_sheet(sheet, sheet + WHOLE);
+    const std::vector<uint8_t> vector_sheet(sheet, sheet + whole);
     std::vector<uint8_t> no_results;
-    std::vector<uint8_t> vector_results(HATMUYON_RESULT_SIZE);
-    const auto grade = [](const std::vector<uint8_t> &from, std::vector<uint8_t> &to) {
-        return hatmuyon_grade_nullable(from.data(), from.size(), to.data(), to.size());
+    std::vector<uint8_t> vector_results(result_size);
+    const auto grade = [=](const std::vector<uint8_t> &from, std::vector<uint8_t> &to) {
+        return nullable(from.data(), from.size(), to.data(), to.size());
     };
     MUST(is(grade(no_sheet, no_results), 1, 0, 0));
     MUST(is(grade(no_sheet, vector_results), 1, 0, 0));
-    MUST(is(grade(vector_sheet, no_results), 13, 0, WHOLE));
-    MUST(is(grade(vector_sheet, vector_results), 0, 1, WHOLE));
-    MUST(memcmp(vector_results.data(), expected, sizeof expected) == 0);
+    MUST(is(grade(vector_sheet, no_results), 13, 0, whole));
+    MUST(is(grade(vector_sheet, vector_results), 0, 1, whole));
+    MUST(memcmp(vector_results.data(), expected, result_size) == 0);
 #endif
+}
+
+int main(void)
+{
+    enum { PLAN = HATMUYON_PLAN_SIZE, TALLY = PLAN + HATMUYON_UNIT_SIZE };
+    enum { OPENING = HATMUYON_MOLD_OPENING_SIZE, MOLD = OPENING + HATMUYON_MOLD_UNIT_SIZE };
+    /* A plan of zeros, which no ground refuses, and a unit of zeros. */
+    uint8_t tally[TALLY] = {0x50, 0x4C};
+    const uint8_t mold[MOLD] = {0x4D, 0x44, 0, 0x4D, 0x55, 0, 0, 0};
+
+    tally[PLAN] = 0x53;
+    tally[PLAN + 1] = 0x55;
+    try_with(hatmuyon_grade_nullable, hatmuyon_grade, tally, PLAN, TALLY, HATMUYON_RESULT_SIZE);
+    try_with(hatmuyon_grade_mold_nullable, hatmuyon_grade_mold, mold, OPENING, MOLD,
+             HATMUYON_MOLD_RESULT_SIZE);
     return 0;
 }

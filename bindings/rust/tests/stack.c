@@ -1,8 +1,9 @@
 /*
- * Prints the bytes of stack that grading takes, for each sheet named: stack FILE...
+ * Prints the bytes of stack that the two gradings take, hatmuyon_grade and then hatmuyon_grade_mold,
+ * for each sheet named: stack FILE...
  *
  * A thread paints the unused part of its stack, grades, and looks how far down the paint is gone. It
- * counts from its own frame, so that the figure is that of hatmuyon_grade and a little more.
+ * counts from its own frame, so that the figure is that of the grading and a little more.
  */
 #define _XOPEN_SOURCE 700
 #include <pthread.h>
@@ -10,7 +11,7 @@
 
 #include "hatmuyon.h"
 
-/* The bytes right below its frame the thread uses itself and leaves unpainted. */
+/* The bytes right below its frame the thread uses itself and leaves unpainted; no figure is less. */
 enum { STACK = 1 << 18, UNPAINTED = 256, PAINT = 0xA5 };
 
 /* Aligned as a stack must be. */
@@ -21,6 +22,7 @@ static union {
 static uint8_t sheet[65536];
 static size_t sheet_length;
 static uint8_t results[HATMUYON_RESULT_SIZE * HATMUYON_MOST_UNITS];
+static struct hatmuyon_answer (*grading)(const uint8_t *, size_t, uint8_t *, size_t);
 static size_t used;
 
 static void *grade(void *nothing)
@@ -30,39 +32,51 @@ static void *grade(void *nothing)
 
     for (byte = stack.bytes; byte < frame - UNPAINTED; byte++)
         *byte = PAINT;
-    hatmuyon_grade(sheet, sheet_length, results, sizeof results);
-    for (byte = stack.bytes; *byte == PAINT; byte++)
+    grading(sheet, sheet_length, results, sizeof results);
+    for (byte = stack.bytes; *byte == PAINT && byte < frame - UNPAINTED; byte++)
         ;
     used = (size_t)(frame - byte);
     return nothing;
 }
 
-static int measure(const char *name)
+static int measure(void)
 {
-    FILE *file = fopen(name, "rb");
     pthread_attr_t attributes;
     pthread_t thread;
+
+    return pthread_attr_init(&attributes) == 0 &&
+           pthread_attr_setstack(&attributes, stack.bytes, sizeof stack.bytes) == 0 &&
+           pthread_create(&thread, &attributes, grade, NULL) == 0 &&
+           pthread_join(thread, NULL) == 0;
+}
+
+static int read_sheet(const char *name)
+{
+    FILE *file = fopen(name, "rb");
 
     if (file == NULL)
         return 0;
     sheet_length = fread(sheet, 1, sizeof sheet, file);
     fclose(file);
-    return pthread_attr_init(&attributes) == 0 &&
-           pthread_attr_setstack(&attributes, stack.bytes, sizeof stack.bytes) == 0 &&
-           pthread_create(&thread, &attributes, grade, NULL) == 0 &&
-           pthread_join(thread, NULL) == 0 && used > UNPAINTED;
+    return 1;
 }
 
 int main(int argc, char **argv)
 {
-    int file;
+    size_t most = 0;
+    int file, mold;
 
-    for (file = 1; file < argc; file++) {
-        if (!measure(argv[file])) {
-            printf("cannot measure %s\n", argv[file]);
-            return 1;
+    for (file = 1; file < argc; file++)
+        for (mold = 0; mold <= 1; mold++) {
+            grading = mold ? hatmuyon_grade_mold : hatmuyon_grade;
+            if (!read_sheet(argv[file]) || !measure()) {
+                printf("cannot measure %s\n", argv[file]);
+                return 1;
+            }
+            printf("%zu\n", used);
+            if (used > most)
+                most = used;
         }
-        printf("%zu\n", used);
-    }
-    return 0;
+    /* If no paint is gone, something is wrong with the paint. */
+    return most > UNPAINTED ? 0 : 1;
 }
