@@ -57,4 +57,16 @@ extern "C" {
         results: *mut u8,
         results_length: usize,
     ) -> Answer;
+
+    /// Grades a mold sheet into a result buffer.
+    ///
+    /// # Safety
+    ///
+    /// As for [`hatmuyon_grade`].
+    pub fn hatmuyon_grade_mold(
+        sheet: *const u8,
+        sheet_length: usize,
+        results: *mut u8,
+        results_length: usize,
+    ) -> Answer;
 }
