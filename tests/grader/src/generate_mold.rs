@@ -112,9 +112,10 @@ fn damage(dice: &mut Dice, draft: &Sheet, sheet: &mut Vec<u8>, number: u32) -> u
         17 => sheet[offset + 4] = dice.pick(&[26, 27, 32, 128, 255]),
         _ => {
             // 12 goes before 17.
-            let fields = dice.pick(&[0, 3, 25, 26, 255]);
+            let (end, fields) = (sheet.len(), dice.pick(&[0, 3, 25, 26, 255]));
             sheet.extend(Unit { code: 9, fields }.bytes());
-            return sheet.len() - mold::UNIT_SIZE;
+            sheet.extend([0x4D, 0x55, 0, 9, 26].repeat(dice.pick(&[0, 0, 0, 1, 60])));
+            return end;
         }
     }
     offset
