@@ -234,7 +234,8 @@ fn main() {
         std::process::exit(1);
     }
     println!(
-        "differential: {cases} sheets, {pairs} pairs and {molds} mold sheets agree, seed {seed}, {:.1} s",
+        "differential: {cases} sheets, {pairs} pairs and {molds} mold sheets agree, seed {seed}, \
+         {:.1} s",
         start.elapsed().as_secs_f64()
     );
 }
