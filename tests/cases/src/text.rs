@@ -119,7 +119,7 @@ fn letter(word: &str) -> Grade {
 }
 
 /// "2", "0.5" or "12.0" in tenths.
-fn tenths(word: &str) -> i64 {
+pub fn tenths(word: &str) -> i64 {
     let (whole, tenth) = word.split_once('.').unwrap_or((word, "0"));
     assert_eq!(tenth.len(), 1, "{word}");
     10 * whole.parse::<i64>().expect("a number") + tenth.parse::<i64>().expect("a digit")

@@ -1,10 +1,13 @@
 //! The proved library, called over its boundary, against the independent grader: number, units,
 //! offset and every byte of the buffer with guard bytes before and behind it, on seeded random
 //! sheets, which must be kept; and both halves of demand 3, with what A.1 of paper 02 adds of
-//! overshoots, on the bytes that the library left.
+//! overshoots, on the bytes that the library left. For every fourth case also a mold sheet (A.2 of
+//! paper 02), with the first half of demand 3.
 //!
 //! `differential [CASES [SEED]]`. A sheet on which the two differ is written to a file and named. A
 //! run of 10,000 cases or more also fails if one of the things that it counts never came up.
+
+mod mold;
 
 use grader::generate::{self, seed_of, Counts, Dice};
 use grader::rules::{Graded, Row, What, RECOVERED};
@@ -20,33 +23,75 @@ const OVERSHOOTS: usize = 16;
 /// From so many cases on, everything that is counted must come up.
 const WHOLE: u64 = 10_000;
 
+/// Kinds of sheets, each graded by a function of its own.
+#[derive(Clone, Copy)]
+enum Kind {
+    Tally,
+    Mold,
+}
+
 /// Grades by the library into a buffer of `room` bytes inside a larger one; the guard bytes around it
 /// and the sheet must stay as they were.
-fn library(seed: u64, sheet: &[u8], room: usize, fill: u8) -> (Answer, Vec<u8>) {
+fn library(kind: Kind, seed: u64, sheet: &[u8], room: usize, fill: u8) -> (Answer, Vec<u8>) {
     let lent = sheet.to_vec();
     let mut memory = vec![fill; GUARD + room + GUARD];
     let results = &mut memory[GUARD..GUARD + room];
-    // Safety: both pointers are valid for their lengths, and the two buffers are apart.
-    let ffi::Answer { number, units, offset } = unsafe {
-        ffi::hatmuyon_grade(lent.as_ptr(), lent.len(), results.as_mut_ptr(), results.len())
+    let grade = match kind {
+        Kind::Tally => ffi::hatmuyon_grade,
+        Kind::Mold => ffi::hatmuyon_grade_mold,
     };
+    // Safety: both pointers are valid for their lengths, and the two buffers are apart.
+    let ffi::Answer { number, units, offset } =
+        unsafe { grade(lent.as_ptr(), lent.len(), results.as_mut_ptr(), results.len()) };
     let (before, rest) = memory.split_at(GUARD);
     let (results, behind) = rest.split_at(room);
     if before.iter().chain(behind).any(|&byte| byte != fill) {
-        report("a guard byte", seed, sheet, &[before, behind], &fill);
+        report(kind, "a guard byte", seed, sheet, &[before, behind], &fill);
     }
     if lent != sheet {
-        report("the sheet after grading", seed, sheet, &"changed", &"kept");
+        report(kind, "the sheet after grading", seed, sheet, &"changed", &"kept");
     }
     (Answer { number, units, offset }, results.to_vec())
 }
 
 /// Says what differs, writes the sheet to a file, and ends the run.
-fn report(what: &str, seed: u64, sheet: &[u8], ours: &dyn Debug, theirs: &dyn Debug) -> ! {
-    let what = format!("differential: {what} differs at seed {seed}");
+fn report(
+    kind: Kind,
+    what: &str,
+    seed: u64,
+    sheet: &[u8],
+    ours: &dyn Debug,
+    theirs: &dyn Debug,
+) -> ! {
+    let of = if let Kind::Mold = kind { " of a mold sheet" } else { "" };
+    let what = format!("differential: {what}{of} differs at seed {seed}");
     let what = format!("{what}\n  library: {ours:?}\n  grader:  {theirs:?}");
     let file = format!("hatmuyon-differs-{seed}.sheet");
-    failure::end(&what, &file, sheet, "target/bin/print_tally")
+    match kind {
+        Kind::Tally => failure::end(&what, &file, sheet, "target/bin/print_tally"),
+        Kind::Mold => failure::end_mold(&what, &file, sheet),
+    }
+}
+
+/// Grades by the library, compares its answer and buffer with the grader's, and hands out the buffer.
+/// Every byte of `expected` that the grader did not write is `fill`.
+fn compare_with(
+    kind: Kind,
+    seed: u64,
+    sheet: &[u8],
+    fill: u8,
+    answer: Answer,
+    expected: &[u8],
+) -> Vec<u8> {
+    let (returned, results) = library(kind, seed, sheet, expected.len(), fill);
+    if returned != answer {
+        report(kind, "the answer", seed, sheet, &returned, &answer);
+    }
+    if results != expected {
+        let at = results.iter().zip(expected).position(|(a, b)| a != b).unwrap_or(0);
+        report(kind, &format!("byte {at} of the buffer"), seed, sheet, &results[at], &expected[at]);
+    }
+    results
 }
 
 /// Counts what [`Counts::note`] does not see: how the buffer fits, and who shares a code or a recovery.
@@ -99,14 +144,7 @@ fn compare(seed: u64, sheet: &[u8], room: usize, counts: &mut Counts) -> Option<
     let fill = (seed % 251) as u8;
     let mut expected = vec![fill; room];
     let (answer, mut graded) = grader::grade_traced(sheet, &mut expected, false);
-    let (returned, results) = library(seed, sheet, room, fill);
-    if returned != answer {
-        report("the answer", seed, sheet, &returned, &answer);
-    }
-    if results != expected {
-        let at = results.iter().zip(&expected).position(|(a, b)| a != b).unwrap_or(0);
-        report(&format!("byte {at} of the buffer"), seed, sheet, &results[at], &expected[at]);
-    }
+    let results = compare_with(Kind::Tally, seed, sheet, fill, answer, &expected);
     note(counts, sheet, room, answer, graded.as_ref());
     let rows = graded.iter_mut().flat_map(|graded| &mut graded.rows);
     for (row, record) in rows.zip(results.chunks_exact(RESULT_SIZE)) {
@@ -129,10 +167,12 @@ fn compare(seed: u64, sheet: &[u8], room: usize, counts: &mut Counts) -> Option<
 /// from these CuSums and from sums of the same form.
 fn largest_of(seed: u64, sheet: &[u8], graded: &Graded) {
     if std::panic::catch_unwind(|| check::cusums_twice(graded)).is_err() {
-        report("the 'largest of' form", seed, sheet, &"recorded", &"computed");
+        let what = "the 'largest of' form";
+        report(Kind::Tally, what, seed, sheet, &"recorded", &"computed");
     }
     if std::panic::catch_unwind(|| check::overshoots_twice(graded)).is_err() {
-        report("an overshoot by sums", seed, sheet, &"recorded", &"computed");
+        let what = "an overshoot by sums";
+        report(Kind::Tally, what, seed, sheet, &"recorded", &"computed");
     }
 }
 
@@ -144,7 +184,8 @@ fn monotone(seed: u64, first: &[u8], second: &[u8], counts: &mut Counts) -> bool
     });
     counts.note_pair(&sides[0], &sides[1]);
     check::monotone(&sides[0], &sides[1]).unwrap_or_else(|what| {
-        report(&format!("the monotone half: {what}"), seed, second, &"first", &"second")
+        let what = format!("the monotone half: {what}");
+        report(Kind::Tally, &what, seed, second, &"first", &"second")
     })
 }
 
@@ -155,7 +196,7 @@ fn main() {
     assert_eq!(RESULT_SIZE, grader::RESULT_SIZE, "bytes of a result record, library and grader");
     let start = Instant::now();
     let mut counts = Counts::default();
-    let (mut checked, mut pairs, mut graded_pairs) = (0, 0, 0);
+    let (mut checked, mut pairs, mut graded_pairs, mut molds, mut molds_checked) = (0, 0, 0, 0, 0);
     for case in 0..cases {
         let seed = seed_of(seed, case);
         let long = case % 500 == 0;
@@ -176,19 +217,25 @@ fn main() {
             graded_pairs += usize::from(monotone(seed, &first, &second, &mut counts));
             pairs += 1;
         }
+        if case % 4 == 0 {
+            molds_checked += usize::from(mold::compare(seed, &mut counts));
+            molds += 1;
+        }
     }
     print!("{counts}");
     println!(
         "{checked:>9}  sheets whose recorded CuSums are the 'largest of' form, overshoots by sums"
     );
     println!("{pairs:>9}  pairs alike but for fewer counts, {graded_pairs} with grades compared");
+    println!("{molds_checked:>9}  mold sheets whose recorded CuSums are the 'largest of' form");
     // A short run need not have everything.
     if let Some(name) = counts.missing().find(|_| cases >= WHOLE) {
         println!("differential: no case has: {name}");
         std::process::exit(1);
     }
     println!(
-        "differential: {cases} sheets and {pairs} pairs agree, seed {seed}, {:.1} s",
+        "differential: {cases} sheets, {pairs} pairs and {molds} mold sheets agree, seed {seed}, \
+         {:.1} s",
         start.elapsed().as_secs_f64()
     );
 }

@@ -1,20 +1,26 @@
-//! An independent grader of tally sheets, written from paper 01 (`01-scope.md`) and A.1 of paper 02
-//! (`02-change-requests.md`) alone. It is plain on purpose: the whole sheet is read, then graded,
-//! then written. The papers' sentences stand in quotation marks at the code that follows them; they
-//! are those of paper 01 where no paper is named.
+//! An independent grader of tally sheets and mold sheets, written from paper 01 (`01-scope.md`) and
+//! A.1 and A.2 of paper 02 (`02-change-requests.md`) alone. It is plain on purpose: the whole sheet
+//! is read, then graded, then written. The papers' sentences stand in quotation marks at the code
+//! that follows them; they are those of paper 01 where no paper is named. Mold sheets have a module
+//! of their own, [`mold`]; all else is about tally sheets.
 
 pub mod check;
 pub mod failure;
 pub mod generate;
+pub mod generate_mold;
+pub mod mold;
 pub mod peach;
 pub mod rules;
 pub mod sheet;
 #[cfg(test)]
 mod tests;
+#[cfg(test)]
+mod tests_mold;
 
 pub use rules::RESULT_SIZE;
 
-/// Number 0 for acceptance, else 1 to 14 as in "Where a sheet is turned away".
+/// Number 0 for acceptance, else 1 to 14 as in "Where a sheet is turned away"; of a mold sheet also 16
+/// and 17.
 #[derive(Clone, Copy, Debug, PartialEq, Eq)]
 pub struct Answer {
     pub number: u32,

@@ -263,17 +263,17 @@ fn grade_unit(table: &Table, unit: Unit, designated: Grade, stage: Stage, old: [
 
 /// What a class comes to at a unit.
 #[derive(Clone, Copy)]
-struct Step {
-    cusum: i64,
-    fails: bool,
-    overshoot: i64,
+pub struct Step {
+    pub cusum: i64,
+    pub fails: bool,
+    pub overshoot: i64,
 }
 
 /// "Raw value = old CuSum + ten times the count - T. If it is above L, the class fails and the CuSum
 /// becomes L. If it is below zero, the CuSum becomes 0. Otherwise it is the CuSum." "The step that
 /// gives a new CuSum shall also give the overshoot, raw value less L, or zero where the class met"
 /// (paper 02, A.1).
-fn step(old: i64, defects: i64, numbers: Numbers) -> Step {
+pub fn step(old: i64, defects: i64, numbers: Numbers) -> Step {
     let raw = old + defects - numbers.t;
     if raw > numbers.l {
         Step { cusum: numbers.l, fails: true, overshoot: raw - numbers.l }

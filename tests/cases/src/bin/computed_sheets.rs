@@ -4,9 +4,13 @@
 //! holds the grader to what the sheet is to show: letters and overshoots for an accepted one, else the
 //! number.
 
+#[path = "../antt.rs"]
+mod antt;
+
+use antt::{elements, graded, part_lines, raw, results, shows, Expected, Part, ABBREVIATIONS};
 use grader::peach::peach;
 use grader::sheet::{Numbers, Record, Sheet, Unit, MOST_UNITS};
-use grader::RESULT_SIZE;
+use grader::{Answer, RESULT_SIZE};
 
 /// Grades and classes by their places.
 const GRADES: [&str; 4] = ["A", "B", "C", "S"];
@@ -22,60 +26,51 @@ const B: u8 = 1;
 const C: u8 = 2;
 const SUBSTANDARD: u8 = 3;
 
-/// Some bytes behind the plan, a record or what is left of one, and what to say of them.
-struct Part {
-    bytes: Vec<u8>,
-    comment: String,
-}
-
 /// A unit, counted from 1, a class, and how far over it is, in tenths.
 type Overshoot = (usize, usize, u32);
 
-/// What is known of the answer by hand.
-enum Expected {
-    /// Accepted. For each unit portion grade, code grade, standing and plan grade, as printed; and the
-    /// overshoots that are not zero, by unit and class.
-    Accepted(&'static str, &'static [Overshoot]),
-    /// Refused, whatever the buffer.
-    Number(u32),
-    /// Refused in a buffer without room for the result records.
-    WithoutRoom(u32),
-}
+struct Tally;
+type Case = antt::Case<Tally>;
+type Group = antt::Group<Tally>;
 
-struct Case {
-    name: &'static str,
-    /// The comment at the sheet.
-    shows: &'static str,
-    plan: Vec<u8>,
-    parts: Vec<Part>,
-    /// The first part stands there as often as there may be units, instead of once.
-    full: bool,
-    expected: Expected,
-}
+impl antt::Kind for Tally {
+    /// For each unit portion grade, code grade, standing and plan grade, as printed; and the overshoots
+    /// that are not zero, by unit and class.
+    type ByHand = (&'static str, &'static [Overshoot]);
+    const RESULT_SIZE: usize = RESULT_SIZE;
 
-impl Case {
-    fn bytes(&self) -> Vec<u8> {
-        let mut bytes = self.plan.clone();
-        for (place, part) in self.parts.iter().enumerate() {
-            let times = if self.full && place == 0 { MOST_UNITS } else { 1 };
-            bytes.extend(part.bytes.repeat(times));
+    fn grade(sheet: &[u8], results: &mut [u8]) -> Answer {
+        grader::grade_traced(sheet, results, true).0
+    }
+
+    fn print(sheet: &[u8]) -> String {
+        grader::print(sheet)
+    }
+
+    fn hold(name: &str, &(letters, overshoots): &Self::ByHand, results: &[u8], printed: &str) {
+        assert_eq!(overshoots_in(results), overshoots, "{name}: overshoots");
+        let found = printed.lines().map(|line| line.split(' ').skip(2).take(4).collect());
+        assert_eq!(found.collect::<Vec<String>>().join(" "), letters, "{name}");
+    }
+
+    /// Says what differs in the plan from the peach plan.
+    fn comment(plan: &[u8]) -> String {
+        plan_comment(plan)
+    }
+
+    fn list(case: &Case) -> String {
+        let plan = plan_text(&case.opening);
+        if case.parts.is_empty() {
+            return format!(" {plan}");
         }
-        bytes
-    }
-
-    /// "a break in a run" as `breakInRun`, and as `break-in-run`.
-    fn words(&self) -> impl Iterator<Item = &str> {
-        self.name.split(' ').filter(|word| !["a", "the"].contains(word))
-    }
-
-    fn definition(&self) -> String {
-        let capital = |word: &str| word[..1].to_uppercase() + &word[1..];
-        let name = self.words().map(capital).collect::<String>();
-        name[..1].to_lowercase() + &name[1..]
-    }
-
-    fn field(&self) -> String {
-        self.words().map(str::to_lowercase).collect::<Vec<_>>().join("-")
+        if case.full {
+            let part = |Part { bytes, comment }: &Part| {
+                format!("\n    ({} ∷ [])  -- {comment}", elements(bytes, ""))
+            };
+            let parts: String = case.parts.iter().map(part).collect();
+            return format!("\n    {plan}\n    ++ repeated {MOST_UNITS}{parts}");
+        }
+        format!("\n    {plan}\n    ++ ({})", part_lines(&case.parts))
     }
 }
 
@@ -165,13 +160,7 @@ fn cut_by_one(record: &Record) -> Part {
 
 /// The first bytes of a record.
 fn cut(record: &Record, length: usize) -> Part {
-    let Part { mut bytes, comment } = part(record);
-    bytes.truncate(length);
-    Part { bytes, comment: format!("{length} bytes of {comment}") }
-}
-
-fn raw(bytes: &[u8], comment: &str) -> Part {
-    Part { bytes: bytes.to_vec(), comment: comment.to_string() }
+    part(record).cut(length)
 }
 
 /// A unit with another last byte, recoverable, and the end of what is said of it.
@@ -192,8 +181,8 @@ fn accepted(
     overshoots: &'static [Overshoot],
 ) -> Case {
     let parts = records.iter().map(part).collect();
-    let expected = Expected::Accepted(letters, overshoots);
-    Case { name, shows, plan, parts, full: false, expected }
+    let expected = Expected::Accepted((letters, overshoots));
+    Case { name, shows, opening: plan, parts, full: false, expected }
 }
 
 fn refused(
@@ -203,7 +192,8 @@ fn refused(
     plan: Vec<u8>,
     parts: Vec<Part>,
 ) -> Case {
-    Case { name, shows, plan, parts, full: false, expected: Expected::Number(number) }
+    let expected = Expected::Number(number, None);
+    Case { name, shows, opening: plan, parts, full: false, expected }
 }
 
 /// A sheet of as many units as there may be, and one part more.
@@ -213,14 +203,6 @@ fn refused_full(number: u32, name: &'static str, shows: &'static str, last: Part
 }
 
 // ---- the sheets
-
-struct Group {
-    /// The name of its record type, and of the field of the whole.
-    name: &'static str,
-    field: &'static str,
-    title: &'static str,
-    cases: Vec<Case>,
-}
 
 fn groups() -> Vec<Group> {
     vec![
@@ -956,10 +938,10 @@ fn refusals() -> Vec<Case> {
         Case {
             name: "a buffer without room",
             shows: "13: at the sheet's length, by the units and not by the records.",
-            plan: plan(),
+            opening: plan(),
             parts: vec![first(), part(&BREAK), part(&fails(2))],
             full: false,
-            expected: Expected::WithoutRoom(13),
+            expected: Expected::WithoutRoom(13, None),
         },
     ]
 }
@@ -1043,24 +1025,10 @@ use Rattle.tally.specs.Outcome.{outcome, refusal}
 use Rattle.lines.specs.Ascii.{ascii}
 use Rattle.lines.specs.Lines.{linesOf, printed}
 use Rattle.computed.specs.WorkedCases.{peachPlan}
+";
 
--- a sheet is accepted with so many units, at its length, and these result records are in every buffer that has room for them; bytes
--- behind the last one keep theirs
-abbrev pub Graded : List ℕ → ℕ → ℕ → List ℕ → Type 0
-Graded sheet units offset results =
-    (buffer : List ℕ) → resultSize * units ≤ length buffer
-    → outcome sheet buffer
-    ≡ record { answer = record { number = 0; units = units; offset = offset }; buffer = results ++ drop (resultSize * units) buffer }
-
--- it is refused with this number and offset, whatever the buffer
-abbrev pub RefusedWith : ℕ → List ℕ → ℕ → Type 0
-RefusedWith number sheet offset = (buffer : List ℕ) → outcome sheet buffer ≡ refusal number offset buffer
-
--- and with this one in every buffer without room for so many units
-abbrev pub WithoutRoom : ℕ → List ℕ → ℕ → ℕ → Type 0
-WithoutRoom number sheet units offset =
-    (buffer : List ℕ) → length buffer < resultSize * units → outcome sheet buffer ≡ refusal number offset buffer
-
+/// Behind the abbreviations.
+const REPEATED: &str = "
 -- a record so many times, and what stands behind them
 unfoldable pub repeated : ℕ → List ℕ → List ℕ → List ℕ
 repeated zero bytes behind = behind
@@ -1075,12 +1043,6 @@ const FOOT: &str = "
 pub record FurtherSheets : Type 0 where
 ";
 
-/// What the grader answers, with the result records and the line printed for each.
-struct Graded {
-    answer: grader::Answer,
-    records: Vec<(Vec<u8>, String)>,
-}
-
 /// The overshoots in result bytes that are not zero, by unit and class: "after the CuSums come four
 /// overshoots in tenths, four bytes each, high byte first" (paper 02, A.1).
 fn overshoots_in(results: &[u8]) -> Vec<Overshoot> {
@@ -1091,69 +1053,6 @@ fn overshoots_in(results: &[u8]) -> Vec<Overshoot> {
     };
     let all = results.chunks(RESULT_SIZE).enumerate().flat_map(of_record);
     all.filter(|(_, _, tenths)| *tenths > 0).collect()
-}
-
-/// Grades a sheet, and sees that the grader does as is known by hand and keeps what it has to keep.
-fn graded(case: &Case) -> Graded {
-    let (name, sheet) = (case.name, case.bytes());
-    let mut buffer = vec![0xEE; 4_096];
-    let (answer, _) = grader::grade_traced(&sheet, &mut buffer, true);
-    let (results, rest) = buffer.split_at(RESULT_SIZE * answer.units);
-    assert!(rest.iter().all(|&byte| byte == 0xEE), "{name}: bytes behind the records");
-    match case.expected {
-        Expected::Accepted(letters, overshoots) => {
-            assert_eq!(answer.number, 0, "{name}");
-            assert_eq!(overshoots_in(results), overshoots, "{name}: overshoots");
-            let printed = grader::print(&sheet);
-            let found = printed.lines().map(|line| line.split(' ').skip(2).take(4).collect());
-            assert_eq!(found.collect::<Vec<String>>().join(" "), letters, "{name}");
-            let lines = printed.lines().map(str::to_string);
-            let records = results.chunks(RESULT_SIZE).map(<[u8]>::to_vec).zip(lines).collect();
-            Graded { answer, records }
-        }
-        Expected::Number(number) => {
-            assert_eq!(answer.number, number, "{name}");
-            assert_eq!(grader::grade(&sheet, &mut []), answer, "{name}: without a buffer");
-            Graded { answer, records: Vec::new() }
-        }
-        Expected::WithoutRoom(number) => {
-            assert_eq!(answer.number, 0, "{name}");
-            let mut short = vec![0xEE; RESULT_SIZE * answer.units - 1];
-            let refused = grader::grade(&sheet, &mut short);
-            assert_eq!(refused.number, number, "{name}");
-            assert_eq!(grader::grade(&sheet, &mut []), refused, "{name}: without a buffer");
-            assert!(short.iter().all(|&byte| byte == 0xEE), "{name}: the buffer");
-            // The units, for which there is no room.
-            Graded {
-                answer: grader::Answer { units: answer.units, ..refused },
-                records: Vec::new(),
-            }
-        }
-    }
-}
-
-/// Bytes as elements of a list, the mark in hexadecimal; the overshoots of a result in a line of
-/// their own.
-fn elements(bytes: &[u8], comment: &str) -> String {
-    let element = |(at, byte): (usize, &u8)| match at {
-        0 | 1 => format!("0x{byte:02X}"),
-        _ => byte.to_string(),
-    };
-    let elements: Vec<_> = bytes.iter().enumerate().map(element).collect();
-    let (first, overshoots) = elements.split_at(elements.len().min(OVERSHOOTS));
-    let mut text = format!("{}{comment}", first.join(" ∷ "));
-    if !overshoots.is_empty() {
-        text += &format!("\n    ∷ {}", overshoots.join(" ∷ "));
-    }
-    text
-}
-
-/// A list of records, each with its comment, with no bracket before or behind it.
-fn lines<'a>(records: impl Iterator<Item = (&'a [u8], &'a str)>) -> String {
-    let line = |(bytes, comment): (&[u8], &str)| {
-        format!("{}\n    ∷ ", elements(bytes, &format!("  -- {comment}")))
-    };
-    records.map(line).collect::<String>() + "[]"
 }
 
 /// The peach plan with the bytes that differ from it.
@@ -1205,41 +1104,6 @@ fn plan_comment(bytes: &[u8]) -> String {
     format!("-- The peach plan, but {}.\n", said.join(", "))
 }
 
-/// The comment at a sheet.
-fn shows(case: &Case) -> String {
-    case.shows.lines().map(|line| format!("-- {line}\n")).collect()
-}
-
-/// A sheet's bytes and its result bytes.
-fn definitions(case: &Case, graded: &Graded) -> String {
-    let name = case.definition();
-    let (shows, comment) = (shows(case), plan_comment(&case.plan));
-    let mut text = format!("\n{shows}{comment}unfoldable pub {name} : List ℕ\n{name} =");
-    if case.parts.is_empty() {
-        text += &format!(" {}\n", plan_text(&case.plan));
-    } else if case.full {
-        text += &format!("\n    {}\n    ++ repeated {MOST_UNITS}\n", plan_text(&case.plan));
-        for Part { bytes, comment } in &case.parts {
-            text += &format!("    ({} ∷ [])  -- {comment}\n", elements(bytes, ""));
-        }
-    } else {
-        let parts = case.parts.iter().map(|part| (&part.bytes[..], part.comment.as_str()));
-        text += &format!("\n    {}\n    ++ ({})\n", plan_text(&case.plan), lines(parts));
-    }
-    if let Expected::Accepted(..) = case.expected {
-        text += &format!("\n{}", results(case, graded));
-    }
-    text
-}
-
-/// A sheet's result bytes.
-fn results(case: &Case, graded: &Graded) -> String {
-    let name = case.definition();
-    let records = graded.records.iter().map(|(bytes, line)| (&bytes[..], line.as_str()));
-    let gap = if graded.records.is_empty() { " " } else { "\n    " };
-    format!("unfoldable pub {name}Results : List ℕ\n{name}Results ={gap}{}\n", lines(records))
-}
-
 /// The lines that are printed for an accepted sheet.
 fn printed_lines(case: &Case) -> String {
     let name = case.definition();
@@ -1275,35 +1139,9 @@ fn printed(groups: &[Group]) -> String {
     text + &record
 }
 
-/// The field that says what a sheet comes to.
-fn statement(case: &Case, graded: &Graded) -> String {
-    let (field, name) = (case.field(), case.definition());
-    let grader::Answer { number, units, offset } = graded.answer;
-    match case.expected {
-        Expected::Accepted(..) => {
-            format!("  pub {field} : Graded {name} {units} {offset} {name}Results\n")
-        }
-        Expected::Number(_) => format!("  pub {field} : RefusedWith {number} {name} {offset}\n"),
-        Expected::WithoutRoom(_) => {
-            format!("  pub {field} : WithoutRoom {number} {name} {units} {offset}\n")
-        }
-    }
-}
-
 fn file(groups: &[Group]) -> String {
-    let (mut text, mut foot) = (HEAD.to_string(), FOOT.to_string());
-    for Group { name, field, title, cases } in groups {
-        text += &format!("\n-- ---- {title}\n");
-        let mut record = format!("\npub record {name} : Type 0 where\n");
-        for case in cases {
-            let graded = graded(case);
-            text += &definitions(case, &graded);
-            record += &statement(case, &graded);
-        }
-        text += &record;
-        foot += &format!("  pub {field} : {name}\n");
-    }
-    text + &printed(groups) + &foot
+    let (text, fields) = antt::sheets(groups);
+    [HEAD, ABBREVIATIONS, REPEATED, &text, &printed(groups), FOOT, &fields].concat()
 }
 
 fn main() {
