@@ -1,5 +1,4 @@
 pub mod Listed
-pub mod Tells
 pub mod Rows
 pub mod FirstRow
 pub mod Grounds

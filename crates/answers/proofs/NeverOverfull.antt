@@ -22,7 +22,8 @@ use Rattle.outcome.specs.Outcome.{refusal}
 use Rattle.tally.specs.Outcome.{overfullBefore, acceptance, outcomeBy, outcome}
 use Rattle.tally.proofs.Overfull.{none-overfull}
 use Rattle.answers.specs.Demand1.{Listed}
-use Rattle.answers.specs.Grounds.{CusumAbove, row14, Ground, of-buffer, RefusedByGround, NeverOverfull}
+use Rattle.grounds.specs.Grounds.{Ground, of-buffer, RefusedByGround}
+use Rattle.answers.specs.Grounds.{CusumAbove, row14, sheetGrounds, WholeSheet, NeverOverfull}
 use Rattle.answers.proofs.Listed.{demand1}
 use Rattle.answers.proofs.Grounds.{demand2-grounds}
 
@@ -60,10 +61,10 @@ module _ (bytes buffer : List ℕ) where
       go true e listed = absurd (never-answered (eqb-true (answer .number) 14 e))
       go false e listed = omega (arith, eqb-false (answer .number) 14 e)
 
-  never-met : ((number at : ℕ) → number ≤ 13 → Ground bytes buffer number at → ⊥) → CusumAbove bytes → ⊥
+  never-met : ((number at : ℕ) → number ≤ 13 → Ground (sheetGrounds bytes buffer) number at → ⊥) → CusumAbove bytes → ⊥
   never-met none above = go (eqb (answer .number) 0) refl
     where
-      judged : RefusedByGround bytes buffer answer
+      judged : RefusedByGround (sheetGrounds bytes buffer) (WholeSheet bytes) answer
       judged = demand2-grounds bytes buffer answer (outcome bytes buffer .buffer) refl
 
       go : (test : Bool) → eqb (answer .number) 0 ≡ test → ⊥

@@ -22,8 +22,8 @@ use Rattle.layout.specs.declared.Mark.{Mark}
 use Rattle.layout.specs.declared.Mark.the-variants.{UnitMark, RedesignationMark, BreakMark, NoMark}
 use Rattle.sheet.specs.Refusals.{noPlanRecord, anyNumbers, tooLarge, startAboveLimit, smaller, smallerInClass, countTooLarge, designatedBefore}
 use Rattle.answers.specs.Grounds as table
-use Rattle.answers.specs.Tells.{Tells}
-use Rattle.answers.proofs.Tells.{tells-lt, tells-eq, tells-as, tells-not, tells-or, tells-any}
+use Rattle.grounds.specs.Tells.{Tells}
+use Rattle.grounds.proofs.Tells.{tells-lt, tells-eq, tells-as, tells-not, tells-or, tells-any}
 
 -- ---- the plan
 

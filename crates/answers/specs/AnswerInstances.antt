@@ -8,7 +8,8 @@ use lib.ListN.{length, drop}
 use Rattle.sheet.specs.Refusals.{recordRefusal}
 use Rattle.results.specs.Record.{resultSize}
 use Rattle.tally.specs.Outcome.{outcome}
-use Rattle.answers.specs.Grounds.{Ground, row}
+use Rattle.grounds.specs.Grounds.{Ground, rowsAbove}
+use Rattle.answers.specs.Grounds.{rows, sheetGrounds}
 use Rattle.computed.specs.WorkedCases.{peach}
 use Rattle.computed.specs.FurtherSheets.{grounds8And9, ground11ByLastRedesignation}
 
@@ -30,10 +31,10 @@ AcceptedInstance =
 
 pub record GroundInstance : Type 0 where
   -- refused with 8 at record 1: at no place before it is there a ground, and at its mark none of an upper row
-  pub none-earlier : (buffer : List ℕ) (number' at' : ℕ) → (at' < 89) ⊎ ((at' ≡ 89) × (row number' < row 8))
-      → Ground grounds8And9 buffer number' at' → ⊥
+  pub none-earlier : (buffer : List ℕ) (number' at' : ℕ) → (at' < 89) ⊎ ((at' ≡ 89) × (rowsAbove rows number' < rowsAbove rows 8))
+      → Ground (sheetGrounds grounds8And9 buffer) number' at' → ⊥
   -- the peach sheet is accepted, and no ground applies
-  pub none-accepted : (buffer : List ℕ) → resultSize * 7 ≤ length buffer → (number at : ℕ) → Ground peach buffer number at → ⊥
+  pub none-accepted : (buffer : List ℕ) → resultSize * 7 ≤ length buffer → (number at : ℕ) → Ground (sheetGrounds peach buffer) number at → ⊥
 
 -- ---- together
 

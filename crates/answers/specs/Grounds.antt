@@ -1,18 +1,17 @@
 -- Demand 2, the grounds: "no sheet is refused unless a listed ground applies". The table of paper 01, "Where a sheet is turned away",
--- said a second time: each row by what stands in the bytes, and the first row met by its place. Nothing here computes a refusal. The rows
+-- said a second time: each row by what stands in the bytes; which is returned is said in `Grounds` of the crate grounds. The rows
 -- take from the definitions that the code meets how many grades and classes a plan has, sizes and offsets, all of which `Bytes` gives in the
 -- paper's numbers, and for number 14 the rules of grading; the answer and the `outcome` are what the promise of `grade` speaks of.
-use Prim.Native.Nat.{ℕ, suc, _+_, _*_, _≤_, _<_}
+use Prim.Native.Nat.{ℕ, _+_, _*_, _≤_, _<_}
 use mathlib.Core.Path.{_≡_}
-use mathlib.Core.Bool.{cond}
 use mathlib.Core.List.{List, [], _∷_}
 use mathlib.Core.Logic.{_⊎_}
-use lib.Dec.{eqb}
 use lib.ListN.{length}
 use Rattle.encoding.specs.Bytes.{byte, number}
 use Rattle.units.specs.Words.{plannedGrades, classes, tenthsIn}
 use Rattle.rules.specs.Sheet.{gradedAt}
 use Rattle.layout.specs.Layout.{gradeOffset, tableOffset, toleranceOffset, limitOffset, planNumbersSize, planSize, kinds, countOffset, prerequisiteOffset, recoverableOffset, unitSize, redesignationSize, sampleUnitAt, offset, unitsBefore}
+use Rattle.grounds.specs.Grounds.{Grounds, Ground, RefusedByGround}
 use Rattle.results.specs.Record.{resultSize}
 use Rattle.recording.specs.Sheet.{sheetOf}
 use Rattle.outcome.specs.declared.Answer.{Answer}
@@ -181,35 +180,21 @@ pub data BufferRow (bytes buffer : List ℕ) : ℕ → Type 0 where
   row13 : BufferShort bytes buffer → BufferRow bytes buffer 13
   row14 : CusumAbove bytes → BufferRow bytes buffer 14
 
--- a ground applies, by its number and its place: 0 for the plan, a record's mark, the sheet's length for the result buffer
-pub data Ground (bytes buffer : List ℕ) : ℕ → ℕ → Type 0 where
-  of-plan : {number : ℕ} → PlanRow bytes number → Ground bytes buffer number 0
-  of-record : {number : ℕ} (i : ℕ) → offset bytes i < length bytes → RecordRow bytes i number → Ground bytes buffer number (offset bytes i)
-  of-buffer : {number : ℕ} → BufferRow bytes buffer number → Ground bytes buffer number (length bytes)
-
--- ---- the order
-
 -- the numbers from the first row of the table to its last
 abbrev pub rows : List ℕ
 rows = 1 ∷ 2 ∷ 3 ∷ 4 ∷ 5 ∷ 6 ∷ 7 ∷ 12 ∷ 8 ∷ 9 ∷ 10 ∷ 11 ∷ 13 ∷ 14 ∷ []
 
--- how many rows stand above that of a number
-unfoldable pub rowsAbove : List ℕ → ℕ → ℕ
-rowsAbove [] number = 0
-rowsAbove (first ∷ others) number = cond (eqb first number) 0 (suc (rowsAbove others number))
-
-unfoldable pub row : ℕ → ℕ
-row number = rowsAbove rows number
-
--- "records are checked left to right, each wholly before the next": the earlier of two grounds has the smaller offset, or at the same
--- place the upper row. The plan comes before the records, and the result buffer behind them
-abbrev pub Earlier : ℕ → ℕ → ℕ → ℕ → Type 0
-Earlier number' at' number at = (at' < at) ⊎ ((at' ≡ at) × (row number' < row number))
-
--- "the first row met": it applies, and none earlier does
-pub record FirstRowMet (bytes buffer : List ℕ) (number at : ℕ) : Type 0 where
-  pub applies : Ground bytes buffer number at
-  pub none-earlier : (number' at' : ℕ) → Earlier number' at' number at → Ground bytes buffer number' at' → ⊥
+-- the plan opens the sheet
+abbrev pub sheetGrounds : List ℕ → List ℕ → Grounds
+sheetGrounds bytes buffer =
+    record {
+      rows = rows;
+      OpeningRow = PlanRow bytes;
+      RecordRow = RecordRow bytes;
+      BufferRow = BufferRow bytes buffer;
+      offset = offset bytes;
+      end = length bytes;
+    }
 
 -- ---- the statement
 
@@ -219,24 +204,16 @@ pub record WholeSheet (bytes : List ℕ) (units : ℕ) : Type 0 where
   pub filled : FilledBy bytes records
   pub counted : units ≡ unitsBefore bytes records
 
-pub record RefusedByGround (bytes buffer : List ℕ) (answer : Answer) : Type 0 where
-  -- a refusal has a ground: the first row met, with its number and offset
-  pub refused : (answer .number ≡ 0 → ⊥) → FirstRowMet bytes buffer (answer .number) (answer .offset)
-  -- an acceptance has none: a sheet is refused exactly if a ground applies
-  pub accepted : answer .number ≡ 0 → (number at : ℕ) → Ground bytes buffer number at → ⊥
-  pub accepted-whole : answer .number ≡ 0 → WholeSheet bytes (answer .units)
-  -- "the first row met is returned", whichever it is
-  pub returned : (number at : ℕ) → FirstRowMet bytes buffer number at → (answer .number ≡ number) × (answer .offset ≡ at)
-
 -- for every sheet and every buffer, as the promise of `grade` says
 abbrev pub Demand2Grounds : Type 0
 Demand2Grounds =
     (bytes buffer : List ℕ) (answer : Answer) (results : List ℕ)
-    → _≡_ {A = Outcome} (record { answer = answer; buffer = results }) (outcome bytes buffer) → RefusedByGround bytes buffer answer
+    → _≡_ {A = Outcome} (record { answer = answer; buffer = results }) (outcome bytes buffer)
+    → RefusedByGround (sheetGrounds bytes buffer) (WholeSheet bytes) answer
 
 -- number 14 never applies: no CuSum is above its L, and no L of a plan that is not refused above 9,999
 pub record NeverOverfull : Type 0 where
   -- the row is never met where none from 1 to 13 is
-  pub never-met : (bytes buffer : List ℕ) → ((number at : ℕ) → number ≤ 13 → Ground bytes buffer number at → ⊥) → CusumAbove bytes → ⊥
+  pub never-met : (bytes buffer : List ℕ) → ((number at : ℕ) → number ≤ 13 → Ground (sheetGrounds bytes buffer) number at → ⊥) → CusumAbove bytes → ⊥
   -- and the number is never answered
   pub never-answered : (bytes buffer : List ℕ) → outcome bytes buffer .answer .number ≡ 14 → ⊥

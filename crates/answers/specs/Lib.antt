@@ -1,4 +1,3 @@
-pub mod Tells
 pub mod Demand1
 pub mod Grounds
 pub mod Bytes

@@ -49,7 +49,7 @@ use Rattle.tally.proofs.Overfull.{cusum-graded}
 use Rattle.answers.specs.Grounds.{startIn, toleranceIn, limitIn, newGrade, IsBreak, IsRedesignation}
 use Rattle.demands.specs.Course.{Course, tenTimes, prerequisite, ClassFails, SecondFails, Qualifies, AmongThree, Recovered, Restart, RuleTwo, BestLowerGrade, RuleThree, Rules, SameBefore, SameAt}
 use Rattle.demands.specs.Demand2.{recordedStanding, UnitRecorded, WorstOfCode, SameRecords, SameWords, Demand2Records}
-use Rattle.answers.proofs.Tells.{told, not-told}
+use Rattle.grounds.proofs.Tells.{told, not-told}
 use Rattle.answers.proofs.Rows.{designated-just-before, is-redesignation-mark, redesignation-mark-is}
 use Rattle.demands.proofs.CourseWords as words
 use Rattle.demands.proofs.CourseWords.{unitIn, courseOf, break-entry, redesignation-entry}

@@ -12,10 +12,10 @@ use lib.ListN.{length}
 use borrow.Author.Tests.{ltb-true, ltb-false}
 use Rattle.units.specs.Words.{substandard, classes, worse}
 use Rattle.tally.specs.Accepted.{UnitAt}
-use Rattle.answers.specs.Tells.{Tells}
+use Rattle.grounds.specs.Tells.{Tells}
 use Rattle.answers.specs.Grounds.{startIn, toleranceIn, limitIn, IsBreak, IsRedesignation}
 use Rattle.demands.specs.Course.{Course, tenTimes, reached, toleranceAt, limitAt, ClassFails, UnitFails, FailsDesignated, SecondFails, Qualifies, ThirdQualifies, KeepsStepThree, Restart, at-break, step-three-begins, step-three-ends, at-redesignation, BestLowerGrade, Rules, SameBefore, SameAt}
-use Rattle.answers.proofs.Tells.{tells-lt, tells-as, tells-and}
+use Rattle.grounds.proofs.Tells.{tells-lt, tells-as, tells-and}
 use Rattle.answers.proofs.Rows.{one-designated}
 
 -- a test settles what it tells

@@ -17,7 +17,7 @@ use Rattle.results.specs.Record.{markIn, codeIn, planGradeIn, standingIn}
 use Rattle.outcome.specs.declared.Answer.{Answer}
 use Rattle.tally.specs.Outcome.{recordsIn}
 use Rattle.tally.specs.Accepted.{AcceptedAs, sheetIn, UnitAt, recordedCusum, recordedOvershoot, recordedPortionGrade, recordedCodeGrade, numbersInForce}
-use Rattle.answers.specs.Tells.{Tells}
+use Rattle.grounds.specs.Tells.{Tells}
 use Rattle.answers.specs.Grounds.{startIn, toleranceIn, limitIn, IsUnit, IsRedesignation}
 use Rattle.demands.specs.Course.{Course, tenTimes, prerequisite, ClassFails, UnitFails, SecondFails, Recovered, Restart, Rules, SameBefore, SameAt}
 

@@ -11,7 +11,7 @@ use Rattle.units.specs.Conditions.{any, all}
 use Rattle.units.specs.Words.{upFrom}
 use Rattle.units.proofs.Lists.{all-each, each-all, some-in, in-none}
 use Rattle.units.proofs.Tests.{or-first, or-second, and-both}
-use Rattle.answers.specs.Tells.{Tells}
+use Rattle.grounds.specs.Tells.{Tells}
 
 pub tells-lt : (a b : ℕ) → Tells (ltb a b) (a < b)
 tells-lt a b = record { so = ltb-true a b; not-so = λ e less. omega (arith, ltb-false a b e) }
