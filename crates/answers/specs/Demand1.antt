@@ -1,13 +1,14 @@
 -- Demand 1: any file at all is accepted, or refused by one of the listed refusals with the place where it stopped. A refused sheet
 -- changes nothing in the result buffer, an accepted one changes only its result records. No premise is on the bytes or on the
 -- buffer: the caller has nothing to check beforehand.
-use Prim.Native.Nat.{ℕ, _*_, _<_, _≤_}
+use Prim.Native.Nat.{ℕ, _<_, _≤_}
 use mathlib.Core.Path.{_≡_}
 use mathlib.Core.List.{List}
 use mathlib.Core.Logic.{_⊎_}
-use lib.ListN.{length, drop}
+use lib.ListN.{length}
 use Rattle.layout.specs.Layout.{offset, unitsBefore}
 use Rattle.sheet.specs.Refusals.{planRefusal, recordRefusal}
+use Rattle.grounds.specs.Answered.{AnswerAndBuffer}
 use Rattle.results.specs.Record.{resultSize}
 use Rattle.outcome.specs.declared.Answer.{Answer}
 use Rattle.outcome.specs.Outcome.{Outcome}
@@ -30,20 +31,9 @@ Listed bytes answer =
     ⊎ (((6 ≤ answer .number) × (answer .number ≤ 12) × StoppedAt bytes (answer .number) (answer .offset))
     ⊎ ((13 ≤ answer .number) × (answer .number ≤ 14) × (answer .offset ≡ length bytes))))
 
--- of an answer and the result buffer before and after
-pub record AnswerAndBuffer (bytes buffer : List ℕ) (answer : Answer) (results : List ℕ) : Type 0 where
-  pub listed : Listed bytes answer
-  -- refused: no units, and every byte of the buffer is kept
-  pub refused-units : (answer .number ≡ 0 → ⊥) → answer .units ≡ 0
-  pub refused-buffer : (answer .number ≡ 0 → ⊥) → results ≡ buffer
-  -- accepted: the units are those of the sheet, there is room for their result records, and every byte behind them is kept
-  pub accepted-units : answer .number ≡ 0 → answer .units ≡ unitsBefore bytes (recordsIn bytes)
-  pub accepted-room : answer .number ≡ 0 → resultSize * answer .units ≤ length buffer
-  pub accepted-rest : answer .number ≡ 0 → drop (resultSize * answer .units) results ≡ drop (resultSize * answer .units) buffer
-  pub same-length : length results ≡ length buffer
-
 -- for every sheet and every buffer, as the promise of `grade` says
 abbrev pub Demand1 : Type 0
 Demand1 =
     (bytes buffer : List ℕ) (answer : Answer) (results : List ℕ)
-    → _≡_ {A = Outcome} (record { answer = answer; buffer = results }) (outcome bytes buffer) → AnswerAndBuffer bytes buffer answer results
+    → _≡_ {A = Outcome} (record { answer = answer; buffer = results }) (outcome bytes buffer)
+    → AnswerAndBuffer resultSize (Listed bytes) (unitsBefore bytes (recordsIn bytes)) buffer answer results

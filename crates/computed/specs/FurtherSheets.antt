@@ -6,28 +6,20 @@ use mathlib.Core.Path.{_≡_}
 use mathlib.Core.List.{List, [], _∷_, _++_}
 use lib.ListN.{length, take, drop, set}
 use Rattle.results.specs.Record.{resultSize}
-use Rattle.outcome.specs.Outcome.{refusal}
+use Rattle.outcome.specs.Held.{GradedBy, RefusedBy, WithoutRoomBy}
 use Rattle.tally.specs.Outcome.{outcome}
 use Rattle.lines.specs.Ascii.{ascii}
 use Rattle.lines.specs.Lines.{linesOf, printed}
 use Rattle.computed.specs.WorkedCases.{peachPlan}
 
--- a sheet is accepted with so many units, at its length, and these result records are in every buffer that has room for them; bytes
--- behind the last one keep theirs
 abbrev pub Graded : List ℕ → ℕ → ℕ → List ℕ → Type 0
-Graded sheet units offset results =
-    (buffer : List ℕ) → resultSize * units ≤ length buffer
-    → outcome sheet buffer
-    ≡ record { answer = record { number = 0; units = units; offset = offset }; buffer = results ++ drop (resultSize * units) buffer }
+Graded = GradedBy outcome resultSize
 
--- it is refused with this number and offset, whatever the buffer
 abbrev pub RefusedWith : ℕ → List ℕ → ℕ → Type 0
-RefusedWith number sheet offset = (buffer : List ℕ) → outcome sheet buffer ≡ refusal number offset buffer
+RefusedWith = RefusedBy outcome resultSize
 
--- and with this one in every buffer without room for so many units
 abbrev pub WithoutRoom : ℕ → List ℕ → ℕ → ℕ → Type 0
-WithoutRoom number sheet units offset =
-    (buffer : List ℕ) → length buffer < resultSize * units → outcome sheet buffer ≡ refusal number offset buffer
+WithoutRoom = WithoutRoomBy outcome resultSize
 
 -- a record so many times, and what stands behind them
 unfoldable pub repeated : ℕ → List ℕ → List ℕ → List ℕ

@@ -1,5 +1,6 @@
 -- The 'largest of' form of demand 3, for one class: what a CuSum is, told from an anchor and the counts since it, in tenths.
 use Prim.Native.Nat.{ℕ}
+use mathlib.Core.Bool.{Bool, true, false}
 use mathlib.Core.List.{List, _∷_, map}
 use lib.IntN.{ℤ, pos, _+ℤ_, _-ℤ_}
 use Rattle.cusum.specs.Integers.{largestOfZeroAnd, sumℤ, runsToEnd}
@@ -15,3 +16,8 @@ unfoldable pub largestForm : PlanNumbers → ℕ → List ℕ → ℤ
 largestForm numbers anchor tenths =
     let since = map (defectsLessT numbers) tenths in
     largestOfZeroAnd ((pos anchor +ℤ sumℤ since) ∷ map sumℤ (runsToEnd since))
+
+-- the anchor is L at a failure, else S
+unfoldable pub anchorValue : PlanNumbers → Bool → ℕ
+anchorValue numbers true = numbers .limit
+anchorValue numbers false = numbers .start

@@ -10,7 +10,7 @@ use lib.Dec.{leb, ltb, eqb, lit<}
 use lib.IntN.{pos}
 use lib.ListN.{length, replicate, length-replicate, List·getD-eq-default}
 use borrow.Author.Tests.{ltb-true, ltb-false, leb-true, eqb-true, eqb-false, eq-eqb}
-use Rattle.cusum.specs.LargestForm.{largestForm}
+use Rattle.cusum.specs.LargestForm.{largestForm, anchorValue}
 use Rattle.encoding.specs.Bytes.{byte}
 use Rattle.units.specs.Conditions.{all}
 use Rattle.units.specs.Words.{classes, hasPlan, worse, upFrom}
@@ -18,7 +18,7 @@ use Rattle.units.proofs.Lists.{all-each}
 use Rattle.units.proofs.Tests.{and-both}
 use Rattle.rules.specs.Sheet.{inForceAt}
 use Rattle.rules.specs.TwoInARow.{secondInARow}
-use Rattle.rules.specs.Anchor.{countsFrom, Anchor, Latest, anchorValue}
+use Rattle.rules.specs.Anchor.{countsFrom, Anchor, Latest}
 use Rattle.layout.specs.Layout.{unitsIn, mark}
 use Rattle.layout.specs.declared.Mark.{Mark}
 use Rattle.layout.specs.declared.Mark.the-variants.{UnitMark, RedesignationMark, BreakMark, NoMark}

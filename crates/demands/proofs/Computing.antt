@@ -1,11 +1,11 @@
 -- What it takes to compute with the words of demand 3 and the definitions below them: `unfolding computing` opens them all.
 use Prim.Native.Nat.{ℕ}
 use Rattle.cusum.specs.Integers.{largestOfZeroAnd, sumℤ, runsToEnd}
-use Rattle.cusum.specs.LargestForm.{defectsLessT, largestForm}
+use Rattle.cusum.specs.LargestForm.{defectsLessT, largestForm, anchorValue}
 use Rattle.encoding.specs.Bytes.{wideNumber}
 use Rattle.rules.specs.TwoInARow.{failsDesignated, unitFailsAt, unitFailsBefore, secondInARow}
 use Rattle.rules.specs.ThreeInARow.{recordQualifies, unitQualifiesAt, thirdInARow}
-use Rattle.rules.specs.Anchor.{failsAt, countAt, restartBy, restartAt, classFailsAt, countsFrom, anchorValue}
+use Rattle.rules.specs.Anchor.{failsAt, countAt, restartBy, restartAt, classFailsAt, countsFrom}
 use Rattle.tally.specs.Accepted.{sheetIn}
 use Rattle.tally.proofs.Computing as tally
 

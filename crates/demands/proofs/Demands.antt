@@ -1,12 +1,15 @@
 -- The demands, each from its own file; a promise is the theorem of its function.
 use Rattle.tally.proofs.grade.Met as grade
 use Rattle.hatmuyon.proofs.hatmuyon_grade.Met as hatmuyon_grade
+use Rattle.mold.proofs.grade_mold.Met as grade_mold
+use Rattle.hatmuyon.proofs.hatmuyon_grade_mold.Met as hatmuyon_grade_mold
 use Rattle.lines.proofs.print_into.Met as print_into
 use Rattle.demands.specs.Demands.{Demands}
 use Rattle.answers.proofs.Bytes.{paper-layout}
 use Rattle.answers.proofs.Listed.{demand1}
 use Rattle.answers.proofs.Grounds.{demand2-grounds}
 use Rattle.answers.proofs.NeverOverfull.{never-overfull}
+use Rattle.mold_demands.proofs.MoldDemands.{mold-demands}
 use Rattle.demands.proofs.Graded.{demand2-records}
 use Rattle.demands.proofs.LargestOf.{demand3-largest-form}
 use Rattle.demands.proofs.NeverWorse.{demand3-fewer-defects}
@@ -20,6 +23,8 @@ demands =
     record {
       promise-of-grade = grade.met;
       promise-of-hatmuyon-grade = hatmuyon_grade.met;
+      promise-of-grade-mold = grade_mold.met;
+      promise-of-hatmuyon-grade-mold = hatmuyon_grade_mold.met;
       promise-of-print-into = print_into.met;
       paper-layout = paper-layout;
       demand1 = demand1;
@@ -32,4 +37,5 @@ demands =
       further-sheets = further-sheets;
       printed-text = printed-text;
       instances = instances;
+      mold = mold-demands;
     }

@@ -5,11 +5,11 @@ use mathlib.Core.Bool.{Bool, true, false}
 use mathlib.Core.List.{List}
 use lib.ListN.{length}
 use lib.IntN.{pos}
-use Rattle.cusum.specs.LargestForm.{largestForm}
+use Rattle.cusum.specs.LargestForm.{largestForm, anchorValue}
 use Rattle.encoding.specs.Bytes.{byte, number}
 use Rattle.units.specs.Words.{classes, hasPlan}
 use Rattle.rules.specs.Sheet.{inForceAt}
-use Rattle.rules.specs.Anchor.{classFailsAt, countsFrom, Anchor, Latest, anchorValue}
+use Rattle.rules.specs.Anchor.{classFailsAt, countsFrom, Anchor, Latest}
 use Rattle.rules.specs.TwoInARow.{secondInARow}
 use Rattle.layout.specs.Layout.{countsOffset, countOffset, kinds, prerequisiteOffset, offset, mark}
 use Rattle.layout.specs.declared.Mark.the-variants.{RedesignationMark}

@@ -1,14 +1,17 @@
--- The demands on the grading as one theorem, `demands : Demands` in `proofs/Demands.antt`. Its first three fields are what the code promises,
--- for every input: of `tally::grade`, and of `hatmuyon_grade`, through which C and Rust call it, that the answer and the whole result buffer
--- are the `outcome` of the sheet and the buffer; of `lines::print_into` that the text is that of `printing`, with `printed` of the input in
--- front. Demands 1 to 3, P9 and P10, the further sheets and the instances speak of `outcome`; the lines of P10 and the printed text of
+-- The demands on the grading as one theorem, `demands : Demands` in `proofs/Demands.antt`. Its first fields are what the code promises, for
+-- every input: of `tally::grade`, and of `hatmuyon_grade`, through which C and Rust call it, that the answer and the whole result buffer
+-- are the `outcome` of the sheet and the buffer; of `mold::grade_mold` and `hatmuyon_grade_mold` the same with `moldOutcome`; of
+-- `lines::print_into` that the text is that of `printing`, with `printed` of the input in front. Demands 1 to 3, P9 and P10, the further sheets and the instances speak of `outcome`; the lines of P10 and the printed text of
 -- `printed`; the layout of the bytes alone, and P1 to P8 of the rules alone.
 use Rattle.tally.proofs.grade.Statement as grade
 use Rattle.hatmuyon.proofs.hatmuyon_grade.Statement as hatmuyon_grade
+use Rattle.mold.proofs.grade_mold.Statement as grade_mold
+use Rattle.hatmuyon.proofs.hatmuyon_grade_mold.Statement as hatmuyon_grade_mold
 use Rattle.lines.proofs.print_into.Statement as print_into
 use Rattle.answers.specs.Bytes.{PaperLayout}
 use Rattle.answers.specs.Demand1.{Demand1}
 use Rattle.answers.specs.Grounds.{Demand2Grounds, NeverOverfull}
+use Rattle.mold_demands.specs.MoldDemands.{MoldDemands}
 use Rattle.demands.specs.Demand2.{Demand2Records}
 use Rattle.demands.specs.Demand3.{Demand3LargestForm, Demand3FewerDefects}
 use Rattle.computed.specs.Peach.{SmallSheets}
@@ -17,9 +20,11 @@ use Rattle.computed.specs.Printed.{PrintedText}
 use Rattle.demands.specs.Instances.{Instances}
 
 pub record Demands : Type 2 where
-  -- the contracts of `tally::grade`, of `hatmuyon_grade` and of `lines::print_into`, each met by its code
+  -- the contracts, each met by its code
   pub promise-of-grade : {M : Type 1} → grade.statement M
   pub promise-of-hatmuyon-grade : {M : Type 1} → hatmuyon_grade.statement M
+  pub promise-of-grade-mold : {M : Type 1} → grade_mold.statement M
+  pub promise-of-hatmuyon-grade-mold : {M : Type 1} → hatmuyon_grade_mold.statement M
   pub promise-of-print-into : {M : Type 1} → print_into.statement M
   -- sizes, offsets and fields, as all the others name them, in the paper's numbers
   pub paper-layout : PaperLayout
@@ -44,3 +49,5 @@ pub record Demands : Type 2 where
   pub printed-text : PrintedText
   -- each demand on sheets of several units in every class, as its theorem gives it
   pub instances : Instances
+  -- mold sheets: layout, answers and grounds, CuSums, and the first half of demand 3
+  pub mold : MoldDemands

@@ -7,10 +7,10 @@ use mathlib.Core.List.{List, [], _∷_, _++_}
 use mathlib.Core.Logic.{_↔_}
 use lib.ListN.{length, drop}
 use lib.IntN.{pos}
-use Rattle.cusum.specs.LargestForm.{largestForm}
+use Rattle.cusum.specs.LargestForm.{largestForm, anchorValue}
 use Rattle.units.specs.Words.{substandard, classes, worse}
 use Rattle.rules.specs.TwoInARow.{secondInARow}
-use Rattle.rules.specs.Anchor.{classFailsAt, countsFrom, Anchor, Latest, anchorValue}
+use Rattle.rules.specs.Anchor.{classFailsAt, countsFrom, Anchor, Latest}
 use Rattle.results.specs.Record.{resultSize}
 use Rattle.tally.specs.Accepted.{sheetIn, recordedCusum, recordedOvershoot, recordedPortionGrade, recordedCodeGrade, numbersInForce}
 use Rattle.answers.specs.Grounds.{toleranceIn, limitIn}

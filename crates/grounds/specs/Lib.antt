@@ -1,2 +1,3 @@
 pub mod Tells
 pub mod Grounds
+pub mod Answered

@@ -1,3 +1,4 @@
 pub mod Checking
 pub mod Written
 pub mod Cases
+pub mod Computing

@@ -10,13 +10,13 @@ use native.Mathlib.Nat.{add-zero, add-suc, eq-or-lt-of-le, le-of-suc-le-suc}
 use native.Mathlib.Omega.{arith}
 use lib.ListN.{length}
 use lib.IntN.{pos}
-use Rattle.cusum.specs.LargestForm.{largestForm}
+use Rattle.cusum.specs.LargestForm.{largestForm, anchorValue}
 use Rattle.units.specs.declared.SampleUnit.{SampleUnit}
 use Rattle.units.specs.declared.Entry.the-variants.{UnitRecord}
 use Rattle.units.specs.Words.{hasPlan, classes, numbersOf, tenthsOf}
 use Rattle.units.specs.Unit.{classCusum}
 use Rattle.rules.specs.Sheet.{Sheet, before, inForceAt}
-use Rattle.rules.specs.Anchor.{anchorValue, countAt, restartAt, classFailsAt, countsFrom, Anchor, opening, restart, failure, Latest}
+use Rattle.rules.specs.Anchor.{countAt, restartAt, classFailsAt, countsFrom, Anchor, opening, restart, failure, Latest}
 use Rattle.rules.proofs.LargestForm.{Trail, fromStart, failedHere, trailWith, trailBefore, trailAt, largest-form}
 
 module _ (sheet : Sheet) (class : ℕ) where

@@ -10,7 +10,7 @@ use lib.IntN.{pos}
 use Rattle.cusum.specs.declared.Cusum.{Cusum}
 use Rattle.cusum.specs.declared.PlanNumbers.{PlanNumbers}
 use Rattle.cusum.specs.Step.{fails, newCusum}
-use Rattle.cusum.specs.LargestForm.{largestForm}
+use Rattle.cusum.specs.LargestForm.{largestForm, anchorValue}
 use Rattle.cusum.proofs.Laws.{failed-at}
 use Rattle.cusum.proofs.Runs.{after, Meets, after-le-limit, after-snoc, meets-snoc, run-largest}
 use Rattle.units.specs.declared.SampleUnit.{SampleUnit}
@@ -22,7 +22,7 @@ use Rattle.units.proofs.Classes.{at-class}
 use Rattle.rules.specs.declared.State.{State}
 use Rattle.rules.specs.StepThree.{inForceIn, inForce, restarted, graded}
 use Rattle.rules.specs.Sheet.{Sheet, before, inForceAt}
-use Rattle.rules.specs.Anchor.{failsAt, countAt, restartAt, anchorValue}
+use Rattle.rules.specs.Anchor.{failsAt, countAt, restartAt}
 use Rattle.rules.proofs.Restarts.{cusumsBehind, restart-starts, no-restart-keeps}
 
 -- ---- where the anchor lies, as a fold over the records

@@ -4,7 +4,6 @@ use mathlib.Core.Path.{_≡_}
 use mathlib.Core.Bool.{Bool, true, false, not, _&&_, _||_}
 use mathlib.Core.List.{List, [], _∷_, _++_}
 use lib.Dec.{ltb}
-use Rattle.cusum.specs.declared.PlanNumbers.{PlanNumbers}
 use Rattle.units.specs.Words.{Table, tenthsOf, countIn}
 use Rattle.units.specs.Unit.{classFails}
 use Rattle.units.specs.declared.Entry.{Entry}
@@ -61,8 +60,3 @@ pub data Anchor (sheet : Sheet) (class i : ℕ) : ℕ → Bool → Type 0 where
 pub record Latest (sheet : Sheet) (class i from : ℕ) : Type 0 where
   pub no-failure : (j : ℕ) → from ≤ j → j ≤ i → classFailsAt sheet class j ≡ false
   pub no-restart : (j : ℕ) → from ≤ j → j < i → restartAt sheet j ≡ false
-
--- L at a failure, else S
-unfoldable pub anchorValue : PlanNumbers → Bool → ℕ
-anchorValue numbers true = numbers .limit
-anchorValue numbers false = numbers .start

@@ -152,25 +152,20 @@ pub fn graded<K: Kind>(case: &Case<K>) -> Graded {
 
 // ---- the file
 
-/// What is stated of sheets, behind the lines that name `outcome`, `refusal` and `resultSize`.
-pub const ABBREVIATIONS: &str = "
--- a sheet is accepted with so many units, at its length, and these result records are in every buffer that has room for them; bytes
--- behind the last one keep theirs
-abbrev pub Graded : List ℕ → ℕ → ℕ → List ℕ → Type 0
-Graded sheet units offset results =
-    (buffer : List ℕ) → resultSize * units ≤ length buffer
-    → outcome sheet buffer
-    ≡ record { answer = record { number = 0; units = units; offset = offset }; buffer = results ++ drop (resultSize * units) buffer }
-
--- it is refused with this number and offset, whatever the buffer
-abbrev pub RefusedWith : ℕ → List ℕ → ℕ → Type 0
-RefusedWith number sheet offset = (buffer : List ℕ) → outcome sheet buffer ≡ refusal number offset buffer
-
--- and with this one in every buffer without room for so many units
-abbrev pub WithoutRoom : ℕ → List ℕ → ℕ → ℕ → Type 0
-WithoutRoom number sheet units offset =
-    (buffer : List ℕ) → length buffer < resultSize * units → outcome sheet buffer ≡ refusal number offset buffer
-";
+/// What is stated of sheets, by the name of what their grading comes to. The words stand in
+/// `crates/outcome/specs/Held.antt`.
+pub fn abbreviations(outcome: &str) -> String {
+    let mut text = String::new();
+    for (name, word, form) in [
+        ("Graded", "GradedBy", "List ℕ → ℕ → ℕ → List ℕ"),
+        ("RefusedWith", "RefusedBy", "ℕ → List ℕ → ℕ"),
+        ("WithoutRoom", "WithoutRoomBy", "ℕ → List ℕ → ℕ → ℕ"),
+    ] {
+        text += &format!("\nabbrev pub {name} : {form} → Type 0\n");
+        text += &format!("{name} = {word} {outcome} resultSize\n");
+    }
+    text
+}
 
 /// Bytes as elements of a list, the mark in hexadecimal.
 pub fn elements(bytes: &[u8], comment: &str) -> String {

@@ -7,7 +7,7 @@
 #[path = "../antt.rs"]
 mod antt;
 
-use antt::{part_lines, raw, Expected, Part, ABBREVIATIONS};
+use antt::{abbreviations, part_lines, raw, Expected, Part};
 use grader::mold::{self, LEVELS, RESULT_SIZE};
 use grader::rules::step;
 use grader::sheet::Numbers;
@@ -387,12 +387,11 @@ const HEAD: &str = "\
 -- Mold sheets in bytes, as one group: the record at the end. Each is held to the answer and the result bytes that the independent grader
 -- gives for it (tests/grader, written from the papers alone), so that a rule which is wrong on one of them alike in a definition and in
 -- the code that meets it is refused here. This file is printed by tests/cases/src/bin/computed_mold_sheets.rs.
-use Prim.Native.Nat.{ℕ, _*_, _<_, _≤_}
-use mathlib.Core.Path.{_≡_}
-use mathlib.Core.List.{List, [], _∷_, _++_}
-use lib.ListN.{length, drop}
+use Prim.Native.Nat.{ℕ}
+use mathlib.Core.List.{List, [], _∷_}
+use Rattle.outcome.specs.Held.{GradedBy, RefusedBy, WithoutRoomBy}
 use Rattle.mold.specs.Results.{resultSize}
-use Rattle.mold.specs.Outcome.{outcome, refusal}
+use Rattle.mold.specs.Outcome.{moldOutcome}
 ";
 
 /// Behind the abbreviations.
@@ -408,5 +407,5 @@ pub record MoldSheets : Type 0 where
 
 fn main() {
     let (text, fields) = antt::sheets(&groups());
-    print!("{}", [HEAD, ABBREVIATIONS, RECORDS, &text, FOOT, &fields].concat());
+    print!("{}", [HEAD, &abbreviations("moldOutcome"), RECORDS, &text, FOOT, &fields].concat());
 }

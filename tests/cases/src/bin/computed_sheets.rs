@@ -7,7 +7,7 @@
 #[path = "../antt.rs"]
 mod antt;
 
-use antt::{elements, graded, part_lines, raw, results, shows, Expected, Part, ABBREVIATIONS};
+use antt::{abbreviations, elements, graded, part_lines, raw, results, shows, Expected, Part};
 use grader::peach::peach;
 use grader::sheet::{Numbers, Record, Sheet, Unit, MOST_UNITS};
 use grader::{Answer, RESULT_SIZE};
@@ -1021,7 +1021,8 @@ use mathlib.Core.Path.{_≡_}
 use mathlib.Core.List.{List, [], _∷_, _++_}
 use lib.ListN.{length, take, drop, set}
 use Rattle.results.specs.Record.{resultSize}
-use Rattle.tally.specs.Outcome.{outcome, refusal}
+use Rattle.outcome.specs.Held.{GradedBy, RefusedBy, WithoutRoomBy}
+use Rattle.tally.specs.Outcome.{outcome}
 use Rattle.lines.specs.Ascii.{ascii}
 use Rattle.lines.specs.Lines.{linesOf, printed}
 use Rattle.computed.specs.WorkedCases.{peachPlan}
@@ -1141,7 +1142,7 @@ fn printed(groups: &[Group]) -> String {
 
 fn file(groups: &[Group]) -> String {
     let (text, fields) = antt::sheets(groups);
-    [HEAD, ABBREVIATIONS, REPEATED, &text, &printed(groups), FOOT, &fields].concat()
+    [HEAD, &abbreviations("outcome"), REPEATED, &text, &printed(groups), FOOT, &fields].concat()
 }
 
 fn main() {

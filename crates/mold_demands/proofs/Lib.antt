@@ -1,0 +1,9 @@
+pub mod MoldFields
+pub mod MoldAccepted
+pub mod MoldBytes
+pub mod MoldGrounds
+pub mod MoldAnswers
+pub mod MoldRecords
+pub mod MoldLargest
+pub mod MoldSheets
+pub mod MoldDemands

@@ -1,0 +1,7 @@
+pub mod MoldBytes
+pub mod MoldGrounds
+pub mod MoldAnswers
+pub mod MoldRecords
+pub mod MoldLargest
+pub mod MoldSheets
+pub mod MoldDemands
