@@ -9,12 +9,13 @@ use Rattle.sheet.specs.Refusals.{mostUnits}
 use Rattle.results.specs.Record.{resultSize}
 use Rattle.computed.specs.WorkedCases.{peachPlan, peachUnits, peach, peachResults}
 use Rattle.computed.proofs.WorkedCases.{worked-cases}
-use Rattle.lines.specs.Lines.{digits, decimal, oneDecimal, restOfLine, lineWith, lineOf, linesOf, emptyResults}
+use Rattle.text.specs.Text.{digits, decimal, oneDecimal, restOfLine, lineWith, linesBy}
+use Rattle.lines.specs.Lines.{lineOf, linesOf, emptyResults}
 use Rattle.computed.specs.Peach.{peachLines, PeachPrinted, SmallSheets}
 use Rattle.lines.proofs.Printed.{lines-printed}
 
 seven-lines : (rest : List ℕ) → linesOf (peachResults ++ rest) 7 ≡ peachLines
-unfolding peachResults peachLines digits decimal oneDecimal restOfLine lineWith lineOf linesOf
+unfolding peachResults peachLines digits decimal oneDecimal restOfLine lineWith lineOf linesBy
 seven-lines rest = refl
 
 -- the buffer that is printed from has room for every sheet

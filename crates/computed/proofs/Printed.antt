@@ -7,10 +7,12 @@ use mathlib.Core.List.{List, _++_, append-assoc}
 use native.Mathlib.Omega.{arith}
 use lib.Dec.{ltb, lit<}
 use lib.ListN.{length}
-use borrow.Author.Tests.{ltb-true, ltb-false, le-ltb}
-use Rattle.lines.specs.Ascii.{ascii}
-use Rattle.lines.specs.Lines.{digits, decimal, oneDecimal, restOfLine, lineWith, lineOf, linesOf, refusedLine, emptyResults, printed}
-use Rattle.lines.proofs.Decimals as decimals
+use borrow.Author.Tests.{ltb-true, ltb-false}
+use Rattle.text.specs.Ascii.{ascii}
+use Rattle.text.specs.Text.{digits, decimal, oneDecimal, restOfLine, lineWith, refusedLine, linesBy}
+use Rattle.lines.specs.Lines.{lineOf, linesOf, emptyResults, printed}
+use Rattle.text.proofs.Decimals as decimals
+use Rattle.text.proofs.Printed.{printed-within}
 use Rattle.lines.proofs.Printed.{too-much, lines-printed, refusal-printed}
 use Rattle.computed.specs.WorkedCases.{peachPlan}
 use Rattle.computed.specs.FurtherSheets.{PrintedSheets, repeated, recoveryWithoutPlan, recoveryWithoutPlanResults, recoveryWithoutPlanLines, cusumsOfTwoBytes, cusumsOfTwoBytesResults, cusumsOfTwoBytesLines, grounds8And9, ground12, twelveUnitsResults, twelveUnitsLines}
@@ -38,15 +40,15 @@ in-decimal (suc most) value below = go (ltb value 10) refl (in-decimal most (val
 -- ---- sheets
 
 without-plan-lines : (rest : List ℕ) → linesOf (recoveryWithoutPlanResults ++ rest) 7 ≡ recoveryWithoutPlanLines
-unfolding recoveryWithoutPlanResults recoveryWithoutPlanLines digits decimal oneDecimal restOfLine lineWith lineOf linesOf
+unfolding recoveryWithoutPlanResults recoveryWithoutPlanLines digits decimal oneDecimal restOfLine lineWith lineOf linesBy
 without-plan-lines rest = refl
 
 two-bytes-lines : (rest : List ℕ) → linesOf (cusumsOfTwoBytesResults ++ rest) 3 ≡ cusumsOfTwoBytesLines
-unfolding cusumsOfTwoBytesResults cusumsOfTwoBytesLines digits decimal oneDecimal restOfLine lineWith lineOf linesOf
+unfolding cusumsOfTwoBytesResults cusumsOfTwoBytesLines digits decimal oneDecimal restOfLine lineWith lineOf linesBy
 two-bytes-lines rest = refl
 
 twelve-lines : linesOf twelveUnitsResults 12 ≡ twelveUnitsLines
-unfolding twelveUnitsResults twelveUnitsLines digits decimal oneDecimal restOfLine lineWith lineOf linesOf
+unfolding twelveUnitsResults twelveUnitsLines digits decimal oneDecimal restOfLine lineWith lineOf linesBy
 twelve-lines = refl
 
 three-refusals : (refusedLine 8 89 ≡ ascii "refused 8 89\n") × (refusedLine 12 14075 ≡ ascii "refused 12 14075\n")
@@ -83,7 +85,7 @@ unfolding emptyBuffer emptyResults printed
 printed-text =
     record {
       too-much = λ input above. too-much input above ∙ three-refusals .2;
-      any-other = λ input within. rw (le-ltb 65536 (length input) within);
+      any-other = λ input within. printed-within input _ within;
       refused = λ input number offset within some promise.
           refusal-printed input _ _ (sym promise) within (λ none. omega arith) ∙ refused-line number offset;
       accepted = λ input results units offset within promise. lines-printed input _ _ (sym promise) within refl;

@@ -3,7 +3,7 @@ use Prim.Native.Nat.{ℕ}
 use mathlib.Core.Path.{_≡_}
 use mathlib.Core.List.{List, _++_}
 use Rattle.computed.specs.WorkedCases.{WorkedCases, peach, peachResults}
-use Rattle.lines.specs.Ascii.{ascii}
+use Rattle.text.specs.Ascii.{ascii}
 use Rattle.lines.specs.Lines.{linesOf, printed}
 
 -- the seven lines as the paper has them

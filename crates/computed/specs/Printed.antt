@@ -7,8 +7,9 @@ use mathlib.Core.List.{List, [], _∷_, _++_}
 use lib.ListN.{length, replicate}
 use Rattle.outcome.specs.Outcome.{refusal}
 use Rattle.tally.specs.Outcome.{outcome}
-use Rattle.lines.specs.Ascii.{ascii}
-use Rattle.lines.specs.Lines.{decimal, linesOf, textOf, printed}
+use Rattle.text.specs.Ascii.{ascii}
+use Rattle.text.specs.Text.{decimal}
+use Rattle.lines.specs.Lines.{linesOf, textOf, printed}
 use Rattle.computed.specs.FurtherSheets.{PrintedSheets}
 
 -- the result buffer that a sheet is graded into: 32 bytes for each of 1,000 units, filled with zeros

@@ -9,7 +9,7 @@ use native.Mathlib.Omega.{arith}
 use lib.ListN.{length, drop, getD}
 use lib.Seq.{drop-cons}
 use Rattle.units.specs.Words.{classes}
-use Rattle.lines.specs.Lines.{space, restOfLine}
+use Rattle.text.specs.Text.{space, restOfLine}
 
 counted : ℕ → ℕ → List ℕ
 counted first zero = []

@@ -8,10 +8,11 @@ use lib.ListN.{length, length-append}
 use Rattle.encoding.specs.Bytes.{byte}
 use Rattle.units.specs.Words.{classes}
 use Rattle.results.specs.Record.{resultSize, codeOffset, cusumsOffset, cusumWidth, codeIn, cusumIn}
-use Rattle.lines.specs.Ascii.{ascii}
-use Rattle.lines.specs.Lines.{decimal, restOfLine, lineWith, cusumField, cusumFields, lineOf, refusedLine}
-use Rattle.lines.specs.Wrote.{letterFields, wordSize, numberSize, cusumSize, lineSize}
-use Rattle.lines.proofs.Decimals.{length-decimal, length-tenths}
+use Rattle.text.specs.Text.{decimal, restOfLine, lineWith}
+use Rattle.text.specs.Wrote.{wordSize, numberSize, cusumSize}
+use Rattle.text.proofs.Decimals.{length-decimal, length-tenths}
+use Rattle.lines.specs.Lines.{cusumField, cusumFields, lineOf}
+use Rattle.lines.specs.Rooms.{letterFields, lineSize}
 
 pub length-unit-line : (results : List ℕ) (j : ℕ)
     → length (lineOf results j)
@@ -19,12 +20,6 @@ pub length-unit-line : (results : List ℕ) (j : ℕ)
     + (length (letterFields results j) + length (restOfLine (cusumFields results j)))
 unfolding lineOf lineWith restOfLine
 length-unit-line results j = simp length-append (omega arith)
-
-pub length-refusal : (number offset : ℕ)
-    → length (refusedLine number offset)
-    ≡ length (ascii "refused") + (1 + length (decimal number)) + (1 + length (decimal offset)) + 1
-unfolding refusedLine lineWith restOfLine
-length-refusal number offset = simp length-append (omega arith)
 
 -- ---- none is too long
 
@@ -48,12 +43,3 @@ module _ (results : List ℕ) (bytes : (at : ℕ) → byte results at < 256) whe
       let code = length-decimal numberSize (codeIn results j) (omega arith) (omega (arith, bytes at, bytes (at + 1))) in
       let number = length-decimal wordSize (j + 1) (omega arith) below in
       omega (arith, length-unit-line results j, number, code, short-fields (cusumField results j) (short-cusum j) classes)
-
-pub short-refusal : (number offset : ℕ) → number < 10 ^ wordSize → offset < 10 ^ wordSize → length (refusedLine number offset) ≤ lineSize
-short-refusal number offset numbered placed =
-    omega (
-      arith,
-      length-refusal number offset,
-      length-decimal wordSize number (omega arith) numbered,
-      length-decimal wordSize offset (omega arith) placed,
-    )

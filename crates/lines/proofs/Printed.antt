@@ -1,42 +1,38 @@
 -- What is printed in each case of an input: too long, accepted, refused; and that an accepted sheet's records lie inside the buffer.
--- From the definitions, by what each test says.
+-- From the laws of a text, by what each test says.
 use Prim.Native.Nat.{ℕ, _*_, _<_, _≤_}
 use mathlib.Core.Path.{_≡_, sym, _∙_, ap}
 use mathlib.Core.List.{List}
-use native.Mathlib.Nat.{zero-add}
 use native.Mathlib.Omega.{arith}
-use borrow.Author.Tests.{lt-ltb, le-ltb, eq-eqb, ne-eqb}
-use lib.ListN.{length, drop, length-append, length-replicate}
-use lib.Seq.{sets-eq}
+use lib.ListN.{length, length-replicate}
 use Rattle.sheet.specs.Refusals.{mostUnits}
 use Rattle.results.specs.Record.{resultSize}
 use Rattle.outcome.specs.declared.Answer.{Answer}
 use Rattle.outcome.specs.Outcome.{Outcome}
 use Rattle.tally.specs.Outcome.{outcome}
 use Rattle.tally.proofs.AcceptedSheet.{accepted-sheet}
-use Rattle.lines.specs.Lines.{linesOf, refusedLine, textOf, largestInput, tooMuchInput, emptyResults, printed, Printing, printing}
-use Rattle.lines.specs.Wrote.{Wrote}
+use Rattle.text.specs.Text.{refusedLine, largestInput, tooMuchInput, Printing}
+use Rattle.text.specs.Wrote.{Wrote}
+use Rattle.text.proofs.Printed.{printed-too-much, printed-within, text-accepted, text-refused, whole-text, text-inside}
+use Rattle.lines.specs.Lines.{lineOf, linesOf, textOf, emptyResults, printed, printing}
 
 pub too-much : (input : List ℕ) → largestInput < length input → printed input ≡ refusedLine tooMuchInput largestInput
 unfolding printed
-too-much input above = rw (lt-ltb largestInput (length input) above)
+too-much input above = printed-too-much input _ above
 
 module _ (input : List ℕ) (answer : Answer) (results : List ℕ)
     (promise : _≡_ {A = Outcome} (record { answer = answer; buffer = results }) (outcome input emptyResults)) where
   printed-text : length input ≤ largestInput → printed input ≡ textOf answer results
   unfolding printed
   printed-text within =
-      rw (le-ltb largestInput (length input) within)
-      (sym (ap (λ (given : Outcome). textOf (given .answer) (given .buffer)) promise))
+      printed-within input _ within ∙ sym (ap (λ (given : Outcome). textOf (given .answer) (given .buffer)) promise)
 
   pub lines-printed : length input ≤ largestInput → answer .number ≡ 0 → printed input ≡ linesOf results (answer .units)
-  unfolding textOf
-  lines-printed within accepted = printed-text within ∙ rw (eq-eqb (answer .number) 0 accepted)
+  lines-printed within accepted = printed-text within ∙ text-accepted answer (lineOf results) accepted
 
   pub refusal-printed : length input ≤ largestInput → (answer .number ≡ 0 → ⊥)
       → printed input ≡ refusedLine (answer .number) (answer .offset)
-  unfolding textOf
-  refusal-printed within refused = printed-text within ∙ rw (ne-eqb (answer .number) 0 refused)
+  refusal-printed within refused = printed-text within ∙ text-refused answer (lineOf results) refused
 
   pub records-inside : answer .number ≡ 0 → (resultSize * answer .units ≤ length results) × (answer .units ≤ mostUnits)
   unfolding emptyResults
@@ -47,19 +43,12 @@ module _ (input : List ℕ) (answer : Answer) (results : List ℕ)
 
 -- ---- the caller's text
 
--- a text written from the start on stands first, and the bytes behind it are kept
 pub whole-printed : (input : List ℕ) {before after : List ℕ} {end : ℕ}
     → Wrote before 0 (printed input) after end → _≡_ {A = Printing} (record { size = end; text = after }) (printing input before)
 unfolding printing
-whole-printed input {before} wrote =
-    rw (wrote .ends, wrote .holds, sets-eq (printed input) before 0 (omega (arith, wrote .ends, wrote .inside)), zero-add)
+whole-printed input wrote = whole-text (printed input) wrote
 
--- what is printed lies inside it
 pub printed-inside : (input before : List ℕ) {after : List ℕ} {end : ℕ}
     → _≡_ {A = Printing} (record { size = end; text = after }) (printing input before) → end ≤ length after
 unfolding printing
-printed-inside input before promise =
-    let text = printed input in
-    let size = ap (λ (given : Printing). given .size) promise in
-    let whole = ap (λ (given : Printing). length (given .text)) promise in
-    omega (arith, size, whole, length-append text (drop (length text) before))
+printed-inside input before promise = text-inside (printed input) before promise

@@ -2,12 +2,12 @@
 // on and answers where its text ends.
 ghost use mathlib.Core.Path.{_≡_};
 ghost use Prim.Native.Nat.{_+_, _*_, _≤_};
-ghost use mathlib.Core.List.{[], _∷_};
-ghost use lib.ListN.{length, getD};
-ghost use Rattle.encoding.specs.Bytes.{number};
+ghost use lib.ListN.{length};
 ghost use Rattle.results.specs.Record.{resultSize};
-ghost use Rattle.lines.specs.Lines.{space, decimal, oneDecimal, gradeLetter, standingLetter, restOfLine, cusumFields, lineOf, linesOf, refusedLine, Printing, printing};
-ghost use Rattle.lines.specs.Wrote.{Wrote, letterFields, lineSize};
+ghost use Rattle.text.specs.Text.{restOfLine, Printing};
+ghost use Rattle.text.specs.Wrote.{Wrote};
+ghost use Rattle.lines.specs.Lines.{gradeLetter, standingLetter, cusumFields, lineOf, linesOf, printing};
+ghost use Rattle.lines.specs.Rooms.{letterFields, lineSize};
 use encoding::number_at;
 use results::CODE_GRADE_OFFSET;
 use results::CODE_OFFSET;
@@ -18,19 +18,19 @@ use results::PORTION_GRADE_OFFSET;
 use results::RESULT_SIZE;
 use results::STANDING_OFFSET;
 use sheet::MOST_UNITS;
+use text::CUSUM_SIZE;
+use text::LARGEST_INPUT;
+use text::NUMBER_SIZE;
+use text::TOO_MUCH_INPUT;
+use text::WORD_SIZE;
+use text::decimal;
+use text::letter_of;
+use text::number_field;
+use text::put;
+use text::put_all;
+use text::refusal_line;
+use text::tenths_field;
 use units::CLASSES;
-
-// The most bytes of input that are taken for a sheet, and the number that refuses more.
-pub const LARGEST_INPUT: usize = 65536;
-
-const TOO_MUCH_INPUT: u32 = 15;
-
-// The most bytes of a usize in decimal, of a number of two bytes, and of a CuSum.
-const WORD_SIZE: usize = 20;
-
-const NUMBER_SIZE: usize = 5;
-
-const CUSUM_SIZE: usize = NUMBER_SIZE + 1;
 
 // Portion grade, code grade, standing and plan grade.
 const LETTERS: usize = 4;
@@ -45,52 +45,7 @@ const LINE_SIZE: usize = WORD_SIZE
 
 pub const TEXT_SIZE: usize = LINE_SIZE * MOST_UNITS;
 
-// ---- bytes, numbers, letters
-
-fn put(out: &mut [u8], at: usize, byte: u8) -> usize
-    requires { ⌜ at + 1 ≤ length (now out) ⌝ }
-    ensures { λ r. ⌜ Wrote (now (out .entry)) at (byte ∷ []) (now (out .exit)) r ⌝ }
-{
-    out[at] = byte;
-    at + 1
-}
-
-// The bytes of a text.
-fn put_all(out: &mut [u8], at: usize, text: &[u8]) -> usize
-    requires { ⌜ at + length (now text) ≤ length (now out) ⌝ }
-    ensures { λ r. ⌜ Wrote (now (out .entry)) at (now (text .entry)) (now (out .exit)) r ⌝ }
-{
-    let mut end = at;
-    let mut i: usize = 0;
-    while i < text.len() {
-        end = put(out, end, text[i]);
-        i += 1;
-    }
-    end
-}
-
-// The digits before the last, then the last.
-fn decimal(out: &mut [u8], at: usize, value: usize) -> usize
-    requires { ⌜ at + length (decimal value) ≤ length (now out) ⌝ }
-    ensures { λ r. ⌜ Wrote (now (out .entry)) at (decimal value) (now (out .exit)) r ⌝ }
-{
-    if value < 10 {
-        return put(out, at, b'0' + value as u8);
-    }
-    let after_others = decimal(out, at, value / 10);
-    put(out, after_others, b'0' + (value % 10) as u8)
-}
-
-// The letter of a number: by its place among the letters, or the other one.
-fn letter_of(letters: &[u8], other: u8, number: u8) -> u8
-    ensures { λ r. ⌜ r ≡ getD (now (letters .entry)) number other ⌝ }
-{
-    let place = number as usize;
-    if place < letters.len() {
-        return letters[place];
-    }
-    other
-}
+// ---- lines
 
 fn grade_letter(grade: u8) -> u8
     ensures { λ r. ⌜ r ≡ gradeLetter grade ⌝ }
@@ -103,29 +58,6 @@ fn standing_letter(standing: u8) -> u8
 {
     letter_of(b"mfu", b'r', standing)
 }
-
-// ---- fields, each behind a space
-
-fn number_field(out: &mut [u8], at: usize, value: usize) -> usize
-    requires { ⌜ at + length (space ∷ decimal value) ≤ length (now out) ⌝ }
-    ensures { λ r. ⌜ Wrote (now (out .entry)) at (space ∷ decimal value) (now (out .exit)) r ⌝ }
-{
-    let after_space = put(out, at, b' ');
-    decimal(out, after_space, value)
-}
-
-// The tenths that stand at an offset of the result buffer.
-fn tenths_field(results: &[u8], offset: usize, out: &mut [u8], at: usize) -> usize
-    requires { ⌜ (offset + 2 ≤ length (now results)) × (at + length (space ∷ oneDecimal (number (now results) offset)) ≤ length (now out)) ⌝ }
-    ensures { λ r. ⌜ Wrote (now (out .entry)) at (space ∷ oneDecimal (number (now (results .entry)) offset)) (now (out .exit)) r ⌝ }
-{
-    let tenths = number_at(results, offset);
-    let after_whole = number_field(out, at, (tenths / 10) as usize);
-    let fraction = [b'.', b'0' + (tenths % 10) as u8];
-    put_all(out, after_whole, &fraction)
-}
-
-// ---- lines
 
 // The four letters of unit j.
 fn letter_fields(results: &[u8], j: usize, out: &mut [u8], at: usize) -> usize
@@ -185,17 +117,6 @@ fn unit_lines(results: &[u8], units: usize, out: &mut [u8]) -> usize
         j += 1;
     }
     end
-}
-
-// "refused", number and offset.
-fn refusal_line(number: u32, offset: usize, out: &mut [u8]) -> usize
-    requires { ⌜ length (refusedLine number offset) ≤ length (now out) ⌝ }
-    ensures { λ r. ⌜ Wrote (now (out .entry)) 0 (refusedLine number offset) (now (out .exit)) r ⌝ }
-{
-    let after_word = put_all(out, 0, b"refused");
-    let after_number = number_field(out, after_word, number as usize);
-    let after_offset = number_field(out, after_number, offset);
-    put(out, after_offset, b'\n')
 }
 
 // ---- the whole text

@@ -4,8 +4,8 @@ ghost use Prim.Native.Nat.{_≤_};
 ghost use lib.ListN.{length};
 use libc::STDIN_FILENO;
 use libc::STDOUT_FILENO;
-use lines::LARGEST_INPUT;
 use lines::TEXT_SIZE;
+use text::LARGEST_INPUT;
 
 // How many bytes were read, and whether a read failed.
 struct Reading {

@@ -3,8 +3,8 @@
 ghost use Prim.Native.Nat.{_≤_};
 ghost use lib.ListN.{length};
 use encoding::number_at;
-use lines::LARGEST_INPUT;
 use lines::TEXT_SIZE;
+use text::LARGEST_INPUT;
 
 // No test has more cases.
 const MOST_CASES: u64 = 10000;

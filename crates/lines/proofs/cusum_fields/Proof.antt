@@ -4,8 +4,9 @@ use mathlib.Core.List.{[], _∷_, map}
 use native.Mathlib.Omega.{arith}
 use lib.ListN.{length, drop, drop-of-length-le}
 use Rattle.units.specs.Words.{classes}
-use Rattle.lines.specs.Lines.{newline, space, restOfLine, cusumField, cusumFields}
-use Rattle.lines.proofs.Writing.{Left, all-left, piece-fits, less-left, none-left}
+use Rattle.text.specs.Text.{newline, space, restOfLine}
+use Rattle.lines.specs.Lines.{cusumField, cusumFields}
+use Rattle.text.proofs.Writing.{Left, all-left, piece-fits, less-left, none-left}
 use Rattle.lines.proofs.Classes.{fields-left}
 use borrow.Author.Needs.{needs}
 use Rattle.lines.proofs.cusum_fields.Statement.{statement}

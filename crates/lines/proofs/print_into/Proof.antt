@@ -1,8 +1,9 @@
 -- One law for each case of the text; it fits, since the records of an accepted sheet lie inside the result buffer, and no refusal is longer.
 use native.Mathlib.Omega.{arith}
 use borrow.Author.Needs.{needs}
-use Rattle.lines.specs.Lines.{largestInput, tooMuchInput, emptyResults}
-use Rattle.lines.proofs.LineLengths.{short-refusal}
+use Rattle.text.specs.Text.{largestInput, tooMuchInput}
+use Rattle.text.proofs.Printed.{short-refusal}
+use Rattle.lines.specs.Lines.{emptyResults}
 use Rattle.lines.proofs.Printed.{too-much, lines-printed, refusal-printed, records-inside, whole-printed}
 use Rattle.lines.proofs.print_into.Statement.{statement}
 use Rattle.lines.proofs.print_into.Tie as tie

@@ -4,8 +4,9 @@ use mathlib.Core.Path.{ap}
 use native.Mathlib.Omega.{arith}
 use borrow.Author.Needs.{needs}
 use lib.ListN.{length}
-use Rattle.lines.specs.Lines.{decimal, restOfLine, lineWith, lineOf}
-use Rattle.lines.proofs.Writing.{joined}
+use Rattle.text.specs.Text.{decimal, restOfLine, lineWith}
+use Rattle.lines.specs.Lines.{lineOf}
+use Rattle.text.proofs.Writing.{joined}
 use Rattle.lines.proofs.LineLengths.{length-unit-line}
 use Rattle.lines.proofs.unit_line.Statement.{statement}
 use Rattle.lines.proofs.unit_line.Tie as tie

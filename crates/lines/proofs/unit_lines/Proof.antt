@@ -5,9 +5,11 @@ use native.Mathlib.Omega.{arith}
 use borrow.Author.Needs.{needs}
 use lib.ListN.{length}
 use Rattle.encoding.specs.Bytes.{byte}
-use Rattle.lines.specs.Lines.{linesOf}
-use Rattle.lines.specs.Wrote.{Wrote, lineSize}
-use Rattle.lines.proofs.Writing.{nothing-written, line-next}
+use Rattle.text.specs.Text.{linesBy}
+use Rattle.text.specs.Wrote.{Wrote}
+use Rattle.lines.specs.Lines.{lineOf, linesOf}
+use Rattle.lines.specs.Rooms.{lineSize}
+use Rattle.text.proofs.Writing.{nothing-written, line-next}
 use Rattle.lines.proofs.LineLengths.{short-line}
 use Rattle.lines.proofs.unit_lines.Statement.{statement}
 use Rattle.lines.proofs.unit_lines.Tie as tie
@@ -20,7 +22,7 @@ abbrev μ-loop : tie.MeasureT-loop
 μ-loop results units out₀ end₀ j₀ out end j = units - j
 
 loop-holds : tie.Need-loop-holds Inv-loop μ-loop
-unfolding linesOf
+unfolding linesBy
 loop-holds c = (search needs, refl, search needs, nothing-written _ 0 (omega arith))
 
 unit-line-requires : tie.Need-unit-line-requires Inv-loop μ-loop
@@ -47,7 +49,7 @@ loop-again c =
       search needs,
       search needs,
       omega (arith, c .before .before .unit-line .ensures .ends, short-line results bytes (loop .j) (omega arith)),
-      line-next results (loop .j) (loop .inv .3) (c .before .before .unit-line .ensures),
+      line-next (lineOf results) (loop .j) (loop .inv .3) (c .before .before .unit-line .ensures),
     )
 
 same-length : tie.Need-same-length Inv-loop μ-loop

@@ -1023,7 +1023,7 @@ use lib.ListN.{length, take, drop, set}
 use Rattle.results.specs.Record.{resultSize}
 use Rattle.outcome.specs.Held.{GradedBy, RefusedBy, WithoutRoomBy}
 use Rattle.tally.specs.Outcome.{outcome}
-use Rattle.lines.specs.Ascii.{ascii}
+use Rattle.text.specs.Ascii.{ascii}
 use Rattle.lines.specs.Lines.{linesOf, printed}
 use Rattle.computed.specs.WorkedCases.{peachPlan}
 ";

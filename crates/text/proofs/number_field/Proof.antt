@@ -1,8 +1,8 @@
 -- The space, and the number behind it.
 use borrow.Author.Needs.{needs}
-use Rattle.lines.proofs.Writing.{joined}
-use Rattle.lines.proofs.number_field.Statement.{statement}
-use Rattle.lines.proofs.number_field.Tie as tie
+use Rattle.text.proofs.Writing.{joined}
+use Rattle.text.proofs.number_field.Statement.{statement}
+use Rattle.text.proofs.number_field.Tie as tie
 
 put-requires : tie.Need-put-requires
 put-requires c κs = search needs

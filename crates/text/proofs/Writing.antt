@@ -9,8 +9,8 @@ use native.Mathlib.Omega.{arith}
 use lib.ListN.{length, length-append}
 use lib.Seq.{sets, length-sets}
 use Rattle.results.proofs.Stores.{sets-append}
-use Rattle.lines.specs.Lines.{lineOf, linesOf}
-use Rattle.lines.specs.Wrote.{Wrote}
+use Rattle.text.specs.Text.{linesBy}
+use Rattle.text.specs.Wrote.{Wrote}
 
 same-size : {before text after : List ℕ} {at end : ℕ} → Wrote before at text after end → length after ≡ length before
 same-size {before} {text} {after} {at} wrote = ap length (wrote .holds) ∙ length-sets before at text
@@ -28,11 +28,11 @@ pub nothing-written : (out : List ℕ) (at : ℕ) → at ≤ length out → Wrot
 nothing-written out at inside = record { ends = sym (add-zero at); inside = inside; holds = refl }
 
 -- one line more
-pub line-next : {before after next : List ℕ} {end last : ℕ} (results : List ℕ) (j : ℕ)
-    → Wrote before 0 (linesOf results j) after end → Wrote after end (lineOf results j) next last
-    → Wrote before 0 (linesOf results (j + 1)) next last
-unfolding linesOf
-line-next results j lines line = rw (add-one j) (joined lines line)
+pub line-next : {before after next : List ℕ} {end last : ℕ} (line : ℕ → List ℕ) (j : ℕ)
+    → Wrote before 0 (linesBy line j) after end → Wrote after end (line j) next last
+    → Wrote before 0 (linesBy line (j + 1)) next last
+unfolding linesBy
+line-next line j lines next = rw (add-one j) (joined lines next)
 
 -- ---- piece by piece
 

@@ -9,7 +9,7 @@ use native.Mathlib.Omega.{arith}
 use borrow.Author.Tests.{ltb-true, ltb-false, lt-ltb, le-ltb}
 use lib.Dec.{ltb}
 use lib.ListN.{length, length-append}
-use Rattle.lines.specs.Lines.{point, digit, digits, decimal, oneDecimal}
+use Rattle.text.specs.Text.{point, digit, digits, decimal, oneDecimal}
 
 enough-places : (places others value : ℕ) → value < places → value < others → digits places value ≡ digits others value
 unfolding digits

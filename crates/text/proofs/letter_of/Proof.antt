@@ -3,8 +3,8 @@ use mathlib.Core.Path.{sym}
 use borrow.Author.Needs.{needs}
 use lib.ListN.{List·getD-eq-default}
 use Rattle.units.proofs.Lists.{any-default}
-use Rattle.lines.proofs.letter_of.Statement.{statement}
-use Rattle.lines.proofs.letter_of.Tie as tie
+use Rattle.text.proofs.letter_of.Statement.{statement}
+use Rattle.text.proofs.letter_of.Tie as tie
 
 shared-slice-read-result : tie.Need-shared-slice-read-result
 shared-slice-read-result c = search needs

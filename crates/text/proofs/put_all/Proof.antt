@@ -6,9 +6,9 @@ use native.Mathlib.Omega.{arith}
 use borrow.Author.Needs.{needs}
 use lib.ListN.{length, drop, getD, drop-of-length-le}
 use lib.Seq.{drop-cons}
-use Rattle.lines.proofs.Writing.{Left, all-left, piece-fits, less-left, none-left}
-use Rattle.lines.proofs.put_all.Statement.{statement}
-use Rattle.lines.proofs.put_all.Tie as tie
+use Rattle.text.proofs.Writing.{Left, all-left, piece-fits, less-left, none-left}
+use Rattle.text.proofs.put_all.Statement.{statement}
+use Rattle.text.proofs.put_all.Tie as tie
 
 abbrev Inv-loop : tie.InvT-loop
 Inv-loop out₀ at text end₀ i₀ out end i = (i ≤ length text) × Left out₀ at text out end (drop i text)

@@ -1,11 +1,11 @@
 -- Four texts, one behind the other; the room for each by the length of the line.
 use native.Mathlib.Omega.{arith}
 use borrow.Author.Needs.{needs}
-use Rattle.lines.specs.Lines.{restOfLine, lineWith, refusedLine}
-use Rattle.lines.proofs.Writing.{joined}
-use Rattle.lines.proofs.LineLengths.{length-refusal}
-use Rattle.lines.proofs.refusal_line.Statement.{statement}
-use Rattle.lines.proofs.refusal_line.Tie as tie
+use Rattle.text.specs.Text.{restOfLine, lineWith, refusedLine}
+use Rattle.text.proofs.Writing.{joined}
+use Rattle.text.proofs.Printed.{length-refusal}
+use Rattle.text.proofs.refusal_line.Statement.{statement}
+use Rattle.text.proofs.refusal_line.Tie as tie
 
 slice-aggregate-put-all : tie.Need-slice-aggregate-put-all
 slice-aggregate-put-all c = search needs

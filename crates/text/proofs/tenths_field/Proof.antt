@@ -3,12 +3,12 @@ use Prim.Native.Nat.{ℕ}
 use mathlib.Core.Path.{ap}
 use native.Mathlib.Omega.{arith}
 use lib.ListN.{length}
-use Rattle.lines.specs.Lines.{oneDecimal}
-use Rattle.lines.proofs.Writing.{joined}
-use Rattle.lines.proofs.Decimals.{length-tenths}
+use Rattle.text.specs.Text.{oneDecimal}
+use Rattle.text.proofs.Writing.{joined}
+use Rattle.text.proofs.Decimals.{length-tenths}
 use borrow.Author.Needs.{needs}
-use Rattle.lines.proofs.tenths_field.Statement.{statement}
-use Rattle.lines.proofs.tenths_field.Tie as tie
+use Rattle.text.proofs.tenths_field.Statement.{statement}
+use Rattle.text.proofs.tenths_field.Tie as tie
 
 number-at-requires : tie.Need-number-at-requires
 number-at-requires c κs = search needs

@@ -1,0 +1,70 @@
+-- What is printed in each case of an input: too long, accepted, refused; how long a refusal is; and a text that stands first in the
+-- caller's. From the definitions, by what each test says.
+use Prim.Native.Nat.{ℕ, _+_, _*_, _^_, _<_, _≤_}
+use mathlib.Core.Path.{_≡_, _∙_, ap}
+use mathlib.Core.List.{List}
+use native.Mathlib.Nat.{zero-add}
+use native.Mathlib.Omega.{arith}
+use borrow.Author.Tests.{lt-ltb, le-ltb, eq-eqb, ne-eqb}
+use lib.ListN.{length, drop, length-append}
+use lib.Seq.{sets-eq}
+use Rattle.outcome.specs.declared.Answer.{Answer}
+use Rattle.text.specs.Ascii.{ascii}
+use Rattle.text.specs.Text.{decimal, restOfLine, lineWith, linesBy, refusedLine, textBy, largestInput, tooMuchInput, printedBy, Printing, leaving}
+use Rattle.text.specs.Wrote.{Wrote, wordSize}
+use Rattle.text.proofs.Decimals.{length-decimal}
+
+-- ---- the cases
+
+module _ (input text : List ℕ) where
+  pub printed-too-much : largestInput < length input → printedBy input text ≡ refusedLine tooMuchInput largestInput
+  unfolding printedBy
+  printed-too-much above = rw (lt-ltb largestInput (length input) above)
+
+  pub printed-within : length input ≤ largestInput → printedBy input text ≡ text
+  unfolding printedBy
+  printed-within within = rw (le-ltb largestInput (length input) within)
+
+module _ (answer : Answer) (line : ℕ → List ℕ) where
+  pub text-accepted : answer .number ≡ 0 → textBy answer line ≡ linesBy line (answer .units)
+  unfolding textBy
+  text-accepted accepted = rw (eq-eqb (answer .number) 0 accepted)
+
+  pub text-refused : (answer .number ≡ 0 → ⊥) → textBy answer line ≡ refusedLine (answer .number) (answer .offset)
+  unfolding textBy
+  text-refused refused = rw (ne-eqb (answer .number) 0 refused)
+
+-- ---- a refusal
+
+pub length-refusal : (number offset : ℕ)
+    → length (refusedLine number offset)
+    ≡ length (ascii "refused") + (1 + length (decimal number)) + (1 + length (decimal offset)) + 1
+unfolding refusedLine lineWith restOfLine
+length-refusal number offset = simp length-append (omega arith)
+
+-- no refusal is longer: the word, and two numbers of 64 bits
+pub short-refusal : (number offset : ℕ) → number < 10 ^ wordSize → offset < 10 ^ wordSize
+    → length (refusedLine number offset) ≤ length (ascii "refused") + 2 * (1 + wordSize) + 1
+short-refusal number offset numbered placed =
+    omega (
+      arith,
+      length-refusal number offset,
+      length-decimal wordSize number (omega arith) numbered,
+      length-decimal wordSize offset (omega arith) placed,
+    )
+
+-- ---- the caller's text
+
+-- a text written from the start on stands first, and the bytes behind it are kept
+pub whole-text : (printed : List ℕ) {before after : List ℕ} {end : ℕ}
+    → Wrote before 0 printed after end → _≡_ {A = Printing} (record { size = end; text = after }) (leaving printed before)
+whole-text printed {before} wrote =
+    rw (wrote .ends, wrote .holds, sets-eq printed before 0 (omega (arith, wrote .ends, wrote .inside)), zero-add)
+
+-- what is printed lies inside it
+pub text-inside : (printed before : List ℕ) {after : List ℕ} {end : ℕ}
+    → _≡_ {A = Printing} (record { size = end; text = after }) (leaving printed before) → end ≤ length after
+text-inside printed before promise =
+    let size = ap (λ (given : Printing). given .size) promise in
+    let whole = ap (λ (given : Printing). length (given .text)) promise in
+    omega (arith, size, whole, length-append printed (drop (length printed) before))
