@@ -2,3 +2,4 @@ pub mod Checking
 pub mod Written
 pub mod Cases
 pub mod Computing
+pub mod Accepted

@@ -4,3 +4,4 @@ pub mod Refusals
 pub mod Grading
 pub mod Results
 pub mod Outcome
+pub mod Accepted

@@ -41,19 +41,19 @@ const FIELDS_COUNTED: u8 = 25;
 // The opening: mark, level row.
 const LEVEL_OFFSET: usize = MARK_SIZE;
 
-const OPENING_SIZE: usize = LEVEL_OFFSET + 1;
+pub const OPENING_SIZE: usize = LEVEL_OFFSET + 1;
 
 // A unit: mark, code, positive fields.
 const CODE_OFFSET: usize = MARK_SIZE;
 
 const FIELDS_OFFSET: usize = CODE_OFFSET + NUMBER_SIZE;
 
-const UNIT_SIZE: usize = FIELDS_OFFSET + 1;
+pub const UNIT_SIZE: usize = FIELDS_OFFSET + 1;
 
 // A result record: mark, 1 for met or 0, CuSum.
-const MET_OFFSET: usize = MARK_SIZE;
+pub const MET_OFFSET: usize = MARK_SIZE;
 
-const CUSUM_OFFSET: usize = MET_OFFSET + 1;
+pub const CUSUM_OFFSET: usize = MET_OFFSET + 1;
 
 pub const RESULT_SIZE: usize = CUSUM_OFFSET + CUSUM_WIDTH;
 

@@ -1,5 +1,4 @@
 pub mod MoldFields
-pub mod MoldAccepted
 pub mod MoldBytes
 pub mod MoldGrounds
 pub mod MoldAnswers

@@ -18,7 +18,7 @@ use Rattle.mold.specs.Results.{resultSize, written}
 use Rattle.mold.proofs.Checking.{Facts, Stops, Says, checked-says}
 use Rattle.mold.proofs.Written.{length-written}
 use Rattle.mold_demands.specs.MoldAnswers.{MoldStoppedAt, MoldListed, accepted, by-opening, by-record, by-buffer, unitsIn, MoldAnswered}
-use Rattle.mold_demands.proofs.MoldAccepted.{Case, by-check, without-room, graded, outcome-case}
+use Rattle.mold.proofs.Accepted.{Case, by-check, without-room, graded, outcome-case}
 
 -- ---- the numbers
 

@@ -25,7 +25,7 @@ use Rattle.mold.specs.Results.{resultSize}
 use Rattle.mold.specs.Outcome.{moldOutcome}
 use Rattle.mold.proofs.Checking.{Facts, Stops, Says, checked-says}
 use Rattle.mold_demands.specs.MoldGrounds.{NoOpening, LevelAbove, IsMoldUnit, NoUnitMark, UnitCutShort, MoldUnitTooMany, FieldsAbove, FilledByUnits, MoldOpeningRow, row1, row16, MoldRecordRow, row6, row7, row12, row17, MoldBufferRow, row13, moldRows, moldGrounds, MoldRefusals}
-use Rattle.mold_demands.proofs.MoldAccepted.{Case, by-check, without-room, graded, outcome-case}
+use Rattle.mold.proofs.Accepted.{Case, by-check, without-room, graded, outcome-case}
 
 -- ---- the opening
 

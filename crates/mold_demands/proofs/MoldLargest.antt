@@ -17,7 +17,7 @@ use Rattle.cusum.proofs.Runs.{after, Meets, run-largest, after-snoc, meets-snoc
 use Rattle.mold.specs.Layout.{moldUnitAt}
 use Rattle.mold.specs.Grading.{numbersOf, tenthsAt, cusumBefore, failsAt}
 use Rattle.mold.specs.Results.{cusumIn}
-use Rattle.mold_demands.specs.MoldRecords.{MoldAcceptedAs}
+use Rattle.mold.specs.Accepted.{MoldAcceptedAs}
 use Rattle.mold_demands.specs.MoldLargest.{MoldAnchor, opening, failure, MoldAnchorAt, tenFieldsFrom, MoldLargestForm}
 use Rattle.mold_demands.proofs.MoldFields.{cusum-read}
 use Rattle.mold_demands.proofs.MoldRecords.{here}

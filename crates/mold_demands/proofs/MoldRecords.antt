@@ -11,10 +11,11 @@ use Rattle.cusum.proofs.Laws.{new-cusum-is, fails-true, fails-false}
 use Rattle.grounds.specs.Tells.{Tells}
 use Rattle.mold.specs.Layout.{moldUnitAt}
 use Rattle.mold.specs.Grading.{numbersOf, tenthsAt, cusumBefore, failsAt}
+use Rattle.mold.specs.Accepted.{MoldAcceptedAs}
 use Rattle.mold.specs.Results.{metIn, cusumIn}
-use Rattle.mold_demands.specs.MoldRecords.{MoldAcceptedAs, tenFields, oldCusum, MoldRecorded, MoldGraded}
+use Rattle.mold_demands.specs.MoldRecords.{tenFields, oldCusum, MoldRecorded, MoldGraded}
 use Rattle.mold_demands.proofs.MoldFields.{Behind, behind, mark-read, met-read, cusum-read}
-use Rattle.mold_demands.proofs.MoldAccepted.{MoldAccepted, mold-accepted}
+use Rattle.mold.proofs.Accepted.{MoldAccepted, mold-accepted}
 
 module _ (bytes buffer : List ℕ) (answer : Answer) (results : List ℕ) (graded : MoldAcceptedAs bytes buffer answer results) where
   -- where the record of a unit stands

@@ -4,19 +4,13 @@ use mathlib.Core.Path.{_≡_}
 use mathlib.Core.List.{List}
 use lib.ListN.{length}
 use Rattle.outcome.specs.declared.Answer.{Answer}
-use Rattle.outcome.specs.Outcome.{Outcome}
 use Rattle.encoding.specs.Bytes.{byte}
 use Rattle.cusum.specs.declared.PlanNumbers.{PlanNumbers}
 use Rattle.grounds.specs.Tells.{Tells}
 use Rattle.mold.specs.Layout.{fieldsOffset, offset}
 use Rattle.mold.specs.Grading.{numbersOf, cusumBefore, failsAt}
 use Rattle.mold.specs.Results.{markIn, metIn, cusumIn}
-use Rattle.mold.specs.Outcome.{moldOutcome}
-
--- grading a mold sheet into a buffer gave this answer and left these bytes, as the promise of `grade_mold` says, and it was accepted
-pub record MoldAcceptedAs (bytes buffer : List ℕ) (answer : Answer) (results : List ℕ) : Type 0 where
-  pub promise : _≡_ {A = Outcome} (record { answer = answer; buffer = results }) (moldOutcome bytes buffer)
-  pub accepted : answer .number ≡ 0
+use Rattle.mold.specs.Accepted.{MoldAcceptedAs}
 
 -- ten times the positive fields of unit i
 abbrev pub tenFields : List ℕ → ℕ → ℕ

@@ -11,11 +11,11 @@ use borrow.Author.Tests.{eqb-true, eqb-false, ltb-true, ltb-false}
 use Rattle.outcome.specs.declared.Answer.{Answer}
 use Rattle.outcome.specs.Outcome.{Outcome, refusal}
 use Rattle.units.specs.Conditions.{pick}
 use Rattle.mold.specs.Refusals.{acceptedAs, checked}
 use Rattle.mold.specs.Results.{resultSize, written}
 use Rattle.mold.specs.Outcome.{acceptance, moldOutcome}
 use Rattle.mold.proofs.Checking.{Facts, accepted-facts}
-use Rattle.mold_demands.specs.MoldRecords.{MoldAcceptedAs}
+use Rattle.mold.specs.Accepted.{MoldAcceptedAs}
 
 -- what each case says of the outcome
 pub data Case (bytes buffer : List ℕ) : Outcome → Type 0 where
