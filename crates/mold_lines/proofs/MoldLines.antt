@@ -9,16 +9,16 @@ use Rattle.outcome.specs.declared.Answer.{Answer}
 use Rattle.outcome.specs.Outcome.{Outcome}
 use Rattle.encoding.specs.Bytes.{byte}
 use Rattle.sheet.specs.Refusals.{mostUnits}
-use Rattle.text.specs.Text.{decimal, oneDecimal, restOfLine, lineWith, linesBy, refusedLine, textBy, largestInput, tooMuchInput}
+use Rattle.text.specs.Text.{decimal, oneDecimal, restOfLine, lineWith, linesBy, refusedLine, textBy, largestInput, tooMuchInput, Printing}
 use Rattle.text.specs.Wrote.{wordSize, numberSize, cusumSize}
 use Rattle.text.proofs.Decimals.{length-decimal, length-tenths}
-use Rattle.text.proofs.Printed.{printed-too-much, printed-within, text-accepted, text-refused}
+use Rattle.text.proofs.Printed.{printed-too-much, printed-within, text-accepted, text-refused, text-inside}
 use Rattle.mold.specs.Layout.{codeOffset, offset, moldUnitAt, unitIn}
 use Rattle.mold.specs.Results.{cusumOffset, resultSize, cusumIn, written}
 use Rattle.mold.specs.Outcome.{moldOutcome}
 use Rattle.mold.proofs.Accepted.{mold-accepted}
 use Rattle.mold.proofs.Written.{length-written}
-use Rattle.mold_lines.specs.MoldLines.{resultFields, moldLineOf, emptyMoldResults, moldPrinted, moldLineSize}
+use Rattle.mold_lines.specs.MoldLines.{resultFields, moldLineOf, emptyMoldResults, moldPrinted, moldPrinting, moldLineSize}
 
 pub length-fields : (results : List ℕ) (j : ℕ) → length (restOfLine (resultFields results j)) ≡ 2 + (1 + length (oneDecimal (cusumIn results j))) + 1
 unfolding restOfLine
@@ -76,3 +76,9 @@ module _ (input : List ℕ) (answer : Answer) (results : List ℕ)
         omega (arith, size, sheet .room),
         omega (arith, sheet .room, length-replicate {A = ℕ} (resultSize * mostUnits) 0),
       )
+
+-- what is printed lies inside the caller's text
+pub mold-printed-inside : (input before : List ℕ) {after : List ℕ} {end : ℕ}
+    → _≡_ {A = Printing} (record { size = end; text = after }) (moldPrinting input before) → end ≤ length after
+unfolding moldPrinting
+mold-printed-inside input before promise = text-inside (moldPrinted input) before promise

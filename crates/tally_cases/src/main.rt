@@ -1,9 +1,11 @@
-// Prints many sheets, as the printing program prints one. Standard input has the cases one after the other: four bytes, the length of
-// the sheet with the high byte first, then the sheet. For each a line `case NUMBER`, then what is printed for the sheet.
+// Prints many sheets of every kind. Standard input has the cases one after the other: the kind (a byte), the length of the sheet (four
+// bytes, the high byte first), then the sheet. For each a line `case NUMBER`, then what is printed for a sheet of this kind: 0 a tally
+// sheet, as the printing program prints it; 1 a mold sheet. A case of another kind ends the program.
 ghost use Prim.Native.Nat.{_≤_};
 ghost use lib.ListN.{length};
 use encoding::number_at;
 use lines::TEXT_SIZE;
+use mold_lines::MOLD_TEXT_SIZE;
 use text::LARGEST_INPUT;
 
 // No test has more cases.
@@ -14,21 +16,41 @@ const ROOM: usize = LARGEST_INPUT + 1;
 
 const NO_CASE: usize = ROOM + 1;
 
-// The length of a sheet is two numbers of two bytes, each of which has so many values.
+// Kinds of sheets.
+const TALLY: u8 = 0;
+
+const MOLD: u8 = 1;
+
+// What stands before a sheet: its kind, and its length as two numbers of two bytes, each of which has so many values.
+const LENGTH_OFFSET: usize = 1;
+
 const NUMBER_SIZE: usize = 2;
+
+const HEADER_SIZE: usize = LENGTH_OFFSET + 2 * NUMBER_SIZE;
 
 const NUMBERS: usize = 65536;
 
-// Reads the length of a sheet, or that no case is left.
-fn read_length() -> usize {
-    let mut header = [0u8; 2 * NUMBER_SIZE];
+struct Header {
+    kind: u8,
+    length: usize,
+}
+
+// Reads what stands before a sheet, or that no case is left.
+fn read_header() -> Header {
+    let mut header = [0u8; HEADER_SIZE];
     let got = io::read_full(libc::STDIN_FILENO, &mut header);
-    if got < 2 * NUMBER_SIZE {
-        return NO_CASE;
+    if got < HEADER_SIZE {
+        return Header {
+            kind: TALLY,
+            length: NO_CASE,
+        };
     }
-    let high = number_at(&header, 0);
-    let low = number_at(&header, NUMBER_SIZE);
-    high as usize * NUMBERS + low as usize
+    let high = number_at(&header, LENGTH_OFFSET);
+    let low = number_at(&header, LENGTH_OFFSET + NUMBER_SIZE);
+    Header {
+        kind: header[0],
+        length: high as usize * NUMBERS + low as usize,
+    }
 }
 
 // Reads a sheet of this length.
@@ -47,22 +69,36 @@ fn print_number(number: u64) {
     io::write_all(libc::STDOUT_FILENO, b"\n");
 }
 
-fn print_sheet(sheet: &[u8]) {
+fn print_tally(sheet: &[u8]) {
     let mut text = [0u8; TEXT_SIZE];
     let end = lines::print_into(sheet, &mut text);
     io::write_all(libc::STDOUT_FILENO, &text[..end]);
 }
 
+fn print_mold(sheet: &[u8]) {
+    let mut text = [0u8; MOLD_TEXT_SIZE];
+    let end = mold_lines::print_mold_into(sheet, &mut text);
+    io::write_all(libc::STDOUT_FILENO, &text[..end]);
+}
+
+fn print_sheet(kind: u8, sheet: &[u8]) {
+    if kind == MOLD {
+        print_mold(sheet);
+    } else {
+        print_tally(sheet);
+    }
+}
+
 // Prints one case; false where none is left.
 fn print_case(number: u64) -> bool {
-    let length = read_length();
-    if ROOM < length {
+    let header = read_header();
+    if (ROOM < header.length) | (MOLD < header.kind) {
         return false;
     }
     let mut input = [0u8; ROOM];
-    let bytes = read_sheet(&mut input, length);
+    let bytes = read_sheet(&mut input, header.length);
     print_number(number);
-    print_sheet(&input[..bytes]);
+    print_sheet(header.kind, &input[..bytes]);
     true
 }
 

@@ -5,8 +5,8 @@ use borrow.Author.Needs.{needs}
 use Rattle.tally_cases.proofs.print_case.Statement.{statement}
 use Rattle.tally_cases.proofs.print_case.Tie as tie
 
-read-length-requires : tie.Need-read-length-requires
-read-length-requires c κs = search needs
+read-header-requires : tie.Need-read-header-requires
+read-header-requires c κs = search needs
 
 returns : tie.Need-returns
 returns c = search needs
@@ -38,7 +38,7 @@ pub print-case-spec : {M : Type 1} → statement M
 print-case-spec =
     tie.close
     (tie.spec
-    read-length-requires
+    read-header-requires
     returns
     slice-aggregate-read-sheet
     read-sheet-requires

@@ -3,8 +3,8 @@ use mathlib.Core.Path.{sym}
 use lib.Seq.{length-take-le}
 use Rattle.lines.proofs.Printed.{printed-inside}
 use borrow.Author.Needs.{needs}
-use Rattle.tally_cases.proofs.print_sheet.Statement.{statement}
-use Rattle.tally_cases.proofs.print_sheet.Tie as tie
+use Rattle.tally_cases.proofs.print_tally.Statement.{statement}
+use Rattle.tally_cases.proofs.print_tally.Tie as tie
 
 print-into-requires : tie.Need-print-into-requires
 print-into-requires c κs = search needs
@@ -23,8 +23,8 @@ write-all-requires c κs = search needs
 returns : tie.Need-returns
 returns c = search needs
 
-pub print-sheet-spec : {M : Type 1} → statement M
-print-sheet-spec =
+pub print-tally-spec : {M : Type 1} → statement M
+print-tally-spec =
     tie.close
     (tie.spec
     print-into-requires
