@@ -1,13 +1,13 @@
 -- The first row met at one place: of the plan, and of a record. Row by row; the rows that a record can be in go by its mark.
-use Prim.Native.Nat.{ℕ, suc, _+_, _≤_, _<_}
-use mathlib.Core.Path.{_≡_, refl, sym, _∙_, ap, subst}
+use Prim.Native.Nat.{ℕ, _+_, _≤_, _<_}
+use mathlib.Core.Path.{_≡_, refl}
 use mathlib.Core.Bool.{Bool, true, false}
 use mathlib.Core.List.{List}
 use mathlib.Core.Logic.{_⊎_, inl, inr, ⊎-elim}
 use native.Mathlib.Omega.{arith}
-use lib.Dec.{ltb, eqb, lit<}
-use lib.ListN.{length, getD}
-use borrow.Author.Tests.{ltb-true, ltb-false, eqb-true, eqb-false}
+use lib.Dec.{ltb, lit<}
+use lib.ListN.{length}
+use borrow.Author.Tests.{ltb-true, ltb-false}
 use Rattle.encoding.specs.Bytes.{byte, number}
 use Rattle.layout.specs.Layout.{markSize, gradeOffset, kinds, countOffset, prerequisiteOffset, recoverableOffset, unitSize, redesignationSize, offset, mark, unitsBefore}
 use Rattle.layout.specs.declared.Mark.{Mark}

@@ -3,16 +3,15 @@
 use Prim.Native.Nat.{ℕ, zero, suc, _+_, _*_, _/_, _%_, _<_}
 use mathlib.Core.Path.{_≡_, refl, sym, _∙_, subst}
 use mathlib.Core.Bool.{Bool, true, false}
-use mathlib.Core.List.{List, _++_, append-assoc}
+use mathlib.Core.List.{List, _++_}
 use native.Mathlib.Omega.{arith}
 use lib.Dec.{ltb, lit<}
-use lib.ListN.{length}
 use borrow.Author.Tests.{ltb-true, ltb-false}
 use Rattle.text.specs.Ascii.{ascii}
 use Rattle.text.specs.Text.{digits, decimal, oneDecimal, restOfLine, lineWith, refusedLine, linesBy}
 use Rattle.lines.specs.Lines.{lineOf, linesOf, emptyResults, printed}
 use Rattle.text.proofs.Decimals as decimals
-use Rattle.text.proofs.Printed.{printed-within}
+use Rattle.text.proofs.Printed.{printed-within, refused-line, too-much-line}
 use Rattle.lines.proofs.Printed.{too-much, lines-printed, refusal-printed}
 use Rattle.computed.specs.WorkedCases.{peachPlan}
 use Rattle.computed.specs.FurtherSheets.{PrintedSheets, repeated, recoveryWithoutPlan, recoveryWithoutPlanResults, recoveryWithoutPlanLines, cusumsOfTwoBytes, cusumsOfTwoBytesResults, cusumsOfTwoBytesLines, grounds8And9, ground12, twelveUnitsResults, twelveUnitsLines}
@@ -51,10 +50,9 @@ twelve-lines : linesOf twelveUnitsResults 12 ≡ twelveUnitsLines
 unfolding twelveUnitsResults twelveUnitsLines digits decimal oneDecimal restOfLine lineWith lineOf linesBy
 twelve-lines = refl
 
-three-refusals : (refusedLine 8 89 ≡ ascii "refused 8 89\n") × (refusedLine 12 14075 ≡ ascii "refused 12 14075\n")
-    × (refusedLine 15 65536 ≡ ascii "refused 15 65536\n")
+two-refusals : (refusedLine 8 89 ≡ ascii "refused 8 89\n") × (refusedLine 12 14075 ≡ ascii "refused 12 14075\n")
 unfolding digits decimal restOfLine lineWith refusedLine
-three-refusals = (refl, refl, refl)
+two-refusals = (refl, refl)
 
 printed-sheets : PrintedSheets
 unfolding peachPlan recoveryWithoutPlan cusumsOfTwoBytes grounds8And9 repeated ground12
@@ -68,23 +66,19 @@ printed-sheets =
           ∙ two-bytes-lines _;
       grounds-8-and-9 =
           refusal-printed grounds8And9 _ _ (sym (further-sheets .refusals .grounds-8-and-9 emptyResults)) (lit< tt) (λ none. omega arith)
-          ∙ three-refusals .0;
+          ∙ two-refusals .0;
       ground-12 =
-          refusal-printed ground12 _ _ (sym (further-sheets .full .ground-12 emptyResults)) (lit< tt) (λ none. omega arith) ∙ three-refusals .1;
+          refusal-printed ground12 _ _ (sym (further-sheets .full .ground-12 emptyResults)) (lit< tt) (λ none. omega arith) ∙ two-refusals .1;
       twelve-units = twelve-lines;
     }
 
 -- ---- every input
 
-refused-line : (number offset : ℕ) → refusedLine number offset ≡ ascii "refused " ++ decimal number ++ ascii " " ++ decimal offset ++ ascii "\n"
-unfolding restOfLine lineWith refusedLine
-refused-line number offset = simp append-assoc
-
 pub printed-text : PrintedText
 unfolding emptyBuffer emptyResults printed
 printed-text =
     record {
-      too-much = λ input above. too-much input above ∙ three-refusals .2;
+      too-much = λ input above. too-much input above ∙ too-much-line;
       any-other = λ input within. printed-within input _ within;
       refused = λ input number offset within some promise.
           refusal-printed input _ _ (sym promise) within (λ none. omega arith) ∙ refused-line number offset;

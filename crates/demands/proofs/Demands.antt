@@ -4,6 +4,7 @@ use Rattle.hatmuyon.proofs.hatmuyon_grade.Met as hatmuyon_grade
 use Rattle.mold.proofs.grade_mold.Met as grade_mold
 use Rattle.hatmuyon.proofs.hatmuyon_grade_mold.Met as hatmuyon_grade_mold
 use Rattle.lines.proofs.print_into.Met as print_into
+use Rattle.mold_lines.proofs.print_mold_into.Met as print_mold_into
 use Rattle.demands.specs.Demands.{Demands}
 use Rattle.answers.proofs.Bytes.{paper-layout}
 use Rattle.answers.proofs.Listed.{demand1}
@@ -26,6 +27,7 @@ demands =
       promise-of-grade-mold = grade_mold.met;
       promise-of-hatmuyon-grade-mold = hatmuyon_grade_mold.met;
       promise-of-print-into = print_into.met;
+      promise-of-print-mold-into = print_mold_into.met;
       paper-layout = paper-layout;
       demand1 = demand1;
       demand2-grounds = demand2-grounds;

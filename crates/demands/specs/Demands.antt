@@ -1,13 +1,15 @@
 -- The demands on the grading as one theorem, `demands : Demands` in `proofs/Demands.antt`. Its first fields are what the code promises, for
 -- every input: of `tally::grade`, and of `hatmuyon_grade`, through which C and Rust call it, that the answer and the whole result buffer
 -- are the `outcome` of the sheet and the buffer; of `mold::grade_mold` and `hatmuyon_grade_mold` the same with `moldOutcome`; of
--- `lines::print_into` that the text is that of `printing`, with `printed` of the input in front. Demands 1 to 3, P9 and P10, the further sheets and the instances speak of `outcome`; the lines of P10 and the printed text of
--- `printed`; the layout of the bytes alone, and P1 to P8 of the rules alone.
+-- `lines::print_into` that the text is that of `printing`, with `printed` of the input in front, and of `mold_lines::print_mold_into` the
+-- same with `moldPrinting` and `moldPrinted`. Demands 1 to 3, P9 and P10, the further sheets and the instances speak of `outcome`; the
+-- lines of P10 and the printed text of `printed`; the layout of the bytes alone, P1 to P8 of the rules alone, and `mold` of mold sheets.
 use Rattle.tally.proofs.grade.Statement as grade
 use Rattle.hatmuyon.proofs.hatmuyon_grade.Statement as hatmuyon_grade
 use Rattle.mold.proofs.grade_mold.Statement as grade_mold
 use Rattle.hatmuyon.proofs.hatmuyon_grade_mold.Statement as hatmuyon_grade_mold
 use Rattle.lines.proofs.print_into.Statement as print_into
+use Rattle.mold_lines.proofs.print_mold_into.Statement as print_mold_into
 use Rattle.answers.specs.Bytes.{PaperLayout}
 use Rattle.answers.specs.Demand1.{Demand1}
 use Rattle.answers.specs.Grounds.{Demand2Grounds, NeverOverfull}
@@ -26,6 +28,7 @@ pub record Demands : Type 2 where
   pub promise-of-grade-mold : {M : Type 1} → grade_mold.statement M
   pub promise-of-hatmuyon-grade-mold : {M : Type 1} → hatmuyon_grade_mold.statement M
   pub promise-of-print-into : {M : Type 1} → print_into.statement M
+  pub promise-of-print-mold-into : {M : Type 1} → print_mold_into.statement M
   -- sizes, offsets and fields, as all the others name them, in the paper's numbers
   pub paper-layout : PaperLayout
   -- any bytes at all are accepted, or refused by a listed number with the place; what happens to the result buffer

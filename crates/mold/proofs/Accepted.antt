@@ -11,7 +11,7 @@ use borrow.Author.Tests.{eqb-true, eqb-false, ltb-true, ltb-false}
 use Rattle.outcome.specs.declared.Answer.{Answer}
 use Rattle.outcome.specs.Outcome.{Outcome, refusal}
 use Rattle.units.specs.Conditions.{pick}
-use Rattle.mold.specs.Refusals.{acceptedAs, checked}
+use Rattle.mold.specs.Refusals.{checked}
 use Rattle.mold.specs.Results.{resultSize, written}
 use Rattle.mold.specs.Outcome.{acceptance, moldOutcome}
 use Rattle.mold.proofs.Checking.{Facts, accepted-facts}

@@ -3,7 +3,6 @@ use Prim.Native.Nat.{ℕ, _*_, _≤_, _<_}
 use mathlib.Core.Path.{_≡_, sym, _∙_, ap, subst⁻¹}
 use mathlib.Core.List.{List, _++_}
 use native.Mathlib.Omega.{arith}
-use lib.Dec.{ltb}
 use lib.ListN.{length, drop}
 use borrow.Author.Tests.{eq-eqb, ne-eqb, lt-ltb, le-ltb}
 use Rattle.outcome.specs.Outcome.{Outcome, refusal}
@@ -13,7 +12,7 @@ use Rattle.mold.specs.Levels.{lastRow}
 use Rattle.mold.specs.Layout.{levelRow, offset}
 use Rattle.mold.specs.Refusals.{checked, acceptedAs}
 use Rattle.mold.specs.Results.{resultSize, written}
-use Rattle.mold.specs.Outcome.{acceptance, moldOutcome}
+use Rattle.mold.specs.Outcome.{moldOutcome}
 use Rattle.mold.proofs.Checking.{Facts, opening-passed, accepted-facts}
 
 module _ (bytes : List ℕ) (answer : Answer) (is : answer ≡ checked bytes) where

@@ -8,7 +8,7 @@ use mathlib.Core.Logic.{_⊎_, inl, inr, ⊎-elim}
 use native.Mathlib.Nat.{sub-zero}
 use native.Mathlib.Numerals.{add-one}
 use native.Mathlib.Omega.{arith}
-use lib.Dec.{ltb, eqb, lit<}
+use lib.Dec.{eqb, lit<}
 use lib.ListN.{length}
 use borrow.Author.Tests.{ltb-false, eqb-true, eqb-false}
 use Rattle.outcome.specs.Outcome.{refusedAs}

@@ -6,6 +6,7 @@ use Rattle.mold_demands.proofs.MoldGrounds.{mold-refusals}
 use Rattle.mold_demands.proofs.MoldRecords.{mold-graded}
 use Rattle.mold_demands.proofs.MoldLargest.{mold-largest-form}
 use Rattle.mold_demands.proofs.MoldSheets.{mold-sheets}
+use Rattle.mold_demands.proofs.MoldText.{mold-text}
 
 pub mold-demands : MoldDemands
 mold-demands =
@@ -16,4 +17,5 @@ mold-demands =
       graded = mold-graded;
       largest-form = mold-largest-form;
       sheets = mold-sheets;
+      text = mold-text;
     }

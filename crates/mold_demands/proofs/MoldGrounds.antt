@@ -1,10 +1,10 @@
 -- The grounds of mold sheets: the answer is the first row met, and acceptance is that none is. Each row is told by its test; the rows
 -- behind 6 know the mark.
 use Prim.Native.Nat.{ℕ, _+_, _*_, _≤_, _<_}
-use mathlib.Core.Path.{_≡_, refl, sym, _∙_, ap, subst, subst⁻¹}
-use mathlib.Core.Bool.{Bool, true, false, not, _||_}
+use mathlib.Core.Path.{_≡_, refl, ap, subst, subst⁻¹}
+use mathlib.Core.Bool.{Bool, true, false}
 use mathlib.Core.List.{List}
-use mathlib.Core.Logic.{_⊎_, inl, inr, ⊎-elim}
+use mathlib.Core.Logic.{inl, inr}
 use native.Mathlib.Omega.{arith}
 use lib.Dec.{ltb, leb, eqb, lit<}
 use lib.ListN.{length}
@@ -16,15 +16,14 @@ use Rattle.layout.specs.Layout.{markSize}
 use Rattle.sheet.specs.Refusals.{refusedIf}
 use Rattle.grounds.specs.Grounds.{rowsAbove, FirstRowMet, RefusedByGround}
 use Rattle.grounds.specs.Tells.{Tells}
-use Rattle.grounds.proofs.Tells.{told, tells-lt, tells-le, tells-eq, tells-as, tells-not, tells-or}
+use Rattle.grounds.proofs.Tells.{tells-lt, tells-le, tells-eq, tells-as, tells-not, tells-or}
 use Rattle.grounds.proofs.FirstRow.{First, InRows, first-row, first-past}
 use Rattle.grounds.proofs.Decided.{Computes, opening-refused, record-refused, buffer-refused, none-applies, accepted-by, refused-by}
 use Rattle.mold.specs.Layout.{openingSize, unitSize, fieldsOffset, levelRow, offset, moldUnitAt}
 use Rattle.mold.specs.Refusals.{noOpening, openingRefusal, noUnitMark, unitRefusal, recordRefusal, checked}
 use Rattle.mold.specs.Results.{resultSize}
-use Rattle.mold.specs.Outcome.{moldOutcome}
-use Rattle.mold.proofs.Checking.{Facts, Stops, Says, checked-says}
-use Rattle.mold_demands.specs.MoldGrounds.{NoOpening, LevelAbove, IsMoldUnit, NoUnitMark, UnitCutShort, MoldUnitTooMany, FieldsAbove, FilledByUnits, MoldOpeningRow, row1, row16, MoldRecordRow, row6, row7, row12, row17, MoldBufferRow, row13, moldRows, moldGrounds, MoldRefusals}
+use Rattle.mold.proofs.Checking.{Facts, Says, checked-says}
+use Rattle.mold_demands.specs.MoldGrounds.{NoOpening, LevelAbove, IsMoldUnit, NoUnitMark, FilledByUnits, MoldOpeningRow, row1, row16, MoldRecordRow, row6, row7, row12, row17, MoldBufferRow, row13, moldRows, moldGrounds, MoldRefusals}
 use Rattle.mold.proofs.Accepted.{Case, by-check, without-room, graded, outcome-case}
 
 -- ---- the opening

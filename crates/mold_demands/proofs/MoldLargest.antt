@@ -1,23 +1,20 @@
 -- The first half of demand 3 for mold sheets. From an anchor on no unit fails, so that the CuSums are a run of steps of which none fails:
 -- its end is the 'largest of' form by the law over a run that sheets have too (`run-largest`).
 use Prim.Native.Nat.{ℕ, zero, suc, _+_, _-_, _≤_, _<_}
-use mathlib.Core.Path.{_≡_, refl, sym, _∙_, ap, subst, subst⁻¹}
+use mathlib.Core.Path.{_≡_, refl, sym, _∙_, ap}
 use mathlib.Core.Bool.{Bool, true, false}
-use mathlib.Core.List.{List, [], _∷_, _++_}
+use mathlib.Core.List.{List}
 use native.Mathlib.Nat.{add-zero, add-suc}
 use native.Mathlib.Omega.{arith}
 use lib.Dec.{eqb}
 use lib.IntN.{pos}
 use borrow.Author.Tests.{eqb-true, eqb-false}
-use Rattle.outcome.specs.declared.Answer.{Answer}
 use Rattle.cusum.specs.Step.{fails, newCusum}
 use Rattle.cusum.specs.LargestForm.{anchorValue}
 use Rattle.cusum.proofs.Laws.{failed-at}
 use Rattle.cusum.proofs.Runs.{after, Meets, run-largest, after-snoc, meets-snoc}
 use Rattle.mold.specs.Layout.{moldUnitAt}
 use Rattle.mold.specs.Grading.{numbersOf, tenthsAt, cusumBefore, failsAt}
-use Rattle.mold.specs.Results.{cusumIn}
-use Rattle.mold.specs.Accepted.{MoldAcceptedAs}
 use Rattle.mold_demands.specs.MoldLargest.{MoldAnchor, opening, failure, MoldAnchorAt, tenFieldsFrom, MoldLargestForm}
 use Rattle.mold_demands.proofs.MoldFields.{cusum-read}
 use Rattle.mold_demands.proofs.MoldRecords.{here}

@@ -1,21 +1,20 @@
 -- Demand 2 for mold sheets: what is recorded of a unit is rule 2, from the CuSum recorded for the unit before it. From what is read back
 -- and the laws of the step.
 use Prim.Native.Nat.{ℕ, zero, suc, _+_, _-_, _≤_, _<_, min}
-use mathlib.Core.Path.{_≡_, refl, sym, _∙_, ap, subst⁻¹}
-use mathlib.Core.Bool.{Bool, true, false, cond, true≢false}
+use mathlib.Core.Path.{_≡_, refl, _∙_, subst⁻¹}
+use mathlib.Core.Bool.{Bool, true, false, cond}
 use mathlib.Core.List.{List}
 use native.Mathlib.Omega.{arith}
 use Rattle.outcome.specs.declared.Answer.{Answer}
 use Rattle.cusum.specs.Step.{fails}
 use Rattle.cusum.proofs.Laws.{new-cusum-is, fails-true, fails-false}
-use Rattle.grounds.specs.Tells.{Tells}
 use Rattle.mold.specs.Layout.{moldUnitAt}
 use Rattle.mold.specs.Grading.{numbersOf, tenthsAt, cusumBefore, failsAt}
 use Rattle.mold.specs.Accepted.{MoldAcceptedAs}
 use Rattle.mold.specs.Results.{metIn, cusumIn}
 use Rattle.mold_demands.specs.MoldRecords.{tenFields, oldCusum, MoldRecorded, MoldGraded}
 use Rattle.mold_demands.proofs.MoldFields.{Behind, behind, mark-read, met-read, cusum-read}
-use Rattle.mold.proofs.Accepted.{MoldAccepted, mold-accepted}
+use Rattle.mold.proofs.Accepted.{mold-accepted}
 
 module _ (bytes buffer : List ℕ) (answer : Answer) (results : List ℕ) (graded : MoldAcceptedAs bytes buffer answer results) where
   -- where the record of a unit stands

@@ -4,4 +4,5 @@ pub mod MoldAnswers
 pub mod MoldRecords
 pub mod MoldLargest
 pub mod MoldSheets
+pub mod MoldText
 pub mod MoldDemands

@@ -2,13 +2,11 @@
 use Prim.Native.Nat.{ℕ, zero, suc, _+_, _*_, _≤_, _<_}
 use mathlib.Core.Path.{_≡_}
 use mathlib.Core.List.{List}
-use lib.ListN.{length}
 use Rattle.outcome.specs.declared.Answer.{Answer}
 use Rattle.encoding.specs.Bytes.{byte}
-use Rattle.cusum.specs.declared.PlanNumbers.{PlanNumbers}
 use Rattle.grounds.specs.Tells.{Tells}
 use Rattle.mold.specs.Layout.{fieldsOffset, offset}
-use Rattle.mold.specs.Grading.{numbersOf, cusumBefore, failsAt}
+use Rattle.mold.specs.Grading.{numbersOf, failsAt}
 use Rattle.mold.specs.Results.{markIn, metIn, cusumIn}
 use Rattle.mold.specs.Accepted.{MoldAcceptedAs}
 

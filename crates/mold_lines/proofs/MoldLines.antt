@@ -2,19 +2,19 @@
 -- laws of a text.
 use Prim.Native.Nat.{ℕ, _+_, _-_, _*_, _/_, _^_, _<_, _≤_}
 use mathlib.Core.Path.{_≡_, sym, _∙_, ap}
-use mathlib.Core.List.{List, _++_}
+use mathlib.Core.List.{List}
 use native.Mathlib.Omega.{arith}
-use lib.ListN.{length, drop, length-append, length-drop, length-replicate}
+use lib.ListN.{length, length-append, length-drop, length-replicate}
 use Rattle.outcome.specs.declared.Answer.{Answer}
 use Rattle.outcome.specs.Outcome.{Outcome}
 use Rattle.encoding.specs.Bytes.{byte}
 use Rattle.sheet.specs.Refusals.{mostUnits}
 use Rattle.text.specs.Text.{decimal, oneDecimal, restOfLine, lineWith, linesBy, refusedLine, textBy, largestInput, tooMuchInput, Printing}
-use Rattle.text.specs.Wrote.{wordSize, numberSize, cusumSize}
+use Rattle.text.specs.Wrote.{wordSize, numberSize}
 use Rattle.text.proofs.Decimals.{length-decimal, length-tenths}
 use Rattle.text.proofs.Printed.{printed-too-much, printed-within, text-accepted, text-refused, text-inside}
 use Rattle.mold.specs.Layout.{codeOffset, offset, moldUnitAt, unitIn}
-use Rattle.mold.specs.Results.{cusumOffset, resultSize, cusumIn, written}
+use Rattle.mold.specs.Results.{cusumOffset, resultSize, cusumIn}
 use Rattle.mold.specs.Outcome.{moldOutcome}
 use Rattle.mold.proofs.Accepted.{mold-accepted}
 use Rattle.mold.proofs.Written.{length-written}
@@ -70,8 +70,7 @@ module _ (input : List ℕ) (answer : Answer) (results : List ℕ)
   mold-inside accepted =
       let sheet = mold-accepted input emptyMoldResults answer results (record { promise = promise; accepted = accepted }) in
       let size : length results ≡ length emptyMoldResults
-      = ap length (sheet .filled) ∙ simp (length-append, length-drop, length-written input (answer .units)) (omega (arith, sheet .room)) in
-      (
+      = ap length (sheet .filled) ∙ simp (length-append, length-drop, length-written input (answer .units)) (omega (arith, sheet .room)) in (
         omega (arith, sheet .facts .end),
         omega (arith, size, sheet .room),
         omega (arith, sheet .room, length-replicate {A = ℕ} (resultSize * mostUnits) 0),

@@ -65,15 +65,17 @@ module _ (bytes : List ℕ) where
       ))
       (λ stop inside refused within. (
         refused,
-        inr (passed,
-        record {
-          stop = stop;
-          inside = inside;
-          at-offset = refl;
-          refusal = refl;
-          refused = refused;
-          earlier = λ j before. within j before .1;
-        }),
+        inr (
+          passed,
+          record {
+            stop = stop;
+            inside = inside;
+            at-offset = refl;
+            refusal = refl;
+            refused = refused;
+            earlier = λ j before. within j before .1;
+          },
+        ),
       ))
       (plan-whole bytes passed)
 

@@ -1,14 +1,12 @@
 -- How a loop over the records follows `checkFrom`: what it knows at a place, and what each of its ways out answers.
 -- From one step of `checkFrom`; the length of the sheet is enough, as a record has two bytes or more.
-use Prim.Native.Nat.{ℕ, zero, suc, _+_, _-_, _≤_, _<_}
+use Prim.Native.Nat.{ℕ, suc, _+_, _-_, _≤_, _<_}
 use mathlib.Core.Path.{_≡_, refl, sym, _∙_, ap, ap₂, subst⁻¹}
 use mathlib.Core.List.{List}
 use native.Mathlib.Nat.{sub-zero}
 use native.Mathlib.Omega.{arith}
 use native.Mathlib.Numerals.{add-one}
 use lib.ListN.{length}
-use borrow.Author.Tests.{le-leb, lt-leb, eq-eqb, ne-eqb}
-use Rattle.units.specs.Conditions.{pick}
 use Rattle.encoding.specs.Bytes.{byte}
 use Rattle.units.specs.Records.{designatedBy}
 use Rattle.layout.specs.Layout.{markSize, gradeOffset, planSize, planOf, markAt, sizeOf, entryOf, entryAt, offset, unitsBefore}
@@ -16,7 +14,7 @@ use Rattle.layout.specs.Walk.{firstPlace, placeAt, placeAfter, Walk, largestOff
 use Rattle.layout.specs.declared.Mark.{Mark}
 use Rattle.layout.specs.declared.Mark.the-variants.{NoMark}
 use Rattle.layout.specs.declared.Place.{Place}
-use Rattle.layout.proofs.Offsets.{size-ge, offset-ge, short-mark}
+use Rattle.layout.proofs.Offsets.{size-ge, short-mark}
 use Rattle.layout.proofs.Walk.{walk-first, walk-longer, at-is, units-are, whole-here, next-place, room-past}
 use Rattle.sheet.specs.Refusals.{refusalBy, designatedBefore, recordRefusal, checkFrom}
 use Rattle.sheet.specs.declared.Verdict.the-variants.{Accepted, Refused}

@@ -1,8 +1,8 @@
 -- What is printed in each case of an input: too long, accepted, refused; how long a refusal is; and a text that stands first in the
 -- caller's. From the definitions, by what each test says.
 use Prim.Native.Nat.{ℕ, _+_, _*_, _^_, _<_, _≤_}
-use mathlib.Core.Path.{_≡_, _∙_, ap}
-use mathlib.Core.List.{List}
+use mathlib.Core.Path.{_≡_, refl, ap}
+use mathlib.Core.List.{List, _++_, append-assoc}
 use native.Mathlib.Nat.{zero-add}
 use native.Mathlib.Omega.{arith}
 use borrow.Author.Tests.{lt-ltb, le-ltb, eq-eqb, ne-eqb}
@@ -10,7 +10,7 @@ use lib.ListN.{length, drop, length-append}
 use lib.Seq.{sets-eq}
 use Rattle.outcome.specs.declared.Answer.{Answer}
 use Rattle.text.specs.Ascii.{ascii}
-use Rattle.text.specs.Text.{decimal, restOfLine, lineWith, linesBy, refusedLine, textBy, largestInput, tooMuchInput, printedBy, Printing, leaving}
+use Rattle.text.specs.Text.{digits, decimal, restOfLine, lineWith, linesBy, refusedLine, textBy, largestInput, tooMuchInput, printedBy, Printing, leaving}
 use Rattle.text.specs.Wrote.{Wrote, wordSize}
 use Rattle.text.proofs.Decimals.{length-decimal}
 
@@ -41,6 +41,14 @@ pub length-refusal : (number offset : ℕ)
     ≡ length (ascii "refused") + (1 + length (decimal number)) + (1 + length (decimal offset)) + 1
 unfolding refusedLine lineWith restOfLine
 length-refusal number offset = simp length-append (omega arith)
+
+pub refused-line : (number offset : ℕ) → refusedLine number offset ≡ ascii "refused " ++ decimal number ++ ascii " " ++ decimal offset ++ ascii "\n"
+unfolding restOfLine lineWith refusedLine
+refused-line number offset = simp append-assoc
+
+pub too-much-line : refusedLine tooMuchInput largestInput ≡ ascii "refused 15 65536\n"
+unfolding digits decimal restOfLine lineWith refusedLine
+too-much-line = refl
 
 -- no refusal is longer: the word, and two numbers of 64 bits
 pub short-refusal : (number offset : ℕ) → number < 10 ^ wordSize → offset < 10 ^ wordSize

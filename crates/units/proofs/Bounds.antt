@@ -1,6 +1,6 @@
 -- Bounds of what one unit has and gets: a count of a class goes by those of the kinds, a CuSum is at most its L, an overshoot at most
 -- the unit's own defects, and a defect grade at most Substandard. By cases on the tests, and on the class.
-use Prim.Native.Nat.{ℕ, zero, suc, _+_, _≤_}
+use Prim.Native.Nat.{ℕ, zero, suc, _≤_}
 use mathlib.Core.Path.{_≡_, refl}
 use mathlib.Core.Bool.{Bool, true, false, cond, _&&_}
 use mathlib.Core.List.{List}

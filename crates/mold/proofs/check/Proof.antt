@@ -1,7 +1,6 @@
 -- The refusal of the opening, else what its records come to.
-use mathlib.Core.Path.{sym, _∙_, ap}
+use mathlib.Core.Path.{sym, _∙_}
 use borrow.Author.Tests.{eq-eqb, ne-eqb}
-use Rattle.outcome.specs.Outcome.{refusedAs}
 use Rattle.units.specs.Conditions.{pick}
 use Rattle.mold.specs.Refusals.{checked}
 use Rattle.mold.proofs.Checking.{opening-passed}

@@ -3,7 +3,6 @@ use Prim.Native.Nat.{ℕ}
 use mathlib.Core.Path.{_∙_, ap}
 use mathlib.Core.List.{List}
 use native.Mathlib.Omega.{arith}
-use Rattle.outcome.specs.Outcome.{Outcome}
 use Rattle.outcome.specs.declared.Answer.{Answer}
 use Rattle.mold.proofs.Cases.{outcome-refused, passed-whole, outcome-short, outcome-graded}
 use borrow.Author.Needs.{needs}

@@ -1,15 +1,12 @@
 -- The loop's invariant: the records of the units before this one stand at the front of the buffer, and the CuSum is the one before it.
 use Prim.Native.Nat.{ℕ, _*_, _-_, _≤_}
-use mathlib.Core.Path.{_≡_, refl, sym, _∙_, ap, ap₂}
+use mathlib.Core.Path.{_≡_, refl, _∙_, ap}
 use mathlib.Core.List.{_++_}
-use native.Mathlib.Numerals.{add-one}
 use native.Mathlib.Omega.{arith}
 use lib.ListN.{length, drop}
-use Rattle.cusum.specs.Step.{startOf, stepOf}
-use Rattle.cusum.specs.declared.Cusum.{Cusum}
+use Rattle.cusum.specs.Step.{startOf}
 use Rattle.cusum.specs.declared.PlanNumbers.{PlanNumbers}
-use Rattle.cusum.specs.declared.Stepped.{Stepped}
-use Rattle.mold.specs.Grading.{numbersOf, tenthsAt, cusumBefore}
+use Rattle.mold.specs.Grading.{numbersOf, cusumBefore}
 use Rattle.mold.specs.Results.{resultSize, written}
 use Rattle.mold.proofs.Written.{stepAt, next-cusum, one-more}
 use borrow.Author.Needs.{needs}

@@ -1,5 +1,4 @@
 -- Its three parts, one behind the other; the room for each by the length of the line.
-use Prim.Native.Nat.{ℕ}
 use mathlib.Core.Path.{ap}
 use native.Mathlib.Omega.{arith}
 use borrow.Author.Needs.{needs}
@@ -44,11 +43,16 @@ result-fields-requires c κs =
     let read = number .before .before .before .before .before .before in
     let entry = read .before .before .before .before in
     let args = entry .args in
-    let code-length = ap (λ (unit : MoldUnit). length (decimal (unit .code))) (read .mold-unit-at .ensures) in
-    (
+    let code-length = ap (λ (unit : MoldUnit). length (decimal (unit .code))) (read .mold-unit-at .ensures) in (
       entry .pre .1,
-      omega (arith, length-line (args .sheet .now) (args .results .now) (args .j), code-length, number .number-field .ensures .ends,
-      number .before .before .before .before .decimal .ensures .ends, entry .pre .2),
+      omega (
+        arith,
+        length-line (args .sheet .now) (args .results .now) (args .j),
+        code-length,
+        number .number-field .ensures .ends,
+        number .before .before .before .before .decimal .ensures .ends,
+        entry .pre .2,
+      ),
     )
 
 same-length : tie.Need-same-length
