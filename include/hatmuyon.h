@@ -117,8 +117,10 @@ enum hatmuyon_standing {
  *   T                         1    2    3    3    5    6
  *   L                         1    3    2    3    2    3
  *
- * The CuSum steps as that of a class on a tally sheet, with the positive fields as the count. A
- * unit meets or fails; there is no lower grade and no step 3.
+ * The CuSum begins at S. The raw value of a unit is the old CuSum + its positive fields - T. If it is
+ * above L, the unit fails and the CuSum becomes L; if it is below zero, the CuSum becomes 0; otherwise
+ * it is the CuSum. All are kept in tenths: a field is ten. A unit meets or fails; there is no lower
+ * grade and no step 3.
  */
 
 #define HATMUYON_MOLD_SHEET_MARK 0x4D44
@@ -129,7 +131,7 @@ enum hatmuyon_standing {
 #define HATMUYON_MOLD_UNIT_SIZE 5
 #define HATMUYON_MOLD_RESULT_SIZE 5
 
-/* The level rows, from 0 on, and the fields to a count. A mold sheet has at most HATMUYON_MOST_UNITS
+/* How many level rows there are, from 0 on, and how many fields are counted. A mold sheet has at most HATMUYON_MOST_UNITS
  * units, too: a result buffer for any has HATMUYON_MOLD_RESULT_SIZE * HATMUYON_MOST_UNITS bytes. */
 #define HATMUYON_MOLD_LEVELS 6
 #define HATMUYON_MOST_POSITIVE_FIELDS 25

@@ -41,8 +41,8 @@
 //! ```
 //!
 //! [`grade_mold`] does the same with a mold sheet, which counts positive fields. They and defects are
-//! never to be added or compared: the records, refusals and grounds of the two sheets are of types
-//! apart, and so are the counts, `u8` and `u16`.
+//! never to be added or compared, and neither are their CuSums; records, refusals and grounds of the
+//! two sheets are of types apart.
 //!
 //! The grading itself is the proved library `libhatmuyon.a`, which `rt staticlib hatmuyon` writes
 //! (x86-64). The build links it from target/staticlib of the repository, or from the folder that

@@ -20,15 +20,8 @@ pub const MOLD_RESULT_SIZE: usize = 5;
 
 /// The number of level rows, which begin at 0.
 pub const MOLD_LEVELS: u8 = 6;
-/// The most positive fields of a sample unit, which is all the fields to a count.
-///
-/// A count of positive fields has another type than one of defects, as the two must never be added or
-/// compared:
-///
-/// ```compile_fail,E0308
-/// # use hatmuyon::{LARGEST_COUNT, MOST_POSITIVE_FIELDS};
-/// assert!(MOST_POSITIVE_FIELDS < LARGEST_COUNT);
-/// ```
+/// The most positive fields of a sample unit: so many are counted. A count of them is never to be added
+/// to one of defects, or compared with it.
 pub const MOST_POSITIVE_FIELDS: u8 = 25;
 
 /// Grades a mold sheet into a result buffer: one result record of [`MOLD_RESULT_SIZE`] bytes for each

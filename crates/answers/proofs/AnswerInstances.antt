@@ -15,7 +15,9 @@ use Rattle.outcome.specs.declared.Answer.{Answer}
 use Rattle.outcome.specs.Outcome.{Outcome}
 use Rattle.tally.specs.Outcome.{outcome}
 use Rattle.tally.specs.Accepted.{AcceptedAs}
-use Rattle.answers.specs.Demand1.{StoppedAt, Listed}
+use Rattle.sheet.specs.Refusals.{recordRefusal}
+use Rattle.grounds.specs.Answered.{StoppedAt}
+use Rattle.answers.specs.Demand1.{Listed}
 use Rattle.computed.specs.WorkedCases.{peachPlan, peach, peachResults}
 use Rattle.computed.specs.FurtherSheets.{grounds8And9, ground11ByLastRedesignation}
 use Rattle.answers.proofs.Listed.{demand1}
@@ -35,7 +37,8 @@ unfolding computing peachPlan ground11ByLastRedesignation
 third-offset = refl
 
 -- by its number the answer is that of a refused record
-stopped : Listed ground11ByLastRedesignation refusedAnswer → StoppedAt ground11ByLastRedesignation 11 95
+stopped : Listed ground11ByLastRedesignation refusedAnswer
+    → StoppedAt (offset ground11ByLastRedesignation) (recordRefusal ground11ByLastRedesignation) (length ground11ByLastRedesignation) 11 95
 unfolding Listed
 stopped listed =
     ⊎-elim (λ (none, at). absurd (omega arith))

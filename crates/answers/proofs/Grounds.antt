@@ -102,7 +102,7 @@ module _ (bytes buffer : List ℕ) where
   judged-by (Refused number at) (refused, inr (passed, stops)) =
       refused-here number at refused
       (subst⁻¹ (FirstRowMet (sheetGrounds bytes buffer) number) (stops .at-offset)
-      (record-refused _ 5 12 _ _ computes number (stops .stop) passed (stops .inside) (stops .refusal) refused (stops .earlier)))
+      (record-refused _ 5 12 _ _ computes number (stops .stop) passed (stops .inside) (stops .refused-by) refused (stops .earlier)))
   judged-by (Accepted records units) (facts, counted) =
       go (ltb (length buffer) (resultSize * units)) refl (overfullBefore (sheetOf bytes records) records) refl
     where

@@ -14,28 +14,18 @@ use Rattle.recording.specs.Sheet.{sheetOf}
 use Rattle.sheet.specs.Refusals.{verdict}
 use Rattle.sheet.specs.declared.Verdict.{Verdict}
 use Rattle.sheet.specs.declared.Verdict.the-variants.{Accepted, Refused}
-use Rattle.sheet.proofs.Accepted.{Stops}
 use Rattle.sheet.proofs.Listed.{refusal-listed}
+use Rattle.grounds.proofs.Answered.{stopped}
 use Rattle.results.specs.Record.{resultSize}
 use Rattle.outcome.specs.Outcome.{Outcome, refusal}
 use Rattle.tally.specs.Outcome.{overfullBefore, acceptance, outcomeBy, outcome}
-use Rattle.answers.specs.Demand1.{StoppedAt, Listed, Demand1}
+use Rattle.answers.specs.Demand1.{Listed, Demand1}
 use Rattle.tally.proofs.AcceptedSheet.{accepted-sheet, refused-untouched, rest-untouched}
-
-stopped : {bytes : List ℕ} {number at : ℕ} → Stops bytes number at → StoppedAt bytes number at
-stopped {bytes} stops =
-    record {
-      stop = stops .stop;
-      at-mark = stops .at-offset;
-      inside = subst⁻¹ (λ (place : ℕ). place < length bytes) (stops .at-offset) (stops .inside);
-      refusal = stops .refusal;
-      earlier = stops .earlier;
-    }
 
 listed-by : (bytes buffer : List ℕ) (v : Verdict) → verdict bytes ≡ v → Listed bytes (outcomeBy bytes buffer v .answer)
 unfolding outcomeBy acceptance pick Listed
 listed-by bytes buffer (Refused number at) says =
-    ⊎-elim (λ of-plan. inr (inl of-plan)) (λ (from, to, stops). inr (inr (inl (from, to, stopped stops)))) (refusal-listed bytes number at says)
+    ⊎-elim (λ of-plan. inr (inl of-plan)) (λ (from, to, stops). inr (inr (inl (from, to, stopped _ _ _ _ _ stops)))) (refusal-listed bytes number at says)
 listed-by bytes buffer (Accepted records units) says =
     go (ltb (length buffer) (resultSize * units)) (overfullBefore (sheetOf bytes records) records)
   where

@@ -8,19 +8,11 @@ use mathlib.Core.Logic.{_⊎_}
 use lib.ListN.{length}
 use Rattle.layout.specs.Layout.{offset, unitsBefore}
 use Rattle.sheet.specs.Refusals.{planRefusal, recordRefusal}
-use Rattle.grounds.specs.Answered.{AnswerAndBuffer}
+use Rattle.grounds.specs.Answered.{StoppedAt, AnswerAndBuffer}
 use Rattle.results.specs.Record.{resultSize}
 use Rattle.outcome.specs.declared.Answer.{Answer}
 use Rattle.outcome.specs.Outcome.{Outcome}
 use Rattle.tally.specs.Outcome.{outcome, recordsIn}
-
--- a record is refused: by its number, at the offset of its mark, and no record before it is
-pub record StoppedAt (bytes : List ℕ) (number at : ℕ) : Type 0 where
-  pub stop : ℕ
-  pub at-mark : at ≡ offset bytes stop
-  pub inside : at < length bytes
-  pub refusal : number ≡ recordRefusal bytes stop
-  pub earlier : (j : ℕ) → j < stop → recordRefusal bytes j ≡ 0
 
 -- accepted: 0 and the sheet's length. Refused: 1 to 5 for the plan, at offset 0; 6 to 12 for a record, at its mark; 13 or 14 for the
 -- result buffer, at the sheet's length
@@ -28,7 +20,7 @@ unfoldable pub Listed : List ℕ → Answer → Type 0
 Listed bytes answer =
     ((answer .number ≡ 0) × (answer .offset ≡ length bytes))
     ⊎ (((1 ≤ answer .number) × (answer .number ≤ 5) × (answer .number ≡ planRefusal bytes) × (answer .offset ≡ 0))
-    ⊎ (((6 ≤ answer .number) × (answer .number ≤ 12) × StoppedAt bytes (answer .number) (answer .offset))
+    ⊎ (((6 ≤ answer .number) × (answer .number ≤ 12) × StoppedAt (offset bytes) (recordRefusal bytes) (length bytes) (answer .number) (answer .offset))
     ⊎ ((13 ≤ answer .number) × (answer .number ≤ 14) × (answer .offset ≡ length bytes))))
 
 -- for every sheet and every buffer, as the promise of `grade` says

@@ -16,7 +16,7 @@ abbrev pub Graded : List ℕ → ℕ → ℕ → List ℕ → Type 0
 Graded = GradedBy outcome resultSize
 
 abbrev pub RefusedWith : ℕ → List ℕ → ℕ → Type 0
-RefusedWith = RefusedBy outcome resultSize
+RefusedWith = RefusedBy outcome
 
 abbrev pub WithoutRoom : ℕ → List ℕ → ℕ → ℕ → Type 0
 WithoutRoom = WithoutRoomBy outcome resultSize

@@ -9,7 +9,7 @@ use lib.IntN.{ℤ, pos, negsuc, _+ℤ_, _-ℤ_}
 use borrow.Author.Tests.{ltb-true, ltb-false, lt-ltb, le-ltb}
 use Rattle.cusum.specs.Integers.{maxℤ}
 use Rattle.cusum.specs.Step.{rawValue, aboveLimit, cusumOf, overshootOf, fails, newCusum, overshoot, stepOf}
-use Rattle.cusum.specs.LargestForm.{defectsLessT}
+use Rattle.cusum.specs.LargestForm.{tenthsLessT}
 use Rattle.cusum.specs.declared.PlanNumbers.{PlanNumbers}
 use Rattle.cusum.specs.declared.Cusum.{Cusum}
 use Rattle.cusum.proofs.Integers.{up, down, eq-of, plus-is, less-is, difference-is, up-max, down-max, one-side}
@@ -77,8 +77,8 @@ pub failed-at : (l : PlanNumbers) (o c : ℕ) → fails l o c ≡ true → newCu
 failed-at l o c e = omega (arith, new-cusum-is l o c, fails-true l o c e)
 
 -- a class that meets: the larger of zero and the raw value
-pub met-at : (l : PlanNumbers) (o c : ℕ) → fails l o c ≡ false → pos (newCusum l o c) ≡ maxℤ (pos 0) (pos o +ℤ defectsLessT l c)
-unfolding defectsLessT up down
+pub met-at : (l : PlanNumbers) (o c : ℕ) → fails l o c ≡ false → pos (newCusum l o c) ≡ maxℤ (pos 0) (pos o +ℤ tenthsLessT l c)
+unfolding tenthsLessT up down
 met-at l o c e =
     let d = pos c -ℤ pos (l .tolerance) in
     let x = pos o +ℤ d in

@@ -8,7 +8,7 @@ use native.Mathlib.Omega.{arith}
 use lib.IntN.{ℤ, pos, _+ℤ_}
 use Rattle.cusum.specs.Integers.{maxℤ, largestOfZeroAnd, sumℤ, runsToEnd}
 use Rattle.cusum.specs.Step.{fails, newCusum}
-use Rattle.cusum.specs.LargestForm.{defectsLessT, largestForm}
+use Rattle.cusum.specs.LargestForm.{tenthsLessT, largestForm}
 use Rattle.cusum.specs.declared.PlanNumbers.{PlanNumbers}
 use Rattle.cusum.proofs.Integers.{unroll}
 use Rattle.cusum.proofs.Laws.{met-at, new-cusum-le-limit}
@@ -28,8 +28,8 @@ unfolding after Meets largestForm sumℤ largestOfZeroAnd runsToEnd
 run-largest l a [] m = ap pos (omega arith)
 run-largest l a (c ∷ cs) m =
     run-largest l (newCusum l a c) cs (m .1)
-    ∙ ap (λ (x : ℤ). maxℤ (x +ℤ sumℤ (map (defectsLessT l) cs)) (largestOfZeroAnd (map sumℤ (runsToEnd (map (defectsLessT l) cs))))) (met-at l a c (m .0))
-    ∙ unroll a (defectsLessT l c) (map (defectsLessT l) cs)
+    ∙ ap (λ (x : ℤ). maxℤ (x +ℤ sumℤ (map (tenthsLessT l) cs)) (largestOfZeroAnd (map sumℤ (runsToEnd (map (tenthsLessT l) cs))))) (met-at l a c (m .0))
+    ∙ unroll a (tenthsLessT l c) (map (tenthsLessT l) cs)
 
 -- it is at most L, if the anchor is
 pub after-le-limit : (l : PlanNumbers) (a : ℕ) (cs : List ℕ) → a ≤ l .limit → after l a cs ≤ l .limit

@@ -6,15 +6,15 @@ use lib.IntN.{ℤ, pos, _+ℤ_, _-ℤ_}
 use Rattle.cusum.specs.Integers.{largestOfZeroAnd, sumℤ, runsToEnd}
 use Rattle.cusum.specs.declared.PlanNumbers.{PlanNumbers}
 
--- defects less T at a unit: ten times the class's count, minus T
-unfoldable pub defectsLessT : PlanNumbers → ℕ → ℤ
-defectsLessT numbers tenths = pos tenths -ℤ pos (numbers .tolerance)
+-- defects less T at a unit: ten times the class's count, minus T (of a mold unit ten times its positive fields, minus T)
+unfoldable pub tenthsLessT : PlanNumbers → ℕ → ℤ
+tenthsLessT numbers tenths = pos tenths -ℤ pos (numbers .tolerance)
 
 -- the largest of zero, the anchor plus the sum of defects less T since it, and every such sum, without the anchor, over a run of
 -- units that starts after the anchor and ends with the last
 unfoldable pub largestForm : PlanNumbers → ℕ → List ℕ → ℤ
 largestForm numbers anchor tenths =
-    let since = map (defectsLessT numbers) tenths in
+    let since = map (tenthsLessT numbers) tenths in
     largestOfZeroAnd ((pos anchor +ℤ sumℤ since) ∷ map sumℤ (runsToEnd since))
 
 -- the anchor is L at a failure, else S

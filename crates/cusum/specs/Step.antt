@@ -15,7 +15,7 @@ largestTenths = 65535
 abbrev pub startOf : PlanNumbers → Cusum
 startOf numbers = record { tenths = numbers .start }
 
--- raw value = old CuSum + ten times the count - T
+-- raw value = old CuSum + ten times the count - T; the ten is in already
 unfoldable pub rawValue : PlanNumbers → ℕ → ℕ → ℤ
 rawValue numbers old tenths = pos (old + tenths) -ℤ pos (numbers .tolerance)
 

@@ -7,8 +7,8 @@ ghost use Rattle.cusum.specs.Step.{startOf, stepOf};
 // A count of defects.
 pub struct Defects(pub u16);
 
-// A count of defective fields. A defective field is one however many defects it holds, so that the two counts are never added or
-// compared: no function takes one for the other.
+// A count of defective fields, which are those that are positive for mold. A defective field is one however many defects it holds, so that
+// the two counts are never added or compared: no function takes one for the other, and only in tenths do both go through rule 2.
 pub struct DefectiveFields(pub u8);
 
 // S (start), T (tolerance) and L (acceptance limit) of a class in a plan, in tenths.

@@ -18,7 +18,7 @@ use Rattle.units.proofs.Lists.{all-each}
 use Rattle.units.proofs.Tests.{and-both}
 use Rattle.rules.specs.Sheet.{inForceAt}
 use Rattle.rules.specs.TwoInARow.{secondInARow}
-use Rattle.rules.specs.Anchor.{countsFrom, Anchor, Latest}
+use Rattle.rules.specs.Anchor.{tenthsFrom, Anchor, Latest}
 use Rattle.layout.specs.Layout.{unitsIn, mark}
 use Rattle.layout.specs.declared.Mark.{Mark}
 use Rattle.layout.specs.declared.Mark.the-variants.{UnitMark, RedesignationMark, BreakMark, NoMark}
@@ -222,7 +222,7 @@ module _ (bytes results : List ℕ) (units : ℕ) (answer : Answer)
   pub number-recorded : (i class from : ℕ) (at-failure : Bool) (counts : List ℕ) (tenths : ℕ)
       → plannedTest i ≡ true → class < length classes → from + length counts ≡ suc i
       → Anchor (sheetIn bytes) class i from at-failure → Latest (sheetIn bytes) class i from
-      → countsFrom (sheetIn bytes) class from (length counts) ≡ counts
+      → tenthsFrom (sheetIn bytes) class from (length counts) ≡ counts
       → largestForm (numbersInForce bytes i class) (anchorValue (numbersInForce bytes i class) at-failure) counts ≡ pos tenths
       → (buffer : List ℕ) → resultSize * units ≤ length buffer
       → LargestNumber bytes (left results units buffer) i class from at-failure counts tenths

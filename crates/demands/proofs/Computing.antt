@@ -1,15 +1,15 @@
 -- What it takes to compute with the words of demand 3 and the definitions below them: `unfolding computing` opens them all.
 use Prim.Native.Nat.{ℕ}
 use Rattle.cusum.specs.Integers.{largestOfZeroAnd, sumℤ, runsToEnd}
-use Rattle.cusum.specs.LargestForm.{defectsLessT, largestForm, anchorValue}
+use Rattle.cusum.specs.LargestForm.{tenthsLessT, largestForm, anchorValue}
 use Rattle.encoding.specs.Bytes.{wideNumber}
 use Rattle.rules.specs.TwoInARow.{failsDesignated, unitFailsAt, unitFailsBefore, secondInARow}
 use Rattle.rules.specs.ThreeInARow.{recordQualifies, unitQualifiesAt, thirdInARow}
-use Rattle.rules.specs.Anchor.{failsAt, countAt, restartBy, restartAt, classFailsAt, countsFrom}
+use Rattle.rules.specs.Anchor.{failsAt, tenthsAt, restartBy, restartAt, classFailsAt, tenthsFrom}
 use Rattle.tally.specs.Accepted.{sheetIn}
 use Rattle.tally.proofs.Computing as tally
 
 unfoldable pub computing : ℕ
-unfolding tally.computing wideNumber largestOfZeroAnd sumℤ runsToEnd defectsLessT largestForm failsDesignated unitFailsAt unitFailsBefore
-    secondInARow recordQualifies unitQualifiesAt thirdInARow failsAt countAt restartBy restartAt classFailsAt countsFrom anchorValue sheetIn
+unfolding tally.computing wideNumber largestOfZeroAnd sumℤ runsToEnd tenthsLessT largestForm failsDesignated unitFailsAt unitFailsBefore
+    secondInARow recordQualifies unitQualifiesAt thirdInARow failsAt tenthsAt restartBy restartAt classFailsAt tenthsFrom anchorValue sheetIn
 computing = 0

@@ -13,7 +13,7 @@ use Rattle.cusum.specs.Step.{fails}
 use Rattle.cusum.specs.declared.Cusum.{Cusum}
 use Rattle.cusum.proofs.Laws.{fails-true, fails-false}
 use Rattle.encoding.specs.Bytes.{number}
-use Rattle.units.specs.Words.{substandard, classes, hasPlan, numbersOf, tenthsOf, countIn, tenthsIn}
+use Rattle.units.specs.Words.{substandard, classes, hasPlan, numbersOf, tenthsOf, countTenths, tenthsIn}
 use Rattle.units.specs.Unit.{classFails, classCusum, classOvershoot, unitFails, allZero, noneAbove, withinTolerance, qualifies}
 use Rattle.units.specs.declared.SampleUnit.{SampleUnit}
 use Rattle.units.specs.declared.Entry.{Entry}
@@ -22,8 +22,8 @@ use Rattle.rules.specs.StepThree.{inStepThree, inForceIn, qualifiesWith}
 use Rattle.rules.specs.Sheet.{Sheet, before, designatedAt, inForceAt, gradedAt}
 use Rattle.rules.specs.TwoInARow.{failsDesignated, unitFailsAt, unitFailsBefore, secondInARow}
 use Rattle.rules.specs.ThreeInARow.{recordQualifies, unitQualifiesAt, thirdInARow}
-use Rattle.rules.specs.Anchor.{failsAt, countAt, classFailsAt, restartBy, restartAt, countsFrom}
-use Rattle.rules.proofs.Anchors.{counts-of-one}
+use Rattle.rules.specs.Anchor.{failsAt, tenthsAt, classFailsAt, restartBy, restartAt, tenthsFrom}
+use Rattle.rules.proofs.Anchors.{tenths-of-one}
 use Rattle.rules.specs.declared.Phase.{Phase}
 use Rattle.rules.specs.declared.Phase.the-variants.{Designated, StepThree}
 use Rattle.layout.specs.Layout.{markSize, sampleUnitAt, offset, mark, entryOf, entryAt, unitsBefore}
@@ -40,7 +40,7 @@ use Rattle.tally.proofs.Entries.{unit-is, designated-before, designated-planned
 use Rattle.tally.proofs.Overfull.{cusum-graded}
 use Rattle.grounds.specs.Tells.{Tells}
 use Rattle.answers.specs.Grounds.{toleranceIn, limitIn, startIn, IsUnit, IsRedesignation, IsBreak, newGrade}
-use Rattle.demands.specs.Course.{Course, classCounts, tenTimes, ClassFails, UnitFails, FailsDesignated, SecondFails, Qualifies, ThreeQualify, ThirdQualifies, KeepsStepThree, Restart, at-break, step-three-begins, step-three-ends, at-redesignation}
+use Rattle.demands.specs.Course.{Course, classCounts, tenTimesCount, ClassFails, UnitFails, FailsDesignated, SecondFails, Qualifies, ThreeQualify, ThirdQualifies, KeepsStepThree, Restart, at-break, step-three-begins, step-three-ends, at-redesignation}
 use Rattle.grounds.proofs.Tells.{told, tells-true, tells-false, tells-lt, tells-le, tells-eq, tells-as, tells-not, tells-and, tells-or, tells-any, tells-all}
 use Rattle.answers.proofs.Rows.{numbers-there, Marked, as-unit, as-redesignation, as-break, as-none, marked, is-unit-mark, is-redesignation-mark, is-break-mark, unit-mark-is}
 
@@ -48,13 +48,13 @@ use Rattle.answers.proofs.Rows.{numbers-there, Marked, as-unit, as-redesignatio
 abbrev pub unitIn : List ℕ → ℕ → SampleUnit
 unitIn bytes i = sampleUnitAt bytes (offset bytes i)
 
-ten-times-each : (counts : List ℕ) (class : ℕ) → countIn (map (λ count. 10 * count) counts) class ≡ 10 * getD counts class 0
+ten-times-each : (counts : List ℕ) (class : ℕ) → countTenths (map (λ count. 10 * count) counts) class ≡ 10 * getD counts class 0
 ten-times-each [] class = refl
 ten-times-each (count ∷ counts) zero = refl
 ten-times-each (count ∷ counts) (suc class) = ten-times-each counts class
 
 -- its count in a class, in tenths, is ten times the one that stands in the bytes
-pub count-is : (bytes : List ℕ) (i class : ℕ) → countIn (tenthsOf (unitIn bytes i)) class ≡ tenTimes bytes i class
+pub count-is : (bytes : List ℕ) (i class : ℕ) → countTenths (tenthsOf (unitIn bytes i)) class ≡ tenTimesCount bytes i class
 unfolding sampleUnitAt
 count-is bytes i class = ten-times-each (classCounts bytes i) class
 
@@ -147,10 +147,10 @@ module _ (bytes : List ℕ) (facts : Facts bytes (recordsIn bytes)) where
   unfolding classFails hasPlan
   tells-class i class known =
       go (ltb (inForceAt sheet i) substandard) refl
-      (fails (numbersOf (sheet .table) (inForceAt sheet i) class) (tenthsIn (before sheet i .cusums) class) (countIn (tenthsOf (unitIn bytes i)) class)) refl
+      (fails (numbersOf (sheet .table) (inForceAt sheet i) class) (tenthsIn (before sheet i .cusums) class) (countTenths (tenthsOf (unitIn bytes i)) class)) refl
     where
       go : (planned : Bool) → ltb (inForceAt sheet i) substandard ≡ planned → (failing : Bool)
-          → fails (numbersOf (sheet .table) (inForceAt sheet i) class) (tenthsIn (before sheet i .cusums) class) (countIn (tenthsOf (unitIn bytes i)) class) ≡ failing
+          → fails (numbersOf (sheet .table) (inForceAt sheet i) class) (tenthsIn (before sheet i .cusums) class) (countTenths (tenthsOf (unitIn bytes i)) class) ≡ failing
           → Tells (planned && failing) (ClassFails bytes course i class)
       go false e failing f =
           record { so = λ never. absurd (false≢true never); not-so = λ _ here. omega (arith, ltb-false (inForceAt sheet i) substandard e, here .planned) }
@@ -228,13 +228,13 @@ module _ (bytes : List ℕ) (facts : Facts bytes (recordsIn bytes)) where
 
   -- ---- counts
 
-  pub counts-of-unit : (i class : ℕ) → UnitAt bytes i → countsFrom sheet class i 1 ≡ tenTimes bytes i class ∷ []
-  unfolding countAt
-  counts-of-unit i class at = counts-of-one sheet class i ∙ ap (countAt class) (unit-here i at) ∙ ap (λ (tenths : ℕ). tenths ∷ []) (count-is bytes i class)
+  pub tenths-of-unit : (i class : ℕ) → UnitAt bytes i → tenthsFrom sheet class i 1 ≡ tenTimesCount bytes i class ∷ []
+  unfolding tenthsAt
+  tenths-of-unit i class at = tenths-of-one sheet class i ∙ ap (tenthsAt class) (unit-here i at) ∙ ap (λ (tenths : ℕ). tenths ∷ []) (count-is bytes i class)
 
-  pub counts-of-other : (i class : ℕ) → (UnitAt bytes i → ⊥) → countsFrom sheet class i 1 ≡ []
-  unfolding countAt
-  counts-of-other i class none = counts-of-one sheet class i ∙ other-entry i none (λ entry. countAt class entry ≡ []) (λ new. refl) refl
+  pub tenths-of-other : (i class : ℕ) → (UnitAt bytes i → ⊥) → tenthsFrom sheet class i 1 ≡ []
+  unfolding tenthsAt
+  tenths-of-other i class none = tenths-of-one sheet class i ∙ other-entry i none (λ entry. tenthsAt class entry ≡ []) (λ new. refl) refl
 
   -- ---- qualifying
 
@@ -245,13 +245,13 @@ module _ (bytes : List ℕ) (facts : Facts bytes (recordsIn bytes)) where
       (tells-eq (course .newCusum i class) 0)
 
   within-tells : (i class : ℕ) → class < length classes
-      → Tells (leb (countIn (tenthsOf (unitIn bytes i)) class) (numbersOf (sheet .table) (designatedAt sheet i) class .tolerance))
-      (tenTimes bytes i class ≤ toleranceIn bytes (designatedBefore bytes i) class)
+      → Tells (leb (countTenths (tenthsOf (unitIn bytes i)) class) (numbersOf (sheet .table) (designatedAt sheet i) class .tolerance))
+      (tenTimesCount bytes i class ≤ toleranceIn bytes (designatedBefore bytes i) class)
   within-tells i class known =
       let (start, tolerance, limit) = numbers-in (designatedAt sheet i) class (designated-lt i) known in
       let same : numbersOf (sheet .table) (designatedAt sheet i) class .tolerance ≡ toleranceIn bytes (designatedBefore bytes i) class
       = tolerance ∙ ap (λ (grade : ℕ). toleranceIn bytes grade class) (designated-is i) in
-      rw (same, count-is bytes i class) (tells-le (tenTimes bytes i class) (toleranceIn bytes (designatedBefore bytes i) class))
+      rw (same, count-is bytes i class) (tells-le (tenTimesCount bytes i class) (toleranceIn bytes (designatedBefore bytes i) class))
 
   pub tells-qualifies : (i : ℕ) → Tells (unitQualifiesAt sheet i) (Qualifies bytes course i)
   unfolding unitQualifiesAt recordQualifies qualifiesWith qualifies allZero withinTolerance noneAbove

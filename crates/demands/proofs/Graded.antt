@@ -13,7 +13,7 @@ use Rattle.cusum.specs.declared.PlanNumbers.{PlanNumbers}
 use Rattle.cusum.specs.Step.{newCusum, overshoot}
 use Rattle.cusum.proofs.Laws.{new-cusum-is, overshoot-is, overshoot-met}
 use Rattle.encoding.specs.Bytes.{byte}
-use Rattle.units.specs.Words.{substandard, hasPlan, classes, worse, rowOf, inClass, numbersOf, tenthsOf, countIn, tenthsIn}
+use Rattle.units.specs.Words.{substandard, hasPlan, classes, worse, rowOf, inClass, numbersOf, tenthsOf, countTenths, tenthsIn}
 use Rattle.units.specs.Unit.{starting, classFails, classCusum, classOvershoot, unitFails, defectGrade, portionGradeOf}
 use Rattle.units.specs.BestLower.{BestLower}
 use Rattle.units.specs.Records.{worstBefore}
@@ -26,10 +26,10 @@ use Rattle.units.proofs.Tests.{and-both}
 use Rattle.rules.specs.StepThree.{inStepThree, inForceIn, restarted, graded}
 use Rattle.rules.specs.Sheet.{Sheet, before, designatedAt, inForceAt, inFinishedRun, recovered, portionGrade, standingOf, standing, codeGrade}
 use Rattle.rules.specs.TwoInARow.{unitFailsAt, unitFailsBefore, secondInARow}
-use Rattle.rules.specs.Anchor.{countsFrom}
+use Rattle.rules.specs.Anchor.{tenthsFrom}
 use Rattle.rules.specs.declared.Phase.{Phase}
 use Rattle.rules.specs.declared.Phase.the-variants.{Designated, StepThree}
-use Rattle.rules.proofs.Anchors.{counts-go-on}
+use Rattle.rules.proofs.Anchors.{tenths-go-on}
 use Rattle.rules.proofs.Grades.{in-force-at-most}
 use Rattle.rules.proofs.FinishedRun.{finished-run, in-run, run-in}
 use Rattle.rules.proofs.TwoFailures.{begins-at-second, lower-is-worse}
@@ -47,7 +47,7 @@ use Rattle.tally.proofs.AcceptedSheet.{accepted-sheet}
 use Rattle.tally.proofs.Entries.{unit-is, new-grades}
 use Rattle.tally.proofs.Overfull.{cusum-graded}
 use Rattle.answers.specs.Grounds.{startIn, toleranceIn, limitIn, newGrade, IsBreak, IsRedesignation}
-use Rattle.demands.specs.Course.{Course, tenTimes, prerequisite, ClassFails, SecondFails, Qualifies, AmongThree, Recovered, Restart, RuleTwo, BestLowerGrade, RuleThree, Rules, SameBefore, SameAt}
+use Rattle.demands.specs.Course.{Course, tenTimesCount, prerequisite, ClassFails, SecondFails, Qualifies, AmongThree, Recovered, Restart, RuleTwo, BestLowerGrade, RuleThree, Rules, SameBefore, SameAt}
 use Rattle.demands.specs.Demand2.{recordedStanding, UnitRecorded, WorstOfCode, SameRecords, SameWords, Demand2Records}
 use Rattle.grounds.proofs.Tells.{told, not-told}
 use Rattle.answers.proofs.Rows.{designated-just-before, is-redesignation-mark, redesignation-mark-is}
@@ -97,12 +97,12 @@ module _ (bytes : List ℕ) (facts : Facts bytes (recordsIn bytes)) where
   -- rule 2 under a plan
   planned-cusum : (i class : ℕ) → class < length classes → inForceAt sheet i < substandard
       → course .newCusum i class ≡ min (limitIn bytes (inForceAt sheet i) class)
-      (course .cusum i class + tenTimes bytes i class - toleranceIn bytes (inForceAt sheet i) class)
+      (course .cusum i class + tenTimesCount bytes i class - toleranceIn bytes (inForceAt sheet i) class)
   unfolding classCusum hasPlan
   planned-cusum i class known planned =
       let (start, tolerance, limit) = words.numbers-in bytes facts (inForceAt sheet i) class planned known in
       rw (lt-ltb (inForceAt sheet i) substandard planned, ← tolerance, ← limit, ← words.count-is bytes i class)
-      (new-cusum-is (numbersOf (sheet .table) (inForceAt sheet i) class) (course .cusum i class) (countIn (tenthsOf (unitIn bytes i)) class))
+      (new-cusum-is (numbersOf (sheet .table) (inForceAt sheet i) class) (course .cusum i class) (countTenths (tenthsOf (unitIn bytes i)) class))
 
   no-plan-cusum : (i class : ℕ) → inForceAt sheet i ≡ substandard → course .newCusum i class ≡ 0
   unfolding classCusum hasPlan
@@ -111,12 +111,12 @@ module _ (bytes : List ℕ) (facts : Facts bytes (recordsIn bytes)) where
   -- what is above T+L
   planned-overshoot : (i class : ℕ) → class < length classes → inForceAt sheet i < substandard
       → course .overshoot i class
-      ≡ course .cusum i class + tenTimes bytes i class - toleranceIn bytes (inForceAt sheet i) class - limitIn bytes (inForceAt sheet i) class
+      ≡ course .cusum i class + tenTimesCount bytes i class - toleranceIn bytes (inForceAt sheet i) class - limitIn bytes (inForceAt sheet i) class
   unfolding classOvershoot hasPlan
   planned-overshoot i class known planned =
       let (start, tolerance, limit) = words.numbers-in bytes facts (inForceAt sheet i) class planned known in
       rw (lt-ltb (inForceAt sheet i) substandard planned, ← tolerance, ← limit, ← words.count-is bytes i class)
-      (overshoot-is (numbersOf (sheet .table) (inForceAt sheet i) class) (course .cusum i class) (countIn (tenthsOf (unitIn bytes i)) class))
+      (overshoot-is (numbersOf (sheet .table) (inForceAt sheet i) class) (course .cusum i class) (countTenths (tenthsOf (unitIn bytes i)) class))
 
   not-over : (i class : ℕ) → class < length classes → (ClassFails bytes course i class → ⊥) → course .overshoot i class ≡ 0
   unfolding classOvershoot
@@ -129,8 +129,8 @@ module _ (bytes : List ℕ) (facts : Facts bytes (recordsIn bytes)) where
       meets = not-told (words.tells-class bytes facts i class known) none
 
       go : (planned : Bool) → hasPlan (inForceAt sheet i) ≡ planned
-          → cond planned (overshoot numbers (course .cusum i class) (countIn (tenthsOf (unitIn bytes i)) class)) 0 ≡ 0
-      go true planned = overshoot-met numbers (course .cusum i class) (countIn (tenthsOf (unitIn bytes i)) class) (unfold classFails in rw planned at meets)
+          → cond planned (overshoot numbers (course .cusum i class) (countTenths (tenthsOf (unitIn bytes i)) class)) 0 ≡ 0
+      go true planned = overshoot-met numbers (course .cusum i class) (countTenths (tenthsOf (unitIn bytes i)) class) (unfold classFails in rw planned at meets)
       go false no-plan = refl
 
   rule-two : (i class : ℕ) → UnitAt bytes i → class < length classes → RuleTwo bytes course i class
@@ -259,7 +259,7 @@ module _ (bytes : List ℕ) (facts : Facts bytes (recordsIn bytes)) where
       }
 
   pub same-words : SameWords bytes course
-  unfolding countsFrom
+  unfolding tenthsFrom
   same-words =
       record {
         class-fails = words.tells-class-at bytes facts;
@@ -268,10 +268,10 @@ module _ (bytes : List ℕ) (facts : Facts bytes (recordsIn bytes)) where
         restart = words.tells-restart bytes facts;
         plan-grade = λ i. refl;
         numbers = λ i class planned known. words.numbers-in bytes facts (inForceAt sheet i) class planned known;
-        counts-of-unit = words.counts-of-unit bytes facts;
-        counts-of-other = words.counts-of-other bytes facts;
-        counts-of-none = λ class from. refl;
-        counts-go-on = counts-go-on sheet;
+        tenths-of-unit = words.tenths-of-unit bytes facts;
+        tenths-of-other = words.tenths-of-other bytes facts;
+        tenths-of-none = λ class from. refl;
+        tenths-go-on = tenths-go-on sheet;
       }
 
   pub same-records : SameRecords bytes

@@ -14,7 +14,7 @@ use Rattle.units.specs.Words.{substandard, classes, worse}
 use Rattle.tally.specs.Accepted.{UnitAt}
 use Rattle.grounds.specs.Tells.{Tells}
 use Rattle.answers.specs.Grounds.{startIn, toleranceIn, limitIn, IsBreak, IsRedesignation}
-use Rattle.demands.specs.Course.{Course, tenTimes, reached, toleranceAt, limitAt, ClassFails, UnitFails, FailsDesignated, SecondFails, Qualifies, ThirdQualifies, KeepsStepThree, Restart, at-break, step-three-begins, step-three-ends, at-redesignation, BestLowerGrade, Rules, SameBefore, SameAt}
+use Rattle.demands.specs.Course.{Course, tenTimesCount, reached, toleranceAt, limitAt, ClassFails, UnitFails, FailsDesignated, SecondFails, Qualifies, ThirdQualifies, KeepsStepThree, Restart, at-break, step-three-begins, step-three-ends, at-redesignation, BestLowerGrade, Rules, SameBefore, SameAt}
 use Rattle.grounds.proofs.Tells.{tells-lt, tells-as, tells-and}
 use Rattle.answers.proofs.Rows.{one-designated}
 
@@ -69,24 +69,24 @@ module _ (bytes : List ℕ) (course other : Course) (rules : Rules bytes course)
     new-same class at known = go (ltb (course .planGrade i) substandard) refl
       where
         under : course .planGrade i < substandard
-            → (low : Bool) → ltb (course .cusum i class + tenTimes bytes i class) (toleranceIn bytes (course .planGrade i) class) ≡ low
+            → (low : Bool) → ltb (course .cusum i class + tenTimesCount bytes i class) (toleranceIn bytes (course .planGrade i) class) ≡ low
             → (high : Bool)
-            → ltb (toleranceIn bytes (course .planGrade i) class + limitIn bytes (course .planGrade i) class) (course .cusum i class + tenTimes bytes i class) ≡ high
+            → ltb (toleranceIn bytes (course .planGrade i) class + limitIn bytes (course .planGrade i) class) (course .cusum i class + tenTimesCount bytes i class) ≡ high
             → course .newCusum i class ≡ other .newCusum i class
         under planned true e high f =
-            let small = ltb-true (course .cusum i class + tenTimes bytes i class) (toleranceIn bytes (course .planGrade i) class) e in
+            let small = ltb-true (course .cusum i class + tenTimesCount bytes i class) (toleranceIn bytes (course .planGrade i) class) e in
             rules .rule-two i class at known .below planned small
             ∙ sym (others .rule-two i class at known .below (omega (arith, same .plan-grade, planned))
             (omega (arith, small, tolerance-same class, same .cusums planned class known)))
         under planned false e true f =
             let large = ltb-true (toleranceIn bytes (course .planGrade i) class + limitIn bytes (course .planGrade i) class)
-            (course .cusum i class + tenTimes bytes i class) f in
+            (course .cusum i class + tenTimesCount bytes i class) f in
             let failed : ClassFails bytes course i class = record { planned = planned; above = large } in
             rules .rule-two i class at known .fails failed ∙ limit-same class ∙ sym (others .rule-two i class at known .fails (class-to class known failed))
         under planned false e false f =
-            let from = ltb-false (course .cusum i class + tenTimes bytes i class) (toleranceIn bytes (course .planGrade i) class) e in
+            let from = ltb-false (course .cusum i class + tenTimesCount bytes i class) (toleranceIn bytes (course .planGrade i) class) e in
             let to = ltb-false (toleranceIn bytes (course .planGrade i) class + limitIn bytes (course .planGrade i) class)
-            (course .cusum i class + tenTimes bytes i class) f in
+            (course .cusum i class + tenTimesCount bytes i class) f in
             let old = same .cusums planned class known in
             let one = rules .rule-two i class at known .between planned from to in
             let two = others .rule-two i class at known .between (omega (arith, same .plan-grade, planned))
@@ -105,7 +105,7 @@ module _ (bytes : List ℕ) (course other : Course) (rules : Rules bytes course)
           unit = here .unit;
           in-step-three = sym (same .step-three) ∙ here .in-step-three;
           zero = λ class known. sym (new-same class (here .unit) known) ∙ here .zero class known;
-          within = λ class known. subst (λ (grade : ℕ). tenTimes bytes i class ≤ toleranceIn bytes grade class) (same .designated) (here .within class known);
+          within = λ class known. subst (λ (grade : ℕ). tenTimesCount bytes i class ≤ toleranceIn bytes grade class) (same .designated) (here .within class known);
         }
 
     keeps-to : KeepsStepThree bytes course i → KeepsStepThree bytes other i

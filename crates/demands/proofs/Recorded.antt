@@ -8,7 +8,7 @@ use native.Mathlib.Omega.{arith}
 use lib.ListN.{length, drop}
 use Rattle.cusum.specs.Step.{largestTenths}
 use Rattle.encoding.specs.Bytes.{byte}
-use Rattle.units.specs.Words.{substandard, classes, tenthsIn, tenthsOf, countIn}
+use Rattle.units.specs.Words.{substandard, classes, tenthsIn, tenthsOf, countTenths}
 use Rattle.units.specs.Unit.{classCusum, classOvershoot}
 use Rattle.units.specs.Records.{unitsAmong}
 use Rattle.units.specs.declared.SampleUnit.{SampleUnit}
@@ -115,7 +115,7 @@ module _ (bytes buffer : List ℕ) (answer : Answer) (results : List ℕ) (accep
     -- an overshoot is at most the unit's own defects
     pub overshoot-at-most : (class : ℕ) → class < length classes
         → classOvershoot (sheetIn bytes .table) (inForceAt (sheetIn bytes) i) (before (sheetIn bytes) i .cusums) (tenthsOf (sampleUnitAt bytes (offset bytes i))) class
-        ≤ countIn (tenthsOf (sampleUnitAt bytes (offset bytes i))) class
+        ≤ countTenths (tenthsOf (sampleUnitAt bytes (offset bytes i))) class
     unfolding sheetIn sheetOf
     overshoot-at-most class inside =
         class-overshoot-le (sheetIn bytes .table) (inForceAt (sheetIn bytes) i) (before (sheetIn bytes) i .cusums) (tenthsOf unit) class

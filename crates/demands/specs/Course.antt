@@ -35,8 +35,8 @@ classCounts bytes i =
     ∷ (kindCount bytes i 0 + kindCount bytes i 1 + kindCount bytes i 2 + kindCount bytes i 3) ∷ []
 
 -- ten times the count of a class
-abbrev pub tenTimes : List ℕ → ℕ → ℕ → ℕ
-tenTimes bytes i class = 10 * getD (classCounts bytes i) class 0
+abbrev pub tenTimesCount : List ℕ → ℕ → ℕ → ℕ
+tenTimesCount bytes i class = 10 * getD (classCounts bytes i) class 0
 
 -- the prerequisite grade of the unit that is record i
 abbrev pub prerequisite : List ℕ → ℕ → ℕ
@@ -45,14 +45,14 @@ prerequisite bytes i = byte bytes (offset bytes i + prerequisiteOffset)
 -- a grade admits the counts: its T+L is not exceeded by ten times the count in any class
 abbrev pub GradeAdmits : List ℕ → ℕ → ℕ → Type 0
 GradeAdmits bytes i grade =
-    (class : ℕ) → class < length classes → tenTimes bytes i class ≤ toleranceIn bytes grade class + limitIn bytes grade class
+    (class : ℕ) → class < length classes → tenTimesCount bytes i class ≤ toleranceIn bytes grade class + limitIn bytes grade class
 
 module _ (bytes : List ℕ) (course : Course) where
   -- ---- the words
 
   -- old CuSum + ten times the count; the raw value is this less T
   abbrev pub reached : ℕ → ℕ → ℕ
-  reached i class = course .cusum i class + tenTimes bytes i class
+  reached i class = course .cusum i class + tenTimesCount bytes i class
 
   -- T and L of a class in the plan in force
   abbrev pub toleranceAt : ℕ → ℕ → ℕ
@@ -92,7 +92,7 @@ module _ (bytes : List ℕ) (course : Course) where
     pub unit : UnitAt bytes i
     pub in-step-three : course .inStepThree i ≡ true
     pub zero : (class : ℕ) → class < length classes → course .newCusum i class ≡ 0
-    pub within : (class : ℕ) → class < length classes → tenTimes bytes i class ≤ toleranceIn bytes (course .designated i) class
+    pub within : (class : ℕ) → class < length classes → tenTimesCount bytes i class ≤ toleranceIn bytes (course .designated i) class
 
   -- three in a row that qualify, from record `first` on: neighbours, so that any other record between them sets the run to none
   pub record ThreeQualify (first : ℕ) : Type 0 where

@@ -10,7 +10,7 @@ use Rattle.encoding.specs.Bytes.{byte, number}
 use Rattle.units.specs.Words.{substandard, classes, worse}
 use Rattle.rules.specs.Sheet.{inForceAt}
 use Rattle.rules.specs.TwoInARow.{secondInARow}
-use Rattle.rules.specs.Anchor.{classFailsAt, restartAt, countsFrom}
+use Rattle.rules.specs.Anchor.{classFailsAt, restartAt, tenthsFrom}
 use Rattle.layout.specs.Layout.{codeOffset, offset, mark, unitsBefore}
 use Rattle.layout.specs.declared.Mark.the-variants.{RedesignationMark}
 use Rattle.results.specs.Record.{markIn, codeIn, planGradeIn, standingIn}
@@ -19,7 +19,7 @@ use Rattle.tally.specs.Outcome.{recordsIn}
 use Rattle.tally.specs.Accepted.{AcceptedAs, sheetIn, UnitAt, recordedCusum, recordedOvershoot, recordedPortionGrade, recordedCodeGrade, numbersInForce}
 use Rattle.grounds.specs.Tells.{Tells}
 use Rattle.answers.specs.Grounds.{startIn, toleranceIn, limitIn, IsUnit, IsRedesignation}
-use Rattle.demands.specs.Course.{Course, tenTimes, prerequisite, ClassFails, UnitFails, SecondFails, Recovered, Restart, Rules, SameBefore, SameAt}
+use Rattle.demands.specs.Course.{Course, tenTimesCount, prerequisite, ClassFails, UnitFails, SecondFails, Recovered, Restart, Rules, SameBefore, SameAt}
 
 -- ---- what is recorded of a unit
 
@@ -50,7 +50,7 @@ pub record UnitRecorded (bytes results : List ℕ) (course : Course) (i : ℕ) :
   -- a class fails exactly if its overshoot is above zero
   pub overshoot-tells : (class : ℕ) → class < length classes → ClassFails bytes course i class ↔ (0 < recordedOvershoot bytes results i class)
   -- and no class is over by more than its own defects at this unit
-  pub overshoot-at-most : (class : ℕ) → class < length classes → recordedOvershoot bytes results i class ≤ tenTimes bytes i class
+  pub overshoot-at-most : (class : ℕ) → class < length classes → recordedOvershoot bytes results i class ≤ tenTimesCount bytes i class
   -- rule 4: the portion grade is the worse of defect grade and prerequisite grade; of a recovered portion the worse of designated grade
   -- and prerequisite grade
   pub portion : (Recovered bytes course i → ⊥) → recordedPortionGrade bytes results i ≡ worse (course .defectGrade i) (prerequisite bytes i)
@@ -98,11 +98,11 @@ pub record SameWords (bytes : List ℕ) (course : Course) : Type 0 where
       (numbers .start ≡ startIn bytes grade class) × (numbers .tolerance ≡ toleranceIn bytes grade class) × (numbers .limit ≡ limitIn bytes grade class)
   -- the counts from a record on, in tenths: of a unit ten times its count in the class, of any other record none, and so on record by
   -- record
-  pub counts-of-unit : (i class : ℕ) → UnitAt bytes i → countsFrom (sheetIn bytes) class i 1 ≡ tenTimes bytes i class ∷ []
-  pub counts-of-other : (i class : ℕ) → (UnitAt bytes i → ⊥) → countsFrom (sheetIn bytes) class i 1 ≡ []
-  pub counts-of-none : (class from : ℕ) → countsFrom (sheetIn bytes) class from 0 ≡ []
-  pub counts-go-on : (class from records : ℕ) →
-      let counts = countsFrom (sheetIn bytes) class in
+  pub tenths-of-unit : (i class : ℕ) → UnitAt bytes i → tenthsFrom (sheetIn bytes) class i 1 ≡ tenTimesCount bytes i class ∷ []
+  pub tenths-of-other : (i class : ℕ) → (UnitAt bytes i → ⊥) → tenthsFrom (sheetIn bytes) class i 1 ≡ []
+  pub tenths-of-none : (class from : ℕ) → tenthsFrom (sheetIn bytes) class from 0 ≡ []
+  pub tenths-go-on : (class from records : ℕ) →
+      let counts = tenthsFrom (sheetIn bytes) class in
       counts from (suc records) ≡ counts from records ++ counts (from + records) 1
 
 -- of an accepted sheet and the result buffer as it is left: its course follows the rules, every other that does agrees with it at every

@@ -9,7 +9,7 @@ use Rattle.cusum.specs.LargestForm.{largestForm, anchorValue}
 use Rattle.encoding.specs.Bytes.{byte, number}
 use Rattle.units.specs.Words.{classes, hasPlan}
 use Rattle.rules.specs.Sheet.{inForceAt}
-use Rattle.rules.specs.Anchor.{classFailsAt, countsFrom, Anchor, Latest}
+use Rattle.rules.specs.Anchor.{classFailsAt, tenthsFrom, Anchor, Latest}
 use Rattle.rules.specs.TwoInARow.{secondInARow}
 use Rattle.layout.specs.Layout.{countsOffset, countOffset, kinds, prerequisiteOffset, offset, mark}
 use Rattle.layout.specs.declared.Mark.the-variants.{RedesignationMark}
@@ -37,7 +37,7 @@ pub record LargestOf (bytes results : List ℕ) (i class : ℕ) : Type 0 where
       pos (recordedCusum bytes results i class)
       ≡ largestForm (numbersInForce bytes i class)
       (anchorValue (numbersInForce bytes i class) (anchor .at-failure))
-      (countsFrom (sheetIn bytes) class (anchor .from) (anchor .records))
+      (tenthsFrom (sheetIn bytes) class (anchor .from) (anchor .records))
 
 -- for every accepted sheet, whatever it lists: at any unit that has a plan in force, for every class
 abbrev pub Demand3LargestForm : Type 0

@@ -52,5 +52,5 @@ pub record Demands : Type 2 where
   pub printed-text : PrintedText
   -- each demand on sheets of several units in every class, as its theorem gives it
   pub instances : Instances
-  -- mold sheets: layout, answers and grounds, CuSums, and the first half of demand 3
+  -- mold sheets: layout and levels, answers and grounds, CuSums, the first half of demand 3, computed sheets and printed text
   pub mold : MoldDemands

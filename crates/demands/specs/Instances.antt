@@ -10,12 +10,12 @@ use lib.IntN.{pos}
 use Rattle.cusum.specs.LargestForm.{largestForm, anchorValue}
 use Rattle.units.specs.Words.{substandard, classes, worse}
 use Rattle.rules.specs.TwoInARow.{secondInARow}
-use Rattle.rules.specs.Anchor.{classFailsAt, countsFrom, Anchor, Latest}
+use Rattle.rules.specs.Anchor.{classFailsAt, tenthsFrom, Anchor, Latest}
 use Rattle.results.specs.Record.{resultSize}
 use Rattle.tally.specs.Accepted.{sheetIn, recordedCusum, recordedOvershoot, recordedPortionGrade, recordedCodeGrade, numbersInForce}
 use Rattle.answers.specs.Grounds.{toleranceIn, limitIn}
 use Rattle.answers.specs.AnswerInstances.{AnswerInstances}
-use Rattle.demands.specs.Course.{Course, tenTimes, prerequisite, ClassFails, UnitFails, Recovered, Rules}
+use Rattle.demands.specs.Course.{Course, tenTimesCount, prerequisite, ClassFails, UnitFails, Recovered, Rules}
 use Rattle.demands.specs.Demand2.{recordedMark, recordedCode, recordedPlanGrade, recordedStanding, codeOf}
 use Rattle.demands.specs.Demand3.{AnchorAt}
 use Rattle.computed.specs.WorkedCases.{peach, peachResults}
@@ -94,24 +94,24 @@ pub record UnitInstance (bytes results : List ℕ) (course : Course) (i : ℕ) (
   -- rule 2 in every class: above T+L the new CuSum is L and the overshoot what is above, below T the CuSum is zero, between it is the
   -- raw value
   pub above : (class : ℕ) → class < length classes → course .planGrade i < substandard
-      → toleranceIn bytes (course .planGrade i) class + limitIn bytes (course .planGrade i) class < course .cusum i class + tenTimes bytes i class
+      → toleranceIn bytes (course .planGrade i) class + limitIn bytes (course .planGrade i) class < course .cusum i class + tenTimesCount bytes i class
       → (course .newCusum i class ≡ limitIn bytes (course .planGrade i) class)
       × (course .overshoot i class + (toleranceIn bytes (course .planGrade i) class + limitIn bytes (course .planGrade i) class)
-      ≡ course .cusum i class + tenTimes bytes i class)
+      ≡ course .cusum i class + tenTimesCount bytes i class)
   pub below : (class : ℕ) → class < length classes → course .planGrade i < substandard
-      → course .cusum i class + tenTimes bytes i class < toleranceIn bytes (course .planGrade i) class → course .newCusum i class ≡ 0
+      → course .cusum i class + tenTimesCount bytes i class < toleranceIn bytes (course .planGrade i) class → course .newCusum i class ≡ 0
   pub between : (class : ℕ) → class < length classes → course .planGrade i < substandard
-      → toleranceIn bytes (course .planGrade i) class ≤ course .cusum i class + tenTimes bytes i class
-      → course .cusum i class + tenTimes bytes i class ≤ toleranceIn bytes (course .planGrade i) class + limitIn bytes (course .planGrade i) class
-      → course .newCusum i class + toleranceIn bytes (course .planGrade i) class ≡ course .cusum i class + tenTimes bytes i class
+      → toleranceIn bytes (course .planGrade i) class ≤ course .cusum i class + tenTimesCount bytes i class
+      → course .cusum i class + tenTimesCount bytes i class ≤ toleranceIn bytes (course .planGrade i) class + limitIn bytes (course .planGrade i) class
+      → course .newCusum i class + toleranceIn bytes (course .planGrade i) class ≡ course .cusum i class + tenTimesCount bytes i class
   -- not above T+L nothing is over; without a plan CuSum and overshoot are zero
   pub not-above : (class : ℕ) → class < length classes → course .planGrade i < substandard
-      → course .cusum i class + tenTimes bytes i class ≤ toleranceIn bytes (course .planGrade i) class + limitIn bytes (course .planGrade i) class
+      → course .cusum i class + tenTimesCount bytes i class ≤ toleranceIn bytes (course .planGrade i) class + limitIn bytes (course .planGrade i) class
       → course .overshoot i class ≡ 0
   pub without-plan : (class : ℕ) → class < length classes → course .planGrade i ≡ substandard → (course .newCusum i class ≡ 0) × (course .overshoot i class ≡ 0)
   -- a class fails exactly if its recorded overshoot is above zero, and none is over by more than its own defects at this unit
   pub overshoot-tells : (class : ℕ) → class < length classes → ClassFails bytes course i class ↔ (0 < recordedOvershoot bytes results i class)
-  pub overshoot-at-most : (class : ℕ) → class < length classes → recordedOvershoot bytes results i class ≤ tenTimes bytes i class
+  pub overshoot-at-most : (class : ℕ) → class < length classes → recordedOvershoot bytes results i class ≤ tenTimesCount bytes i class
 
 -- an accepted sheet with the buffer as it is left: a course by the rules, which is what is recorded of each of its units
 pub record CourseInstance (bytes results : List ℕ) (standings : List (ℕ × Standing)) : Type 0 where
@@ -136,13 +136,13 @@ pub record LargestInstance (bytes results : List ℕ) (units : ℕ) (planned : L
       → (from records : ℕ) (at-failure : Bool) → from + records ≡ suc i
       → Anchor (sheetIn bytes) class i from at-failure → Latest (sheetIn bytes) class i from
       → pos (recordedCusum bytes (left results units buffer) i class)
-      ≡ largestForm (numbersInForce bytes i class) (anchorValue (numbersInForce bytes i class) at-failure) (countsFrom (sheetIn bytes) class from records))
+      ≡ largestForm (numbersInForce bytes i class) (anchorValue (numbersInForce bytes i class) at-failure) (tenthsFrom (sheetIn bytes) class from records))
 
 -- one unit and class in numbers: its latest anchor, the counts since it in tenths, their largest form, and so the CuSum that is recorded
 pub record LargestNumber (bytes results : List ℕ) (i class from : ℕ) (at-failure : Bool) (counts : List ℕ) (tenths : ℕ) : Type 0 where
   pub is-anchor : Anchor (sheetIn bytes) class i from at-failure
   pub latest : Latest (sheetIn bytes) class i from
-  pub since : countsFrom (sheetIn bytes) class from (length counts) ≡ counts
+  pub since : tenthsFrom (sheetIn bytes) class from (length counts) ≡ counts
   pub largest : largestForm (numbersInForce bytes i class) (anchorValue (numbersInForce bytes i class) at-failure) counts ≡ pos tenths
   pub recorded : recordedCusum bytes results i class ≡ tenths
 

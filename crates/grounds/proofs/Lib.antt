@@ -1,3 +1,4 @@
 pub mod Tells
 pub mod FirstRow
 pub mod Decided
+pub mod Answered

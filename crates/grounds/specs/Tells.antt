@@ -3,6 +3,6 @@ use mathlib.Core.Path.{_≡_}
 use mathlib.Core.Bool.{Bool, true, false}
 
 -- a test is true exactly if a statement holds
-pub record Tells (test : Bool) (P : Type 0) : Type 0 where
-  pub so : test ≡ true → P
-  pub not-so : test ≡ false → P → ⊥
+pub record Tells (test : Bool) (Claim : Type 0) : Type 0 where
+  pub so : test ≡ true → Claim
+  pub not-so : test ≡ false → Claim → ⊥

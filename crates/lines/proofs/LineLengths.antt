@@ -9,7 +9,7 @@ use Rattle.encoding.specs.Bytes.{byte}
 use Rattle.units.specs.Words.{classes}
 use Rattle.results.specs.Record.{resultSize, codeOffset, cusumsOffset, cusumWidth, codeIn, cusumIn}
 use Rattle.text.specs.Text.{decimal, restOfLine, lineWith}
-use Rattle.text.specs.Wrote.{wordSize, numberSize, cusumSize}
+use Rattle.text.specs.Wrote.{wordSize, numberDigits, cusumSize}
 use Rattle.text.proofs.Decimals.{length-decimal, length-tenths}
 use Rattle.lines.specs.Lines.{cusumField, cusumFields, lineOf}
 use Rattle.lines.specs.Rooms.{letterFields, lineSize}
@@ -35,11 +35,11 @@ module _ (results : List ℕ) (bytes : (at : ℕ) → byte results at < 256) whe
   short-cusum j class =
       let at = resultSize * j + (cusumsOffset + cusumWidth * class) in
       let tenths = cusumIn results j class in
-      omega (arith, length-tenths tenths, length-decimal (numberSize - 1) (tenths / 10) (omega arith) (omega (arith, bytes at, bytes (at + 1))))
+      omega (arith, length-tenths tenths, length-decimal (numberDigits - 1) (tenths / 10) (omega arith) (omega (arith, bytes at, bytes (at + 1))))
 
   pub short-line : (j : ℕ) → j + 1 < 10 ^ wordSize → length (lineOf results j) ≤ lineSize
   short-line j below =
       let at = resultSize * j + codeOffset in
-      let code = length-decimal numberSize (codeIn results j) (omega arith) (omega (arith, bytes at, bytes (at + 1))) in
+      let code = length-decimal numberDigits (codeIn results j) (omega arith) (omega (arith, bytes at, bytes (at + 1))) in
       let number = length-decimal wordSize (j + 1) (omega arith) below in
       omega (arith, length-unit-line results j, number, code, short-fields (cusumField results j) (short-cusum j) classes)

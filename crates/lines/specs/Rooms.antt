@@ -5,7 +5,7 @@ use lib.ListN.{length}
 use Rattle.units.specs.Words.{classes}
 use Rattle.results.specs.Record.{portionGradeIn, codeGradeIn, planGradeIn, standingIn}
 use Rattle.text.specs.Text.{space}
-use Rattle.text.specs.Wrote.{wordSize, numberSize, cusumSize}
+use Rattle.text.specs.Wrote.{wordSize, numberDigits, cusumSize}
 use Rattle.lines.specs.Lines.{gradeLetter, standingLetter}
 
 -- the letters in the line of unit j, each behind a space
@@ -20,4 +20,4 @@ letters = 4
 
 -- no unit's line is longer: unit number, code, letters and CuSums, with one byte behind each
 abbrev pub lineSize : ℕ
-lineSize = wordSize + 1 + numberSize + 1 + letters * (1 + 1) + length classes * (cusumSize + 1)
+lineSize = wordSize + 1 + numberDigits + 1 + letters * (1 + 1) + length classes * (cusumSize + 1)

@@ -20,7 +20,7 @@ use results::STANDING_OFFSET;
 use sheet::MOST_UNITS;
 use text::CUSUM_SIZE;
 use text::LARGEST_INPUT;
-use text::NUMBER_SIZE;
+use text::NUMBER_DIGITS;
 use text::TOO_MUCH_INPUT;
 use text::WORD_SIZE;
 use text::decimal;
@@ -38,7 +38,7 @@ const LETTERS: usize = 4;
 // The longest line of a unit, which has one byte behind each field; bytes enough for the lines of the most units.
 const LINE_SIZE: usize = WORD_SIZE
     + 1
-    + NUMBER_SIZE
+    + NUMBER_DIGITS
     + 1
     + LETTERS * (1 + 1)
     + CLASSES * (CUSUM_SIZE + 1);

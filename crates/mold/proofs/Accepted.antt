@@ -15,7 +15,7 @@ use Rattle.mold.specs.Refusals.{checked}
 use Rattle.mold.specs.Results.{resultSize, written}
 use Rattle.mold.specs.Outcome.{acceptance, moldOutcome}
 use Rattle.mold.proofs.Checking.{Facts, accepted-facts}
-use Rattle.mold.specs.Accepted.{MoldAcceptedAs}
+use Rattle.mold.specs.Outcome.{MoldAcceptedAs}
 
 -- what each case says of the outcome
 pub data Case (bytes buffer : List ℕ) : Outcome → Type 0 where

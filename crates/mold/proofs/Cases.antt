@@ -5,21 +5,21 @@ use mathlib.Core.List.{List, _++_}
 use native.Mathlib.Omega.{arith}
 use lib.ListN.{length, drop}
 use borrow.Author.Tests.{eq-eqb, ne-eqb, lt-ltb, le-ltb}
-use Rattle.outcome.specs.Outcome.{Outcome, refusal}
+use Rattle.outcome.specs.Outcome.{acceptedAs, Outcome, refusal}
 use Rattle.outcome.specs.declared.Answer.{Answer}
 use Rattle.units.specs.Conditions.{pick}
 use Rattle.mold.specs.Levels.{lastRow}
 use Rattle.mold.specs.Layout.{levelRow, offset}
-use Rattle.mold.specs.Refusals.{checked, acceptedAs}
+use Rattle.mold.specs.Refusals.{checked}
 use Rattle.mold.specs.Results.{resultSize, written}
 use Rattle.mold.specs.Outcome.{moldOutcome}
 use Rattle.mold.proofs.Checking.{Facts, opening-passed, accepted-facts}
 
 module _ (bytes : List ℕ) (answer : Answer) (is : answer ≡ checked bytes) where
   module _ (passed : answer .number ≡ 0) where
-    accepted : (answer ≡ acceptedAs bytes (answer .units)) × Facts bytes (answer .units)
+    accepted : (answer ≡ acceptedAs (answer .units) (length bytes)) × Facts bytes (answer .units)
     accepted =
-        subst⁻¹ (λ (given : Answer). (given ≡ acceptedAs bytes (given .units)) × Facts bytes (given .units)) is
+        subst⁻¹ (λ (given : Answer). (given ≡ acceptedAs (given .units) (length bytes)) × Facts bytes (given .units)) is
         (accepted-facts bytes (sym (ap (λ (given : Answer). given .number) is) ∙ passed))
 
     -- what the writing of the units' records asks

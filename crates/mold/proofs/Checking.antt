@@ -11,15 +11,15 @@ use native.Mathlib.Omega.{arith}
 use lib.Dec.{eqb, lit<}
 use lib.ListN.{length}
 use borrow.Author.Tests.{ltb-false, eqb-true, eqb-false}
-use Rattle.outcome.specs.Outcome.{refusedAs}
+use Rattle.outcome.specs.Outcome.{acceptedAs, refusedAs}
 use Rattle.outcome.specs.declared.Answer.{Answer}
 use Rattle.units.specs.Conditions.{pick}
 use Rattle.units.proofs.Tests.{or-first}
 use Rattle.sheet.proofs.Grounds.{ground-passed}
-use Rattle.sheet.proofs.LeftToRight.{check-done, check-more, check-refused, check-says}
+use Rattle.sheet.proofs.LeftToRight.{Stops, check-done, check-more, check-refused, check-says}
 use Rattle.mold.specs.Levels.{lastRow}
 use Rattle.mold.specs.Layout.{openingSize, unitSize, levelRow, offset}
-use Rattle.mold.specs.Refusals.{noOpening, openingRefusal, unitRefusal, recordRefusal, acceptedAs, checkFrom, checked}
+use Rattle.mold.specs.Refusals.{noOpening, openingRefusal, unitRefusal, recordRefusal, checkFrom, checked}
 
 -- an opening that is not refused is whole, and its row has a level
 pub opening-passed : (bytes : List ℕ) → openingRefusal bytes ≡ 0 → (openingSize ≤ length bytes) × (levelRow bytes ≤ lastRow)
@@ -54,7 +54,7 @@ stands-first bytes h =
     record { at-offset = refl; within = h; still = ap (λ (most : ℕ). checkFrom bytes most 0) (sym (sub-zero (length bytes))) }
 
 module _ (bytes : List ℕ) (units at : ℕ) (stands : Stands bytes units at) where
-  pub stands-done : length bytes ≤ at → acceptedAs bytes units ≡ checkFrom bytes (length bytes) 0
+  pub stands-done : length bytes ≤ at → acceptedAs units (length bytes) ≡ checkFrom bytes (length bytes) 0
   stands-done h = sym (stands .still ∙ check-done _ _ _ _ _ (length bytes - units) units (omega (arith, stands .at-offset)))
 
   module _ (h : at < length bytes) (number : ℕ) (e : number ≡ unitRefusal bytes at units) where
@@ -89,21 +89,12 @@ pub record Facts (bytes : List ℕ) (n : ℕ) : Type 0 where
   pub end : offset n ≡ length bytes
   pub within : (j : ℕ) → j < n → (offset j < length bytes) × (recordRefusal bytes j ≡ 0)
 
--- the first record that is refused
-pub record Stops (bytes : List ℕ) (number at : ℕ) : Type 0 where
-  pub opening : openingRefusal bytes ≡ 0
-  pub stop : ℕ
-  pub inside : offset stop < length bytes
-  pub at-offset : at ≡ offset stop
-  pub refusal : number ≡ recordRefusal bytes stop
-  pub earlier : (j : ℕ) → j < stop → recordRefusal bytes j ≡ 0
-
 -- acceptance, or a refusal, which is that of the opening or of the first record refused
 abbrev pub Says : List ℕ → Answer → Type 0
 Says bytes answer =
-    ((answer ≡ acceptedAs bytes (answer .units)) × Facts bytes (answer .units))
+    ((answer ≡ acceptedAs (answer .units) (length bytes)) × Facts bytes (answer .units))
     ⊎ ((answer .number ≡ 0 → ⊥) × (answer .units ≡ 0)
-    × (((answer .number ≡ openingRefusal bytes) × (answer .offset ≡ 0)) ⊎ Stops bytes (answer .number) (answer .offset)))
+    × (((answer .number ≡ openingRefusal bytes) × (answer .offset ≡ 0)) ⊎ ((openingRefusal bytes ≡ 0) × Stops (length bytes) offset (recordRefusal bytes) (answer .number) (answer .offset))))
 
 module _ (bytes : List ℕ) where
   next-within : (i : ℕ) → recordRefusal bytes i ≡ 0 → offset (suc i) ≤ length bytes
@@ -111,21 +102,9 @@ module _ (bytes : List ℕ) where
 
   says-records : openingRefusal bytes ≡ 0 → Says bytes (checkFrom bytes (length bytes) 0)
   says-records passed =
-      check-says (length bytes) offset (recordRefusal bytes) (acceptedAs bytes) refusedAs further next-within (Says bytes)
+      check-says (length bytes) offset (recordRefusal bytes) (λ units. acceptedAs units (length bytes)) refusedAs further next-within (Says bytes)
       (λ n end within. inl (refl, record { opening = passed; end = end; within = within }))
-      (λ stop inside refused within.
-      inr (
-        refused,
-        refl,
-        inr (record {
-          opening = passed;
-          stop = stop;
-          inside = inside;
-          at-offset = refl;
-          refusal = refl;
-          earlier = λ j before. within j before .1;
-        }),
-      ))
+      (λ number at stops. inr (stops .refused, refl, inr (passed, stops)))
       (opening-passed bytes passed .0)
 
   pub checked-says : Says bytes (checked bytes)
@@ -138,5 +117,5 @@ module _ (bytes : List ℕ) where
       go false e = inr (eqb-false (openingRefusal bytes) 0 e, refl, inl (refl, refl))
 
   -- an answer of 0 is acceptance
-  pub accepted-facts : checked bytes .number ≡ 0 → (checked bytes ≡ acceptedAs bytes (checked bytes .units)) × Facts bytes (checked bytes .units)
+  pub accepted-facts : checked bytes .number ≡ 0 → (checked bytes ≡ acceptedAs (checked bytes .units) (length bytes)) × Facts bytes (checked bytes .units)
   accepted-facts e = ⊎-elim (λ passed. passed) (λ (refused, units, which). absurd (refused e)) checked-says

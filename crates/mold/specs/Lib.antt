@@ -4,4 +4,3 @@ pub mod Refusals
 pub mod Grading
 pub mod Results
 pub mod Outcome
-pub mod Accepted

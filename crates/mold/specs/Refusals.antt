@@ -4,7 +4,7 @@ use mathlib.Core.Bool.{Bool, not, _||_}
 use mathlib.Core.List.{List}
 use lib.Dec.{ltb, leb, eqb}
 use lib.ListN.{length}
-use Rattle.outcome.specs.Outcome.{refusedAs}
+use Rattle.outcome.specs.Outcome.{acceptedAs, refusedAs}
 use Rattle.outcome.specs.declared.Answer.{Answer}
 use Rattle.encoding.specs.Bytes.{number}
 use Rattle.units.specs.Conditions.{pick}
@@ -47,13 +47,9 @@ unitRefusal bytes at units =
 abbrev pub recordRefusal : List ℕ → ℕ → ℕ
 recordRefusal bytes i = unitRefusal bytes (offset i) i
 
--- acceptance returns 0, the number of units and the sheet's length
-abbrev pub acceptedAs : List ℕ → ℕ → Answer
-acceptedAs bytes units = record { number = 0; units = units; offset = length bytes }
-
 -- records are checked left to right, from record i on, at most so many (the sheet's length is always enough: law `check-says`)
 abbrev pub checkFrom : List ℕ → ℕ → ℕ → Answer
-checkFrom bytes = leftToRight (length bytes) offset (recordRefusal bytes) (acceptedAs bytes) refusedAs
+checkFrom bytes = leftToRight (length bytes) offset (recordRefusal bytes) (λ units. acceptedAs units (length bytes)) refusedAs
 
 -- of a sheet: acceptance, or the number of the first ground met and its offset
 unfoldable pub checked : List ℕ → Answer

@@ -20,7 +20,7 @@ use encoding::number_at;
 use layout::MARK_SIZE;
 use layout::NUMBER_SIZE;
 use outcome::Answer;
-use outcome::refusal;
+use outcome::refused_as;
 use results::CUSUM_WIDTH;
 use sheet::MOST_UNITS;
 
@@ -64,10 +64,10 @@ pub struct MoldUnit {
 }
 
 // Whole fields in tenths, as S, T and L are kept.
-fn tenths_of(fields: u8) -> u16
-    ensures { λ r. ⌜ r ≡ fieldTenths (record { 0 = fields }) ⌝ }
+fn plan_tenths(fields: DefectiveFields) -> u16
+    ensures { λ r. ⌜ r ≡ fieldTenths fields ⌝ }
 {
-    DefectiveFields(fields).tenths() as u16
+    fields.tenths() as u16
 }
 
 // S, T and L of a row.
@@ -77,9 +77,9 @@ fn level_numbers(row: u8) -> PlanNumbers
 {
     let row = row as usize;
     PlanNumbers {
-        start: tenths_of(STARTS[row]),
-        tolerance: tenths_of(TOLERANCES[row]),
-        limit: tenths_of(LIMITS[row]),
+        start: plan_tenths(DefectiveFields(STARTS[row])),
+        tolerance: plan_tenths(DefectiveFields(TOLERANCES[row])),
+        limit: plan_tenths(DefectiveFields(LIMITS[row])),
     }
 }
 
@@ -152,7 +152,7 @@ fn check_records(bytes: &[u8]) -> Answer
     while at < bytes.len() {
         let number = unit_refusal(bytes, at, units);
         if number != 0 {
-            return refusal(number, at);
+            return refused_as(number, at);
         }
         units += 1;
         at += UNIT_SIZE;
@@ -170,7 +170,7 @@ fn check(bytes: &[u8]) -> Answer
 {
     let number = opening_refusal(bytes);
     if number != 0 {
-        return refusal(number, 0);
+        return refused_as(number, 0);
     }
     check_records(bytes)
 }
@@ -230,7 +230,7 @@ pub fn grade_mold(sheet: &[u8], results: &mut [u8]) -> Answer
         return answer;
     }
     if results.len() < RESULT_SIZE * answer.units {
-        return refusal(13, sheet.len());
+        return refused_as(13, sheet.len());
     }
     write_units(sheet, answer.units, results);
     answer

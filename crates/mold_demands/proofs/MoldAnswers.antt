@@ -12,12 +12,13 @@ use Rattle.outcome.specs.declared.Answer.{Answer}
 use Rattle.outcome.specs.Outcome.{Outcome}
 use Rattle.sheet.specs.Refusals.{refusedIf}
 use Rattle.grounds.specs.Answered.{AnswerAndBuffer}
+use Rattle.grounds.proofs.Answered.{stopped}
 use Rattle.mold.specs.Layout.{offset}
 use Rattle.mold.specs.Refusals.{openingRefusal, unitRefusal, recordRefusal, checked}
 use Rattle.mold.specs.Results.{resultSize, written}
-use Rattle.mold.proofs.Checking.{Facts, Stops, Says, checked-says}
+use Rattle.mold.proofs.Checking.{Facts, Says, checked-says}
 use Rattle.mold.proofs.Written.{length-written}
-use Rattle.mold_demands.specs.MoldAnswers.{MoldStoppedAt, MoldListed, accepted, by-opening, by-record, by-buffer, unitsIn, MoldAnswered}
+use Rattle.mold_demands.specs.MoldAnswers.{MoldListed, accepted, by-opening, by-record, by-buffer, unitsByLength, MoldAnswered}
 use Rattle.mold.proofs.Accepted.{Case, by-check, without-room, graded, outcome-case}
 
 -- ---- the numbers
@@ -48,29 +49,19 @@ record-number bytes i =
 -- ---- the answer
 
 module _ (bytes buffer : List ℕ) where
-  stopped : (number at : ℕ) → Stops bytes number at → MoldStoppedAt bytes number at
-  stopped number at stops =
-      record {
-        stop = stops .stop;
-        at-mark = stops .at-offset;
-        inside = subst⁻¹ (λ (place : ℕ). place < length bytes) (stops .at-offset) (stops .inside);
-        refusal = stops .refusal;
-        earlier = stops .earlier;
-      }
-
   listed-by : (answer : Answer) → (answer .number ≡ 0 → ⊥) → Says bytes answer → MoldListed bytes answer
   listed-by answer other (inl (is, facts)) = absurd (other (ap (λ (given : Answer). given .number) is))
   listed-by answer other (inr (refused, units, inl (in-opening, at-start))) =
       by-opening (subst⁻¹ (λ (n : ℕ). (n ≡ 1) ⊎ (n ≡ 16)) in-opening (opening-number bytes (λ e. refused (in-opening ∙ e)))) in-opening at-start
-  listed-by answer other (inr (refused, units, inr stops)) =
-      by-record (subst⁻¹ OfRecord (stops .refusal) (record-number bytes (stops .stop) (λ e. refused (stops .refusal ∙ e))))
-      (stopped (answer .number) (answer .offset) stops)
+  listed-by answer other (inr (refused, units, inr (passed, stops))) =
+      by-record (subst⁻¹ OfRecord (stops .refused-by) (record-number bytes (stops .stop) (λ e. refused (stops .refused-by ∙ e))))
+      (stopped _ _ _ _ _ stops)
 
   no-units : (answer : Answer) → (answer .number ≡ 0 → ⊥) → Says bytes answer → answer .units ≡ 0
   no-units answer other (inl (is, facts)) = absurd (other (ap (λ (given : Answer). given .number) is))
   no-units answer other (inr (refused, units, which)) = units
 
-  units-are : (units : ℕ) → Facts bytes units → units ≡ unitsIn bytes
+  units-are : (units : ℕ) → Facts bytes units → units ≡ unitsByLength bytes
   units-are units facts = omega (arith, facts .end)
 
   kept-behind : (units : ℕ) → drop (resultSize * units) (written bytes units ++ drop (resultSize * units) buffer) ≡ drop (resultSize * units) buffer
@@ -79,7 +70,7 @@ module _ (bytes buffer : List ℕ) where
       ∙ drop-append-seam (written bytes units) (drop (resultSize * units) buffer)
 
   answered : (given : Outcome) → Case bytes buffer given
-      → AnswerAndBuffer resultSize (MoldListed bytes) (unitsIn bytes) buffer (given .answer) (given .buffer)
+      → AnswerAndBuffer resultSize (MoldListed bytes) (unitsByLength bytes) buffer (given .answer) (given .buffer)
   answered given (by-check refused) =
       record {
         listed = listed-by (checked bytes) refused (checked-says bytes);
@@ -113,5 +104,5 @@ module _ (bytes buffer : List ℕ) where
 
 pub mold-answered : MoldAnswered
 mold-answered bytes buffer answer results promise =
-    subst⁻¹ (λ (given : Outcome). AnswerAndBuffer resultSize (MoldListed bytes) (unitsIn bytes) buffer (given .answer) (given .buffer)) promise
+    subst⁻¹ (λ (given : Outcome). AnswerAndBuffer resultSize (MoldListed bytes) (unitsByLength bytes) buffer (given .answer) (given .buffer)) promise
     (answered bytes buffer _ (outcome-case bytes buffer))

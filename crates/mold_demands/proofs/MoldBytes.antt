@@ -2,17 +2,19 @@
 use mathlib.Core.Path.{refl}
 use Rattle.mold.specs.Levels.{levelNumbers}
 use Rattle.mold.specs.Layout.{moldUnitAt}
-use Rattle.mold_demands.specs.MoldBytes.{MoldFields, MoldLevels, MoldLayout}
+use Rattle.mold_demands.specs.MoldBytes.{MoldPlaces, MoldLevels, MoldLayout}
 
-fields : MoldFields
+places : MoldPlaces
 unfolding moldUnitAt
-fields =
+places =
     record {
       opening = refl;
       level-row = λ bytes. refl;
+      numbers = λ bytes. refl;
       unit = refl;
       place = λ i. refl;
       code = λ bytes i. refl;
+      fields-behind-code = refl;
       positive-fields = λ bytes i. refl;
       result = refl;
       result-mark = λ results i. refl;
@@ -25,4 +27,4 @@ unfolding levelNumbers
 levels = record { level-5 = refl; level-10 = refl; level-12 = refl; level-15 = refl; level-20 = refl; level-25 = refl }
 
 pub mold-layout : MoldLayout
-mold-layout = record { fields = fields; levels = levels }
+mold-layout = record { places = places; levels = levels }

@@ -7,6 +7,7 @@ use Rattle.mold_demands.proofs.MoldRecords.{mold-graded}
 use Rattle.mold_demands.proofs.MoldLargest.{mold-largest-form}
 use Rattle.mold_demands.proofs.MoldSheets.{mold-sheets}
 use Rattle.mold_demands.proofs.MoldText.{mold-text}
+use Rattle.mold_demands.proofs.MoldInstances.{mold-instances}
 
 pub mold-demands : MoldDemands
 mold-demands =
@@ -18,4 +19,5 @@ mold-demands =
       largest-form = mold-largest-form;
       sheets = mold-sheets;
       text = mold-text;
+      instances = mold-instances;
     }

@@ -14,6 +14,7 @@ use Rattle.outcome.specs.Outcome.{Outcome, refusedAs}
 use Rattle.encoding.specs.Bytes.{byte, number}
 use Rattle.layout.specs.Layout.{markSize}
 use Rattle.sheet.specs.Refusals.{refusedIf}
+use Rattle.sheet.proofs.Grounds.{ground-passed}
 use Rattle.grounds.specs.Grounds.{rowsAbove, FirstRowMet, RefusedByGround}
 use Rattle.grounds.specs.Tells.{Tells}
 use Rattle.grounds.proofs.Tells.{tells-lt, tells-le, tells-eq, tells-as, tells-not, tells-or}
@@ -23,7 +24,7 @@ use Rattle.mold.specs.Layout.{openingSize, unitSize, fieldsOffset, levelRow, of
 use Rattle.mold.specs.Refusals.{noOpening, openingRefusal, noUnitMark, unitRefusal, recordRefusal, checked}
 use Rattle.mold.specs.Results.{resultSize}
 use Rattle.mold.proofs.Checking.{Facts, Says, checked-says}
-use Rattle.mold_demands.specs.MoldGrounds.{NoOpening, LevelAbove, IsMoldUnit, NoUnitMark, FilledByUnits, MoldOpeningRow, row1, row16, MoldRecordRow, row6, row7, row12, row17, MoldBufferRow, row13, moldRows, moldGrounds, MoldRefusals}
+use Rattle.mold_demands.specs.MoldGrounds.{NoOpening, LevelAbove, IsMoldUnit, NoUnitMark, WholeMoldSheet, MoldOpeningRow, row1, row16, MoldRecordRow, row6, row7, row12, row17, MoldBufferRow, row13, moldRows, moldGrounds, MoldRefusals}
 use Rattle.mold.proofs.Accepted.{Case, by-check, without-room, graded, outcome-case}
 
 -- ---- the opening
@@ -155,10 +156,10 @@ module _ (bytes buffer : List ℕ) where
       }
 
   abbrev Judged : Answer → Type 0
-  Judged answer = RefusedByGround (moldGrounds bytes buffer) (FilledByUnits bytes) answer
+  Judged answer = RefusedByGround (moldGrounds bytes buffer) (WholeMoldSheet bytes) answer
 
   refused-here : (answer : Answer) → (answer .number ≡ 0 → ⊥) → FirstRowMet (moldGrounds bytes buffer) (answer .number) (answer .offset) → Judged answer
-  refused-here = refused-by _ 2 6 _ _ computes (FilledByUnits bytes)
+  refused-here = refused-by _ 2 6 _ _ computes (WholeMoldSheet bytes)
 
   by-says : (answer : Answer) → (answer .number ≡ 0 → ⊥) → Says bytes answer → Judged answer
   by-says answer other (inl (is, facts)) = absurd (other (ap (λ (given : Answer). given .number) is))
@@ -166,14 +167,25 @@ module _ (bytes buffer : List ℕ) where
       refused-here answer refused
       (subst⁻¹ (FirstRowMet (moldGrounds bytes buffer) (answer .number)) at-start
       (opening-refused _ 2 6 _ _ computes (answer .number) in-opening refused))
-  by-says answer other (inr (refused, units, inr stops)) =
+  by-says answer other (inr (refused, units, inr (passed, stops))) =
       refused-here answer refused
       (subst⁻¹ (FirstRowMet (moldGrounds bytes buffer) (answer .number)) (stops .at-offset)
-      (record-refused _ 2 6 _ _ computes (answer .number) (stops .stop) (stops .opening) (stops .inside) (stops .refusal) refused (stops .earlier)))
+      (record-refused _ 2 6 _ _ computes (answer .number) (stops .stop) passed (stops .inside) (stops .refused-by) refused (stops .earlier)))
 
   module _ (units : ℕ) (facts : Facts bytes units) where
     passes : (j : ℕ) → j < units → recordRefusal bytes j ≡ 0
     passes j before = facts .within j before .1
+
+    -- each record is a unit
+    whole : WholeMoldSheet bytes units
+    unfolding unitRefusal
+    whole =
+        record {
+          filled = facts .end;
+          all-units = λ i before.
+              let (inside, passed) = facts .within i before in
+              is-unit bytes i inside (tells-6 bytes i inside .not-so (ground-passed _ 6 _ (lit< tt) passed .0));
+        }
 
     short : length buffer < resultSize * units → Judged (refusedAs 13 (length bytes))
     unfolding rowsAbove
@@ -189,8 +201,8 @@ module _ (bytes buffer : List ℕ) where
   judged-case given (by-check refused) = by-says (checked bytes) refused (checked-says bytes)
   judged-case given (without-room units facts less) = short units facts less
   judged-case given (graded units facts room) =
-      accepted-by _ 2 6 _ _ computes (FilledByUnits bytes) _ refl
-      (none-applies _ 2 6 _ _ computes units (facts .opening) (facts .end) (passes units facts) (has-room units facts room)) (facts .end)
+      accepted-by _ 2 6 _ _ computes (WholeMoldSheet bytes) _ refl
+      (none-applies _ 2 6 _ _ computes units (facts .opening) (facts .end) (passes units facts) (has-room units facts room)) (whole units facts)
 
 pub mold-refusals : MoldRefusals
 mold-refusals bytes buffer answer results promise =

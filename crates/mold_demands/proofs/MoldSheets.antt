@@ -3,21 +3,21 @@ use mathlib.Core.Path.{_≡_, refl, sym}
 use mathlib.Core.List.{List}
 use Prim.Native.Nat.{ℕ, _*_, _<_, _≤_}
 use lib.ListN.{length}
-use Rattle.outcome.specs.Outcome.{refusal}
-use Rattle.mold.specs.Refusals.{acceptedAs, checked}
+use Rattle.outcome.specs.Outcome.{acceptedAs, refusal}
+use Rattle.mold.specs.Refusals.{checked}
 use Rattle.mold.specs.Results.{resultSize}
 use Rattle.mold.specs.Outcome.{acceptance, moldOutcome}
 use Rattle.mold.proofs.Cases.{outcome-short, outcome-graded}
 use Rattle.mold.proofs.Computing.{computing}
-use Rattle.mold_demands.specs.MoldSheets.{LevelSheets, UnitSheets, RefusedSheets, MoldSheets, manualExample, manualExampleResults, level5, level5Results, level10, level10Results, level12, level12Results, level15, level15Results, level20, level20Results, level25, level25Results, belowZero, belowZeroResults, twoFailures, twoFailuresResults, noRecovery, noRecoveryResults, everyFieldPositive, everyFieldPositiveResults, largeCodes, largeCodesResults, noUnit, noUnitResults, twoBytes, anotherMark, markOfTallySheet, grounds1And16, ground16, largestLevelRow, grounds16And6, oneByteLeft, unitOfTallySheet, secondOpening, ground6Before17, unitCutShort, markAlone, grounds7And17, ground17, ground17AtSecondUnit, ground17Before7, bufferWithoutRoom}
+use Rattle.mold_demands.specs.MoldSheets.{LevelSheets, UnitSheets, RefusedSheets, MoldSheets, manualExample, manualExampleResults, level5, level5Results, level10, level10Results, level12, level12Results, level15, level15Results, level20, level20Results, level25, level25Results, belowZero, belowZeroResults, twoFailures, twoFailuresResults, noRecovery, noRecoveryResults, everyFieldPositive, everyFieldPositiveResults, largeCodes, largeCodesResults, noUnit, noUnitResults, twoBytes, anotherMark, markOfTallySheet, grounds1And16, ground16, largestLevelRow, grounds16And6, oneByteLeft, unitOfTallySheet, secondOpening, ground6Before17, unitCutShort, markAlone, fieldsMissing, ground17, ground17AtSecondUnit, ground17Before7, bufferWithoutRoom}
 
 -- a sheet that passes is graded in a buffer that has room for its records, and refused with 13 in one that has not
-module _ (bytes buffer : List ℕ) (units : ℕ) (passes : acceptedAs bytes units ≡ checked bytes) where
+module _ (bytes buffer : List ℕ) (units : ℕ) (passes : acceptedAs units (length bytes) ≡ checked bytes) where
   accepts : resultSize * units ≤ length buffer → moldOutcome bytes buffer ≡ acceptance bytes buffer units
-  accepts room = sym (outcome-graded bytes (acceptedAs bytes units) passes buffer refl room)
+  accepts room = sym (outcome-graded bytes (acceptedAs units (length bytes)) passes buffer refl room)
 
   without-room : length buffer < resultSize * units → moldOutcome bytes buffer ≡ refusal 13 (length bytes) buffer
-  without-room short = sym (outcome-short bytes (acceptedAs bytes units) passes buffer refl short)
+  without-room short = sym (outcome-short bytes (acceptedAs units (length bytes)) passes buffer refl short)
 
 level-sheets : LevelSheets
 unfolding computing manualExample manualExampleResults level5 level5Results level10 level10Results level12 level12Results level15
@@ -48,7 +48,7 @@ unit-sheets =
 
 refused-sheets : RefusedSheets
 unfolding computing twoBytes anotherMark markOfTallySheet grounds1And16 ground16 largestLevelRow grounds16And6 oneByteLeft
-    unitOfTallySheet secondOpening ground6Before17 unitCutShort markAlone grounds7And17 ground17 ground17AtSecondUnit ground17Before7
+    unitOfTallySheet secondOpening ground6Before17 unitCutShort markAlone fieldsMissing ground17 ground17AtSecondUnit ground17Before7
     bufferWithoutRoom
 refused-sheets =
     record {
@@ -65,7 +65,7 @@ refused-sheets =
       ground-6-before-17 = λ buffer. refl;
       unit-cut-short = λ buffer. refl;
       mark-alone = λ buffer. refl;
-      grounds-7-and-17 = λ buffer. refl;
+      fields-missing = λ buffer. refl;
       ground-17 = λ buffer. refl;
       ground-17-at-second-unit = λ buffer. refl;
       ground-17-before-7 = λ buffer. refl;

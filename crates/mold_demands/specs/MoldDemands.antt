@@ -8,6 +8,7 @@ use Rattle.mold_demands.specs.MoldRecords.{MoldGraded}
 use Rattle.mold_demands.specs.MoldLargest.{MoldLargestForm}
 use Rattle.mold_demands.specs.MoldSheets.{MoldSheets}
 use Rattle.mold_demands.specs.MoldText.{MoldText}
+use Rattle.mold_demands.specs.MoldInstances.{MoldInstances}
 
 pub record MoldDemands : Type 0 where
   -- sizes, offsets, fields and levels, as all the others name them, in the paper's numbers
@@ -24,3 +25,5 @@ pub record MoldDemands : Type 0 where
   pub sheets : MoldSheets
   -- what is printed for any input
   pub text : MoldText
+  -- each of them on a sheet of several units, as its theorem gives it
+  pub instances : MoldInstances

@@ -88,9 +88,14 @@ moldGrounds bytes buffer =
 
 -- ---- the statement
 
+-- so many units fill the sheet to its end, each with its mark
+pub record WholeMoldSheet (bytes : List ℕ) (units : ℕ) : Type 0 where
+  pub filled : FilledByUnits bytes units
+  pub all-units : (i : ℕ) → i < units → IsMoldUnit bytes i
+
 -- for every sheet and every buffer, as the promise of `grade_mold` says
 abbrev pub MoldRefusals : Type 0
 MoldRefusals =
     (bytes buffer : List ℕ) (answer : Answer) (results : List ℕ)
     → _≡_ {A = Outcome} (record { answer = answer; buffer = results }) (moldOutcome bytes buffer)
-    → RefusedByGround (moldGrounds bytes buffer) (FilledByUnits bytes) answer
+    → RefusedByGround (moldGrounds bytes buffer) (WholeMoldSheet bytes) answer

@@ -9,7 +9,7 @@ use Rattle.outcome.specs.declared.Answer.{Answer}
 use Rattle.cusum.specs.LargestForm.{largestForm, anchorValue}
 use Rattle.mold.specs.Grading.{numbersOf, failsAt}
 use Rattle.mold.specs.Results.{cusumIn}
-use Rattle.mold.specs.Accepted.{MoldAcceptedAs}
+use Rattle.mold.specs.Outcome.{MoldAcceptedAs}
 use Rattle.mold_demands.specs.MoldRecords.{tenFields}
 
 -- an anchor for unit i, right before unit `from`: S at the opening, L (true) at a failing unit, this one included

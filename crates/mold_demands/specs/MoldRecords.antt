@@ -1,5 +1,6 @@
--- Demand 2 for mold sheets: an accepted sheet gets, unit by unit, exactly the CuSums of rule 2, and whether each unit meets.
-use Prim.Native.Nat.{ℕ, zero, suc, _+_, _*_, _≤_, _<_}
+-- Demand 2 for mold sheets: an accepted sheet gets, unit by unit, exactly the CuSums of rule 2, and whether each unit meets. The course of
+-- the CuSums is told from the sheet, and then that it is what is recorded.
+use Prim.Native.Nat.{ℕ, suc, _+_, _*_, _≤_, _<_}
 use mathlib.Core.Path.{_≡_}
 use mathlib.Core.List.{List}
 use Rattle.outcome.specs.declared.Answer.{Answer}
@@ -8,34 +9,48 @@ use Rattle.grounds.specs.Tells.{Tells}
 use Rattle.mold.specs.Layout.{fieldsOffset, offset}
 use Rattle.mold.specs.Grading.{numbersOf, failsAt}
 use Rattle.mold.specs.Results.{markIn, metIn, cusumIn}
-use Rattle.mold.specs.Accepted.{MoldAcceptedAs}
+use Rattle.mold.specs.Outcome.{MoldAcceptedAs}
 
 -- ten times the positive fields of unit i
 abbrev pub tenFields : List ℕ → ℕ → ℕ
 tenFields bytes i = 10 * byte bytes (offset i + fieldsOffset)
 
--- the old CuSum of unit i: S at the opening, else the one recorded for the unit before it
-unfoldable pub oldCusum : List ℕ → List ℕ → ℕ → ℕ
-oldCusum bytes results zero = numbersOf bytes .start
-oldCusum bytes results (suc i) = cusumIn results i
+module _ (bytes : List ℕ) where
+  -- the raw value of unit i is above L, from an old CuSum: old CuSum + ten times the positive fields - T
+  abbrev pub RawAboveLimit : ℕ → ℕ → Type 0
+  RawAboveLimit old i = numbersOf bytes .tolerance + numbersOf bytes .limit < old + tenFields bytes i
 
--- "The CuSum step is the old one": raw value = old CuSum + ten times the positive fields - T. "A unit meets or fails"; "1 for met or 0"
-pub record MoldRecorded (bytes results : List ℕ) (i : ℕ) : Type 0 where
+  -- "The CuSum step is the old one": the CuSum before each unit, from the opening on
+  pub record MoldCourse (cusum : ℕ → ℕ) : Type 0 where
+    -- rule 1: it begins at S
+    pub opening : cusum 0 ≡ numbersOf bytes .start
+    -- rule 2: if the raw value is above L, the CuSum becomes L
+    pub above : (i : ℕ) → RawAboveLimit (cusum i) i → cusum (suc i) ≡ numbersOf bytes .limit
+    -- if it is below zero, 0
+    pub below : (i : ℕ) → cusum i + tenFields bytes i < numbersOf bytes .tolerance → cusum (suc i) ≡ 0
+    -- otherwise it is the CuSum
+    pub between : (i : ℕ) → numbersOf bytes .tolerance ≤ cusum i + tenFields bytes i → (RawAboveLimit (cusum i) i → ⊥)
+        → numbersOf bytes .tolerance + cusum (suc i) ≡ cusum i + tenFields bytes i
+
+-- "The result is mark 4D 52, 1 for met or 0"; "A unit meets or fails"; the CuSum that the unit makes is the one before the next
+pub record MoldRecorded (bytes results : List ℕ) (cusum : ℕ → ℕ) (i : ℕ) : Type 0 where
   pub mark : markIn results i ≡ 0x4D52
-  -- if it is above L, the unit fails and the CuSum becomes L
-  pub above : numbersOf bytes .tolerance + numbersOf bytes .limit < oldCusum bytes results i + tenFields bytes i
-      → (metIn results i ≡ 0) × (cusumIn results i ≡ numbersOf bytes .limit)
-  -- if it is below zero, the CuSum becomes 0
-  pub below : oldCusum bytes results i + tenFields bytes i < numbersOf bytes .tolerance → (metIn results i ≡ 1) × (cusumIn results i ≡ 0)
-  -- otherwise it is the CuSum
-  pub between : numbersOf bytes .tolerance ≤ oldCusum bytes results i + tenFields bytes i
-      → oldCusum bytes results i + tenFields bytes i ≤ numbersOf bytes .tolerance + numbersOf bytes .limit
-      → (metIn results i ≡ 1) × (numbersOf bytes .tolerance + cusumIn results i ≡ oldCusum bytes results i + tenFields bytes i)
-  -- the words of demand 3: a unit fails, told from the sheet, exactly if its raw value is above L
-  pub fails : Tells (failsAt bytes i) (numbersOf bytes .tolerance + numbersOf bytes .limit < oldCusum bytes results i + tenFields bytes i)
+  pub failed : RawAboveLimit bytes (cusum i) i → metIn results i ≡ 0
+  pub met : (RawAboveLimit bytes (cusum i) i → ⊥) → metIn results i ≡ 1
+  pub cusum-recorded : cusumIn results i ≡ cusum (suc i)
 
--- for every accepted mold sheet and each of its units
+-- of an accepted sheet and the result buffer as it is left
+pub record MoldGradedByRules (bytes results : List ℕ) (units : ℕ) : Type 0 where
+  pub cusum : ℕ → ℕ
+  pub rules : MoldCourse bytes cusum
+  -- every other course that follows the rules is the same
+  pub only-course : (other : ℕ → ℕ) → MoldCourse bytes other → (i : ℕ) → other i ≡ cusum i
+  pub recorded : (i : ℕ) → i < units → MoldRecorded bytes results cusum i
+  -- a word of demand 3: a unit fails, told from the sheet, exactly if its raw value is above L
+  pub fails : (i : ℕ) → Tells (failsAt bytes i) (RawAboveLimit bytes (cusum i) i)
+
+-- for every accepted mold sheet
 abbrev pub MoldGraded : Type 0
 MoldGraded =
     (bytes buffer : List ℕ) (answer : Answer) (results : List ℕ) → MoldAcceptedAs bytes buffer answer results
-    → (i : ℕ) → i < answer .units → MoldRecorded bytes results i
+    → MoldGradedByRules bytes results (answer .units)

@@ -11,7 +11,7 @@ abbrev pub Graded : List ℕ → ℕ → ℕ → List ℕ → Type 0
 Graded = GradedBy moldOutcome resultSize
 
 abbrev pub RefusedWith : ℕ → List ℕ → ℕ → Type 0
-RefusedWith = RefusedBy moldOutcome resultSize
+RefusedWith = RefusedBy moldOutcome
 
 abbrev pub WithoutRoom : ℕ → List ℕ → ℕ → ℕ → Type 0
 WithoutRoom = WithoutRoomBy moldOutcome resultSize
@@ -380,15 +380,15 @@ markAlone =
     ∷ 0x4D ∷ 0x55  -- 2 bytes of 1: 1
     ∷ []
 
--- 7 and not 17: the two bytes left behind the mark are a code, and 26 fields are missing.
-unfoldable pub grounds7And17 : List ℕ
-grounds7And17 =
+-- 7: the two bytes left behind the mark are a code, and the positive fields are missing.
+unfoldable pub fieldsMissing : List ℕ
+fieldsMissing =
     0x4D ∷ 0x44 ∷ 5  -- level 25
     ∷ 0x4D ∷ 0x55 ∷ 0 ∷ 1 ∷ 1  -- 1: 1
     ∷ 0x4D ∷ 0x55 ∷ 26 ∷ 26  -- 4 bytes of 6682: 26
     ∷ []
 
--- 17: 26 fields of 25. And 13 in a buffer without room.
+-- 17: 26 fields of 25, also in a buffer without room.
 unfoldable pub ground17 : List ℕ
 ground17 =
     0x4D ∷ 0x44 ∷ 5  -- level 25
@@ -435,7 +435,7 @@ pub record RefusedSheets : Type 0 where
   pub ground-6-before-17 : RefusedWith 6 ground6Before17 3
   pub unit-cut-short : RefusedWith 7 unitCutShort 8
   pub mark-alone : RefusedWith 7 markAlone 3
-  pub grounds-7-and-17 : RefusedWith 7 grounds7And17 8
+  pub fields-missing : RefusedWith 7 fieldsMissing 8
   pub ground-17 : RefusedWith 17 ground17 3
   pub ground-17-at-second-unit : RefusedWith 17 ground17AtSecondUnit 8
   pub ground-17-before-7 : RefusedWith 17 ground17Before7 3

@@ -10,7 +10,7 @@ use Rattle.outcome.specs.Outcome.{Outcome}
 use Rattle.encoding.specs.Bytes.{byte}
 use Rattle.sheet.specs.Refusals.{mostUnits}
 use Rattle.text.specs.Text.{decimal, oneDecimal, restOfLine, lineWith, linesBy, refusedLine, textBy, largestInput, tooMuchInput, Printing}
-use Rattle.text.specs.Wrote.{wordSize, numberSize}
+use Rattle.text.specs.Wrote.{wordSize, numberDigits}
 use Rattle.text.proofs.Decimals.{length-decimal, length-tenths}
 use Rattle.text.proofs.Printed.{printed-too-much, printed-within, text-accepted, text-refused, text-inside}
 use Rattle.mold.specs.Layout.{codeOffset, offset, moldUnitAt, unitIn}
@@ -39,8 +39,8 @@ short-line sheet results sheet-bytes result-bytes j below =
     let cusum-at = resultSize * j + cusumOffset in
     let tenths = cusumIn results j in
     let number = length-decimal wordSize (j + 1) (omega arith) below in
-    let code = length-decimal numberSize (unitIn sheet j .code) (omega arith) (omega (arith, sheet-bytes code-at, sheet-bytes (code-at + 1))) in
-    let whole = length-decimal (numberSize - 1) (tenths / 10) (omega arith) (omega (arith, result-bytes cusum-at, result-bytes (cusum-at + 1))) in
+    let code = length-decimal numberDigits (unitIn sheet j .code) (omega arith) (omega (arith, sheet-bytes code-at, sheet-bytes (code-at + 1))) in
+    let whole = length-decimal (numberDigits - 1) (tenths / 10) (omega arith) (omega (arith, result-bytes cusum-at, result-bytes (cusum-at + 1))) in
     omega (arith, length-line sheet results j, length-fields results j, number, code, length-tenths tenths, whole)
 
 -- ---- the cases

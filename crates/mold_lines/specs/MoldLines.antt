@@ -1,4 +1,5 @@
--- What is printed for a mold sheet, as bytes in ASCII: a line a unit, or the refusal.
+-- What is printed for a mold sheet, as bytes in ASCII: a line a unit, or the refusal. The papers have no line for a mold sheet: it has the
+-- fields of a tally sheet's line that a mold unit has.
 use Prim.Native.Nat.{ℕ, _+_, _*_}
 use Prim.Native.Char.{code}
 use mathlib.Core.List.{List, [], _∷_}
@@ -6,7 +7,7 @@ use lib.ListN.{getD, replicate}
 use Rattle.sheet.specs.Refusals.{mostUnits}
 use Rattle.text.specs.Ascii.{ascii}
 use Rattle.text.specs.Text.{decimal, oneDecimal, lineWith, textBy, printedBy, Printing, leaving}
-use Rattle.text.specs.Wrote.{wordSize, numberSize, cusumSize}
+use Rattle.text.specs.Wrote.{wordSize, numberDigits, cusumSize}
 use Rattle.mold.specs.Layout.{unitIn}
 use Rattle.mold.specs.Results.{resultSize, metIn, cusumIn}
 use Rattle.mold.specs.Outcome.{moldOutcome}
@@ -33,9 +34,10 @@ moldPrinted input =
     let given = moldOutcome input emptyMoldResults in
     printedBy input (textBy (given .answer) (moldLineOf input (given .buffer)))
 
+-- the caller's text as it is left
 unfoldable pub moldPrinting : List ℕ → List ℕ → Printing
 moldPrinting input text = leaving (moldPrinted input) text
 
 -- for contracts of private functions: no line is longer
 abbrev pub moldLineSize : ℕ
-moldLineSize = wordSize + 1 + numberSize + 1 + 1 + 1 + cusumSize + 1
+moldLineSize = wordSize + 1 + numberDigits + 1 + 1 + 1 + cusumSize + 1

@@ -16,7 +16,7 @@ use mold::mold_unit_at;
 use sheet::MOST_UNITS;
 use text::CUSUM_SIZE;
 use text::LARGEST_INPUT;
-use text::NUMBER_SIZE;
+use text::NUMBER_DIGITS;
 use text::TOO_MUCH_INPUT;
 use text::WORD_SIZE;
 use text::decimal;
@@ -28,7 +28,7 @@ use text::refusal_line;
 use text::tenths_field;
 
 // The longest line of a unit, which has one byte behind each field; bytes enough for the lines of the most units.
-const LINE_SIZE: usize = WORD_SIZE + 1 + NUMBER_SIZE + 1 + 1 + 1 + CUSUM_SIZE + 1;
+const LINE_SIZE: usize = WORD_SIZE + 1 + NUMBER_DIGITS + 1 + 1 + 1 + CUSUM_SIZE + 1;
 
 pub const MOLD_TEXT_SIZE: usize = LINE_SIZE * MOST_UNITS;
 

@@ -10,7 +10,8 @@ pub struct Answer {
     pub offset: usize,
 }
 
-pub fn refusal(number: u32, offset: usize) -> Answer
+// A refusal, with no units.
+pub fn refused_as(number: u32, offset: usize) -> Answer
     ensures { λ r. ⌜ r ≡ refusedAs number offset ⌝ }
 {
     Answer {

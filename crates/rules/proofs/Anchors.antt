@@ -16,22 +16,22 @@ use Rattle.units.specs.declared.Entry.the-variants.{UnitRecord}
 use Rattle.units.specs.Words.{hasPlan, classes, numbersOf, tenthsOf}
 use Rattle.units.specs.Unit.{classCusum}
 use Rattle.rules.specs.Sheet.{Sheet, before, inForceAt}
-use Rattle.rules.specs.Anchor.{countAt, restartAt, classFailsAt, countsFrom, Anchor, opening, restart, failure, Latest}
+use Rattle.rules.specs.Anchor.{tenthsAt, restartAt, classFailsAt, tenthsFrom, Anchor, opening, restart, failure, Latest}
 use Rattle.rules.proofs.LargestForm.{Trail, fromStart, failedHere, trailWith, trailBefore, trailAt, largest-form}
 
 module _ (sheet : Sheet) (class : ℕ) where
   -- the counts of one record, and how they go on, record by record
-  pub counts-of-one : (i : ℕ) → countsFrom sheet class i 1 ≡ countAt class (sheet .entry i)
-  unfolding countsFrom
-  counts-of-one i = ap (λ (j : ℕ). countAt class (sheet .entry j)) (add-zero i)
+  pub tenths-of-one : (i : ℕ) → tenthsFrom sheet class i 1 ≡ tenthsAt class (sheet .entry i)
+  unfolding tenthsFrom
+  tenths-of-one i = ap (λ (j : ℕ). tenthsAt class (sheet .entry j)) (add-zero i)
 
-  pub counts-go-on : (from n : ℕ) → countsFrom sheet class from (suc n) ≡ countsFrom sheet class from n ++ countsFrom sheet class (from + n) 1
-  unfolding countsFrom
-  counts-go-on from n = ap (λ (j : ℕ). countsFrom sheet class from n ++ countAt class (sheet .entry j)) (sym (add-zero (from + n)))
+  pub tenths-go-on : (from n : ℕ) → tenthsFrom sheet class from (suc n) ≡ tenthsFrom sheet class from n ++ tenthsFrom sheet class (from + n) 1
+  unfolding tenthsFrom
+  tenths-go-on from n = ap (λ (j : ℕ). tenthsFrom sheet class from n ++ tenthsAt class (sheet .entry j)) (sym (add-zero (from + n)))
 
   -- one record more on a trail: its count, if it is a unit
   abbrev extended : Trail → ℕ → Trail
-  extended trail i = record { failed = trail .failed; counts = trail .counts ++ countAt class (sheet .entry i) }
+  extended trail i = record { failed = trail .failed; counts = trail .counts ++ tenthsAt class (sheet .entry i) }
 
   trail-kept : (i : ℕ) → restartAt sheet i ≡ false → trailBefore sheet class (suc i) ≡ trailAt sheet class i
   unfolding trailBefore
@@ -53,8 +53,8 @@ module _ (sheet : Sheet) (class : ℕ) where
   trail-between : (from n : ℕ) (failed : Bool) → trailBefore sheet class from ≡ record { failed = failed; counts = [] }
       → ((j : ℕ) → from ≤ j → j < from + n → classFailsAt sheet class j ≡ false)
       → ((j : ℕ) → from ≤ j → j < from + n → restartAt sheet j ≡ false)
-      → trailBefore sheet class (from + n) ≡ record { failed = failed; counts = countsFrom sheet class from n }
-  unfolding countsFrom
+      → trailBefore sheet class (from + n) ≡ record { failed = failed; counts = tenthsFrom sheet class from n }
+  unfolding tenthsFrom
   trail-between from zero failed e f r = rw add-zero e
   trail-between from (suc n) failed e f r =
       let earlier = trail-between from n failed e (λ j h l. f j h (omega arith)) (λ j h l. r j h (omega arith)) in
@@ -66,8 +66,8 @@ module _ (sheet : Sheet) (class : ℕ) where
   -- with record from + n, too
   trail-through : (from n : ℕ) (failed : Bool) → trailBefore sheet class from ≡ record { failed = failed; counts = [] }
       → Latest sheet class (from + n) from
-      → trailAt sheet class (from + n) ≡ record { failed = failed; counts = countsFrom sheet class from (suc n) }
-  unfolding countsFrom
+      → trailAt sheet class (from + n) ≡ record { failed = failed; counts = tenthsFrom sheet class from (suc n) }
+  unfolding tenthsFrom
   trail-through from n failed e latest =
       trail-extended (from + n) (latest .no-failure (from + n) (omega arith) (omega arith))
       ∙ ap (λ (trail : Trail). extended trail (from + n))
@@ -91,12 +91,12 @@ module _ (sheet : Sheet) (class : ℕ) where
 
   -- THE ANCHOR: wherever the latest one lies, the trail has its kind and the counts since it
   pub anchored : (i from n : ℕ) (failed : Bool) → from + n ≡ suc i → Anchor sheet class i from failed → Latest sheet class i from
-      → trailAt sheet class i ≡ record { failed = failed; counts = countsFrom sheet class from n }
-  unfolding countsFrom
+      → trailAt sheet class i ≡ record { failed = failed; counts = tenthsFrom sheet class from n }
+  unfolding tenthsFrom
   anchored i from zero failed e lies latest = trail-at-own i from failed (omega arith) lies
   anchored i from (suc n) failed e lies latest =
       let here : from + n ≡ i = omega arith in
-      subst (λ (record-number : ℕ). trailAt sheet class record-number ≡ record { failed = failed; counts = countsFrom sheet class from (suc n) }) here
+      subst (λ (record-number : ℕ). trailAt sheet class record-number ≡ record { failed = failed; counts = tenthsFrom sheet class from (suc n) }) here
       (trail-through from n failed (trail-at-anchor i from failed (omega arith) lies)
       (subst⁻¹ (λ (record-number : ℕ). Latest sheet class record-number from) here latest))
 
@@ -176,7 +176,7 @@ pub largest-form-by-place : (sheet : Sheet) (class : ℕ) → class < length cla
     → (from n : ℕ) (failed : Bool) → from + n ≡ suc i → Anchor sheet class i from failed → Latest sheet class i from →
     let numbers = numbersOf (sheet .table) (inForceAt sheet i) class in
     pos (classCusum (sheet .table) (inForceAt sheet i) (before sheet i .cusums) (tenthsOf unit) class)
-    ≡ largestForm numbers (anchorValue numbers failed) (countsFrom sheet class from n)
+    ≡ largestForm numbers (anchorValue numbers failed) (tenthsFrom sheet class from n)
 largest-form-by-place sheet class in-range i unit e h from n failed q lies latest =
     let numbers = numbersOf (sheet .table) (inForceAt sheet i) class in
     largest-form sheet class in-range i unit e h

@@ -16,13 +16,13 @@ use Rattle.cusum.proofs.Runs.{after, Meets, after-le-limit, after-snoc, meets-s
 use Rattle.units.specs.declared.SampleUnit.{SampleUnit}
 use Rattle.units.specs.declared.Entry.{Entry}
 use Rattle.units.specs.declared.Entry.the-variants.{UnitRecord, Redesignation, Break}
-use Rattle.units.specs.Words.{hasPlan, classes, Table, rowOf, numbersOf, tenthsOf, countIn, tenthsIn}
+use Rattle.units.specs.Words.{hasPlan, classes, Table, rowOf, numbersOf, tenthsOf, countTenths, tenthsIn}
 use Rattle.units.specs.Unit.{starting, classFails, classCusum, newCusums}
 use Rattle.units.proofs.Classes.{at-class}
 use Rattle.rules.specs.declared.State.{State}
 use Rattle.rules.specs.StepThree.{inForceIn, inForce, restarted, graded}
 use Rattle.rules.specs.Sheet.{Sheet, before, inForceAt}
-use Rattle.rules.specs.Anchor.{failsAt, countAt, restartAt}
+use Rattle.rules.specs.Anchor.{failsAt, tenthsAt, restartAt}
 use Rattle.rules.proofs.Restarts.{cusumsBehind, restart-starts, no-restart-keeps}
 
 -- ---- where the anchor lies, as a fold over the records
@@ -43,7 +43,7 @@ failedHere = record { failed = true; counts = [] }
 -- up to and with a record
 unfoldable pub trailWith : Table → ℕ → State → Entry → Trail → Trail
 trailWith table class state entry trail =
-    cond (failsAt table class state entry) failedHere (record { failed = trail .failed; counts = trail .counts ++ countAt class entry })
+    cond (failsAt table class state entry) failedHere (record { failed = trail .failed; counts = trail .counts ++ tenthsAt class entry })
 
 -- before record i
 unfoldable pub trailBefore : Sheet → ℕ → ℕ → Trail
@@ -81,15 +81,15 @@ module _ (table : Table) (class : ℕ) (in-range : class < length classes) where
   at-unit : (state : State) (unit : SampleUnit) (trail : Trail) → hasPlan (inForce state) ≡ true → Held table class (inForce state) (state .cusums) trail
       → Reached (numbersOf table (inForce state) class) (classCusum table (inForce state) (state .cusums) (tenthsOf unit) class)
       (trailWith table class state (UnitRecord unit) trail)
-  unfolding classCusum trailWith failsAt countAt classFails
+  unfolding classCusum trailWith failsAt tenthsAt classFails
   at-unit state unit trail planned held =
       let numbers = numbersOf table (inForce state) class in
-      rw planned (one-unit numbers (tenthsIn (state .cusums) class) (countIn (tenthsOf unit) class) trail (held planned) _ refl)
+      rw planned (one-unit numbers (tenthsIn (state .cusums) class) (countTenths (tenthsOf unit) class) trail (held planned) _ refl)
 
   -- after a record that brings no restart
   at-entry : (state : State) (entry : Entry) (trail : Trail) → hasPlan (inForce state) ≡ true → Held table class (inForce state) (state .cusums) trail
       → Reached (numbersOf table (inForce state) class) (tenthsIn (cusumsBehind table state entry) class) (trailWith table class state entry trail)
-  unfolding cusumsBehind graded newCusums trailWith failsAt countAt
+  unfolding cusumsBehind graded newCusums trailWith failsAt tenthsAt
   at-entry state (UnitRecord unit) trail planned held =
       subst⁻¹ (λ (value : ℕ). Reached (numbersOf table (inForce state) class) value (trailWith table class state (UnitRecord unit) trail))
       (at-class (classCusum table (inForce state) (state .cusums) (tenthsOf unit)) class in-range) (at-unit state unit trail planned held)

@@ -4,7 +4,7 @@ use mathlib.Core.Path.{_≡_}
 use mathlib.Core.Bool.{Bool, true, false, not, _&&_, _||_}
 use mathlib.Core.List.{List, [], _∷_, _++_}
 use lib.Dec.{ltb}
-use Rattle.units.specs.Words.{Table, tenthsOf, countIn}
+use Rattle.units.specs.Words.{Table, tenthsOf, countTenths}
 use Rattle.units.specs.Unit.{classFails}
 use Rattle.units.specs.declared.Entry.{Entry}
 use Rattle.units.specs.declared.Entry.the-variants.{UnitRecord, Redesignation, Break}
@@ -21,10 +21,10 @@ failsAt table class state (Redesignation new) = false
 failsAt table class state Break = false
 
 -- the count of a class at a record, in tenths, if that is a unit
-unfoldable pub countAt : ℕ → Entry → List ℕ
-countAt class (UnitRecord unit) = countIn (tenthsOf unit) class ∷ []
-countAt class (Redesignation new) = []
-countAt class Break = []
+unfoldable pub tenthsAt : ℕ → Entry → List ℕ
+tenthsAt class (UnitRecord unit) = countTenths (tenthsOf unit) class ∷ []
+tenthsAt class (Redesignation new) = []
+tenthsAt class Break = []
 
 module _ (sheet : Sheet) where
   -- the restarts are a break, the start of step 3, its end, and every redesignation but one that keeps the CuSums, by their places:
@@ -44,9 +44,9 @@ module _ (sheet : Sheet) where
   classFailsAt class j = failsAt (sheet .table) class (before sheet j) (sheet .entry j)
 
   -- the counts of the class, in tenths, at the units among the n records from record `from` on
-  unfoldable pub countsFrom : ℕ → ℕ → ℕ → List ℕ
-  countsFrom class from zero = []
-  countsFrom class from (suc n) = countsFrom class from n ++ countAt class (sheet .entry (from + n))
+  unfoldable pub tenthsFrom : ℕ → ℕ → ℕ → List ℕ
+  tenthsFrom class from zero = []
+  tenthsFrom class from (suc n) = tenthsFrom class from n ++ tenthsAt class (sheet .entry (from + n))
 
 -- an anchor of the class for the unit that is record i, right before record `from`: S at the opening of the sheet or at a restart
 -- before the unit, L (true) at a failing unit, this one included. A restart that a failing unit brings about comes after

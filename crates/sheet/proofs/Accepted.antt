@@ -15,19 +15,10 @@ use Rattle.sheet.specs.Refusals.{planRefusal, recordRefusal, checkFrom, 
 use Rattle.sheet.specs.declared.Verdict.{Verdict}
 use Rattle.sheet.specs.declared.Verdict.the-variants.{Accepted, Refused}
 use Rattle.layout.proofs.Offsets.{offset-lt, offset-ge}
-use Rattle.sheet.proofs.LeftToRight.{check-says}
+use Rattle.sheet.proofs.LeftToRight.{Stops, check-says}
 use Rattle.sheet.proofs.Grounds.{plan-whole, whole-record}
 
 -- ---- the records
-
--- the first record that is refused
-pub record Stops (bytes : List ℕ) (number at : ℕ) : Type 0 where
-  pub stop : ℕ
-  pub inside : offset bytes stop < length bytes
-  pub at-offset : at ≡ offset bytes stop
-  pub refusal : number ≡ recordRefusal bytes stop
-  pub refused : number ≡ 0 → ⊥
-  pub earlier : (j : ℕ) → j < stop → recordRefusal bytes j ≡ 0
 
 -- every record stands further on than its number says
 pub offset-further : (bytes : List ℕ) (i : ℕ) → i < offset bytes i
@@ -47,7 +38,7 @@ unfoldable pub Says : List ℕ → Verdict → Type 0
 Says bytes (Accepted n units) = Facts bytes n × (units ≡ unitsBefore bytes n)
 Says bytes (Refused number at) =
     (number ≡ 0 → ⊥)
-    × (((number ≡ planRefusal bytes) × (at ≡ 0)) ⊎ ((planRefusal bytes ≡ 0) × Stops bytes number at))
+    × (((number ≡ planRefusal bytes) × (at ≡ 0)) ⊎ ((planRefusal bytes ≡ 0) × Stops (length bytes) (offset bytes) (recordRefusal bytes) number at))
 
 module _ (bytes : List ℕ) where
   next-within : (i : ℕ) → recordRefusal bytes i ≡ 0 → offset bytes (suc i) ≤ length bytes
@@ -63,20 +54,7 @@ module _ (bytes : List ℕ) where
         record { plan = passed; end = end; within = within; whole = λ j h. omega (arith, end, offset-lt bytes j n h) },
         refl,
       ))
-      (λ stop inside refused within. (
-        refused,
-        inr (
-          passed,
-          record {
-            stop = stop;
-            inside = inside;
-            at-offset = refl;
-            refusal = refl;
-            refused = refused;
-            earlier = λ j before. within j before .1;
-          },
-        ),
-      ))
+      (λ number at stops. (stops .refused, inr (passed, stops)))
       (plan-whole bytes passed)
 
   pub verdict-says : Says bytes (verdict bytes)

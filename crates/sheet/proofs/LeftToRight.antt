@@ -9,6 +9,15 @@ use borrow.Author.Tests.{leb-true, leb-false, le-leb, lt-leb, eqb-true, eqb-fals
 use Rattle.units.specs.Conditions.{pick}
 use Rattle.sheet.specs.LeftToRight.{leftToRight}
 
+-- the first record that is refused
+pub record Stops (end : ℕ) (offset refusal : ℕ → ℕ) (number at : ℕ) : Type 0 where
+  pub stop : ℕ
+  pub inside : offset stop < end
+  pub at-offset : at ≡ offset stop
+  pub refused-by : number ≡ refusal stop
+  pub refused : number ≡ 0 → ⊥
+  pub earlier : (j : ℕ) → j < stop → refusal j ≡ 0
+
 module _ {A : Type 0} (end : ℕ) (offset refusal : ℕ → ℕ) (accepted : ℕ → A) (refused : ℕ → ℕ → A) where
   abbrev check : ℕ → ℕ → A
   check = leftToRight end offset refusal accepted refused
@@ -49,7 +58,7 @@ module _ {A : Type 0} (end : ℕ) (offset refusal : ℕ → ℕ) (accepted : ℕ
   module _ (further : (i : ℕ) → i < offset i) (whole : (i : ℕ) → refusal i ≡ 0 → offset (suc i) ≤ end)
       (Holds : A → Type 0)
       (where-accepted : (n : ℕ) → offset n ≡ end → Pass n → Holds (accepted n))
-      (where-refused : (n : ℕ) → offset n < end → (refusal n ≡ 0 → ⊥) → Pass n → Holds (refused (refusal n) (offset n))) where
+      (where-refused : (number at : ℕ) → Stops end offset refusal number at → Holds (refused number at)) where
     comes-to : (most i : ℕ) → end ≤ i + most → offset i ≤ end → Pass i → Holds (check most i)
     unfolding leftToRight pick
     comes-to zero i enough h earlier = absurd (omega (arith, further i))
@@ -59,7 +68,16 @@ module _ {A : Type 0} (end : ℕ) (offset refusal : ℕ → ℕ) (accepted : ℕ
         inner : offset i < end → (refusal i ≡ 0 → Holds (check most (suc i))) → (test : Bool) → eqb (refusal i) 0 ≡ test
             → Holds (pick test (check most (suc i)) (refused (refusal i) (offset i)))
         inner inside later true e = later (eqb-true (refusal i) 0 e)
-        inner inside later false e = where-refused i inside (eqb-false (refusal i) 0 e) earlier
+        inner inside later false e =
+            where-refused (refusal i) (offset i)
+            (record {
+              stop = i;
+              inside = inside;
+              at-offset = refl;
+              refused-by = refl;
+              refused = eqb-false (refusal i) 0 e;
+              earlier = λ j before. earlier j before .1;
+            })
 
         outer : (offset i < end → refusal i ≡ 0 → Holds (check most (suc i))) → (test : Bool) → leb end (offset i) ≡ test
             → Holds (pick test (accepted i) (pick (eqb (refusal i) 0) (check most (suc i)) (refused (refusal i) (offset i))))

@@ -6,12 +6,15 @@ use mathlib.Core.Bool.{Bool, true, false}
 use mathlib.Core.List.{List}
 use mathlib.Core.Logic.{_⊎_, inl, inr}
 use native.Mathlib.Omega.{arith}
+use lib.ListN.{length}
 use Rattle.units.specs.declared.Plan.{Plan}
+use Rattle.layout.specs.Layout.{offset}
 use Rattle.sheet.specs.Refusals.{refusedIf, tableRefusal, planRefusal, unitRefusal, redesignationRefusal, refusalBy, refusalAt, recordRefusal, verdict}
 use Rattle.layout.specs.declared.Mark.{Mark}
 use Rattle.layout.specs.declared.Mark.the-variants.{UnitMark, RedesignationMark, BreakMark, NoMark}
 use Rattle.sheet.specs.declared.Verdict.the-variants.{Refused}
-use Rattle.sheet.proofs.Accepted.{Stops, Says, verdict-says}
+use Rattle.sheet.proofs.LeftToRight.{Stops}
+use Rattle.sheet.proofs.Accepted.{Says, verdict-says}
 
 -- none, or a number from the first to the last
 abbrev Among : ℕ → ℕ → ℕ → Type 0
@@ -62,7 +65,7 @@ some first last number known other same (inr (from, to)) = (omega arith, omega a
 -- a refusal of the plan, or of the first record refused
 abbrev pub Which : List ℕ → ℕ → ℕ → Type 0
 Which bytes number at =
-    ((1 ≤ number) × (number ≤ 5) × (number ≡ planRefusal bytes) × (at ≡ 0)) ⊎ ((6 ≤ number) × (number ≤ 12) × Stops bytes number at)
+    ((1 ≤ number) × (number ≤ 5) × (number ≡ planRefusal bytes) × (at ≡ 0)) ⊎ ((6 ≤ number) × (number ≤ 12) × Stops (length bytes) (offset bytes) (recordRefusal bytes) number at)
 
 pub refusal-listed : (bytes : List ℕ) (number at : ℕ) → verdict bytes ≡ Refused number at → Which bytes number at
 unfolding Says
@@ -72,5 +75,5 @@ refusal-listed bytes number at refused = go (subst (Says bytes) refused (verdict
     go (other, inl (of-plan, at-start)) =
         let (from, to) = some 1 5 number (planRefusal bytes) other of-plan (plan-among bytes) in inl (from, to, of-plan, at-start)
     go (other, inr (passed, stops)) =
-        let (from, to) = some 6 12 number (recordRefusal bytes (stops .stop)) other (stops .refusal) (record-among bytes (stops .stop)) in
+        let (from, to) = some 6 12 number (recordRefusal bytes (stops .stop)) other (stops .refused-by) (record-among bytes (stops .stop)) in
         inr (from, to, stops)

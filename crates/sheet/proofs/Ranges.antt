@@ -12,7 +12,7 @@ use borrow.Author.Tests.{ltb-false, leb-false}
 use Rattle.cusum.specs.Counts.{tenTimes}
 use Rattle.cusum.specs.declared.PlanNumbers.{PlanNumbers}
 use Rattle.encoding.specs.Bytes.{byte}
-use Rattle.units.specs.Words.{substandard, classes, cellOf, numbersOf, tableOf, tenthsOf, countIn}
+use Rattle.units.specs.Words.{substandard, classes, cellOf, numbersOf, tableOf, tenthsOf, countTenths}
 use Rattle.units.specs.declared.Plan.{Plan}
 use Rattle.units.specs.declared.SampleUnit.{SampleUnit}
 use Rattle.units.specs.declared.Entry.the-variants.{UnitRecord, Redesignation}
@@ -135,7 +135,7 @@ module _ (bytes : List ℕ) (n : ℕ) (facts : Facts bytes n) where
       subst (λ (u : SampleUnit). u .prerequisite ≤ substandard) same (unit-here i is-unit .1)
 
   -- the count of a class is at most the largest in every kind together, in tenths
-  pub count-le : (i : ℕ) → mark bytes i ≡ UnitMark → (class : ℕ) → countIn (tenthsOf (sampleUnitAt bytes (offset bytes i))) class ≤ tenTimes (kinds * largestCount)
+  pub count-le : (i : ℕ) → mark bytes i ≡ UnitMark → (class : ℕ) → countTenths (tenthsOf (sampleUnitAt bytes (offset bytes i))) class ≤ tenTimes (kinds * largestCount)
   count-le i is-unit class =
       let unit = sampleUnitAt bytes (offset bytes i) in
       let fit = unit-here i is-unit .2 in

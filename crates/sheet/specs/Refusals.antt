@@ -4,7 +4,7 @@ use mathlib.Core.Bool.{Bool, true, false, not, _||_}
 use mathlib.Core.List.{List}
 use lib.Dec.{ltb, leb, eqb}
 use lib.ListN.{length}
-use Rattle.outcome.specs.Outcome.{refusedAs}
+use Rattle.outcome.specs.Outcome.{acceptedAs, refusedAs}
 use Rattle.outcome.specs.declared.Answer.{Answer}
 use Rattle.cusum.specs.declared.PlanNumbers.{PlanNumbers}
 use Rattle.encoding.specs.Bytes.{byte, number}
@@ -141,5 +141,5 @@ verdict bytes =
 
 -- of each case: acceptance has the number of units and the sheet's length, a refusal no units and the place where the sheet stopped
 abbrev pub answerOf : List ℕ → Verdict → Answer
-answerOf bytes (Accepted records units) = record { number = 0; units = units; offset = length bytes }
+answerOf bytes (Accepted records units) = acceptedAs units (length bytes)
 answerOf bytes (Refused number offset) = refusedAs number offset

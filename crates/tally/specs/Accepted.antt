@@ -10,13 +10,12 @@ use Rattle.layout.specs.declared.Mark.the-variants.{UnitMark}
 use Rattle.results.specs.Record.{cusumIn, overshootIn, portionGradeIn, codeGradeIn}
 use Rattle.recording.specs.Sheet.{sheetOf}
 use Rattle.outcome.specs.declared.Answer.{Answer}
-use Rattle.outcome.specs.Outcome.{Outcome}
+use Rattle.outcome.specs.Outcome.{AcceptedBy}
 use Rattle.tally.specs.Outcome.{outcome, recordsIn}
 
--- grading a sheet into a buffer gave this answer and left these bytes, as the promise of `grade` says, and the sheet was accepted
-pub record AcceptedAs (bytes buffer : List ℕ) (answer : Answer) (results : List ℕ) : Type 0 where
-  pub promise : _≡_ {A = Outcome} (record { answer = answer; buffer = results }) (outcome bytes buffer)
-  pub accepted : answer .number ≡ 0
+-- a sheet that `grade` accepts
+abbrev pub AcceptedAs : List ℕ → List ℕ → Answer → List ℕ → Type 0
+AcceptedAs = AcceptedBy outcome
 
 -- the sheet as the rules grade it: failures and restarts are told from it, never from the result records
 unfoldable pub sheetIn : List ℕ → Sheet

@@ -9,7 +9,7 @@ use cusum::Cusum;
 use cusum::PlanNumbers;
 use layout::plan_of;
 use outcome::Answer;
-use outcome::refusal;
+use outcome::refused_as;
 use results::RESULT_SIZE;
 use sheet::Verdict;
 use sheet::check;
@@ -44,11 +44,11 @@ fn grade_accepted(bytes: &[u8], results: &mut [u8], records: usize, units: usize
     ensures { λ r. ⌜ _≡_ {A = Outcome} (record { answer = r; buffer = now (results .exit) }) (outcomeBy (now (bytes .entry)) (now (results .entry)) (Accepted records units)) ⌝ }
 {
     if results.len() < RESULT_SIZE * units {
-        return refusal(13, bytes.len());
+        return refused_as(13, bytes.len());
     }
     let plan = plan_of(bytes);
     if any_limit_too_large(plan) {
-        return refusal(14, bytes.len());
+        return refused_as(14, bytes.len());
     }
     write_records(bytes, records, plan.table(), plan.designated, results);
     grade_codes(results, units);
@@ -66,6 +66,6 @@ pub fn grade(sheet: &[u8], results: &mut [u8]) -> Answer
 {
     match check(sheet) {
         Verdict::Accepted { records, units } => grade_accepted(sheet, results, records, units),
-        Verdict::Refused { number, offset } => refusal(number as u32, offset),
+        Verdict::Refused { number, offset } => refused_as(number as u32, offset),
     }
 }

@@ -18,9 +18,9 @@ abbrev pub wordSize : ℕ
 wordSize = 20
 
 -- no number of two bytes has more
-abbrev pub numberSize : ℕ
-numberSize = 5
+abbrev pub numberDigits : ℕ
+numberDigits = 5
 
 -- no CuSum with one decimal is longer
 abbrev pub cusumSize : ℕ
-cusumSize = numberSize + 1
+cusumSize = numberDigits + 1

@@ -17,9 +17,9 @@ pub const TOO_MUCH_INPUT: u32 = 15;
 // The most bytes of a usize in decimal, of a number of two bytes, and of a CuSum.
 pub const WORD_SIZE: usize = 20;
 
-pub const NUMBER_SIZE: usize = 5;
+pub const NUMBER_DIGITS: usize = 5;
 
-pub const CUSUM_SIZE: usize = NUMBER_SIZE + 1;
+pub const CUSUM_SIZE: usize = NUMBER_DIGITS + 1;
 
 // ---- bytes, numbers, letters
 

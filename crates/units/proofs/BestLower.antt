@@ -8,7 +8,7 @@ use native.Mathlib.Omega.{arith}
 use lib.Dec.{ltb}
 use lib.ListN.{length}
 use borrow.Author.Tests.{ltb-true, lt-ltb, leb-true, le-leb}
-use Rattle.units.specs.Words.{substandard, classes, Table, rowOf, numbersOf, countIn}
+use Rattle.units.specs.Words.{substandard, classes, Table, rowOf, numbersOf, countTenths}
 use Rattle.units.specs.Unit.{noneAbove, admits, bestLower}
 use Rattle.units.specs.BestLower.{Admits, BestLower}
 use Rattle.units.proofs.Lists.{all-each, each-all}
@@ -22,12 +22,12 @@ module _ (table : Table) (counts : List ℕ) where
   admits-all : (grade : ℕ) → admits (rowOf table grade) counts ≡ true → Admits table grade counts
   unfolding admits noneAbove
   admits-all grade e class inside =
-      leb-true (countIn counts class) (bound grade class) (all-each (length classes) _ e class inside)
+      leb-true (countTenths counts class) (bound grade class) (all-each (length classes) _ e class inside)
 
   admits-test : (grade : ℕ) → Admits table grade counts → admits (rowOf table grade) counts ≡ true
   unfolding admits noneAbove
   admits-test grade every =
-      each-all (length classes) _ (λ class inside. le-leb (countIn counts class) (bound grade class) (every class inside))
+      each-all (length classes) _ (λ class inside. le-leb (countTenths counts class) (bound grade class) (every class inside))
 
   not-admits : (grade : ℕ) → admits (rowOf table grade) counts ≡ false → Admits table grade counts → ⊥
   not-admits grade e every = true≢false (sym (admits-test grade every) ∙ e)

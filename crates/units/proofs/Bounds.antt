@@ -12,7 +12,7 @@ use Rattle.cusum.specs.Counts.{defectTenths}
 use Rattle.cusum.specs.Step.{overshoot}
 use Rattle.cusum.proofs.Laws.{new-cusum-le-limit, overshoot-le-tenths}
 use Rattle.units.specs.declared.SampleUnit.{SampleUnit}
-use Rattle.units.specs.Words.{substandard, hasPlan, Table, rowOf, numbersOf, total, tenthsOf, countIn, tenthsIn}
+use Rattle.units.specs.Words.{substandard, hasPlan, Table, rowOf, numbersOf, total, tenthsOf, countTenths, tenthsIn}
 use Rattle.units.specs.Unit.{classCusum, classOvershoot, unitFails, admits, bestLower, defectGrade}
 
 -- what bounds two numbers bounds either of them
@@ -21,7 +21,7 @@ choice-le true x y n h k = h
 choice-le false x y n h k = k
 
 -- the count of a class is at most the sum of all kinds
-pub count-le-all : (unit : SampleUnit) (class : ℕ) → countIn (tenthsOf unit) class ≤ defectTenths (total unit)
+pub count-le-all : (unit : SampleUnit) (class : ℕ) → countTenths (tenthsOf unit) class ≤ defectTenths (total unit)
 count-le-all unit zero = omega arith
 count-le-all unit (suc zero) = omega arith
 count-le-all unit (suc (suc zero)) = omega arith
@@ -34,11 +34,11 @@ module _ (table : Table) (grade : ℕ) (cusums : List Cusum) (counts : List ℕ)
   unfolding classCusum
   class-cusum-le =
       choice-le (hasPlan grade) _ 0 _
-      (new-cusum-le-limit (numbersOf table grade class) (tenthsIn cusums class) (countIn counts class)) (omega arith)
+      (new-cusum-le-limit (numbersOf table grade class) (tenthsIn cusums class) (countTenths counts class)) (omega arith)
 
   -- an overshoot at most ten times the count, if the CuSum before the unit is at most L where there is a plan
   pub class-overshoot-le : (hasPlan grade ≡ true → tenthsIn cusums class ≤ numbersOf table grade class .limit)
-      → classOvershoot table grade cusums counts class ≤ countIn counts class
+      → classOvershoot table grade cusums counts class ≤ countTenths counts class
   unfolding classOvershoot
   class-overshoot-le within = go (hasPlan grade) within
     where
@@ -46,8 +46,8 @@ module _ (table : Table) (grade : ℕ) (cusums : List Cusum) (counts : List ℕ)
       numbers = numbersOf table grade class
 
       go : (planned : Bool) → (planned ≡ true → tenthsIn cusums class ≤ numbers .limit)
-          → cond planned (overshoot numbers (tenthsIn cusums class) (countIn counts class)) 0 ≤ countIn counts class
-      go true within = overshoot-le-tenths numbers (tenthsIn cusums class) (countIn counts class) (within refl)
+          → cond planned (overshoot numbers (tenthsIn cusums class) (countTenths counts class)) 0 ≤ countTenths counts class
+      go true within = overshoot-le-tenths numbers (tenthsIn cusums class) (countTenths counts class) (within refl)
       go false within = omega arith
 
 best-lower-at-most : (table : Table) (grade : ℕ) (counts : List ℕ) → bestLower table grade counts ≤ substandard

@@ -14,7 +14,7 @@ use Rattle.cusum.specs.Counts.{tenTimes}
 use Rattle.cusum.specs.Step.{fails}
 use Rattle.cusum.proofs.Laws.{new-cusum-mono, overshoot-mono, fails-mono}
 use Rattle.units.specs.declared.SampleUnit.{SampleUnit}
-use Rattle.units.specs.Words.{substandard, hasPlan, classes, Table, rowOf, inClass, numbersOf, total, tenthsOf, countIn, tenthsIn}
+use Rattle.units.specs.Words.{substandard, hasPlan, classes, Table, rowOf, inClass, numbersOf, total, tenthsOf, countTenths, tenthsIn}
 use Rattle.units.specs.Unit.{classFails, classCusum, newCusums, classOvershoot, unitFails, noneAbove, admits, bestLower, defectGrade}
 use Rattle.units.proofs.Tests.{and-both, any-mono, all-mono}
 
@@ -27,7 +27,7 @@ pub record Fewer (u v : SampleUnit) : Type 0 where
 
 -- the same of counts by class, in tenths
 abbrev pub NoMore : List ℕ → List ℕ → Type 0
-NoMore counts counts' = (class : ℕ) → countIn counts class ≤ countIn counts' class
+NoMore counts counts' = (class : ℕ) → countTenths counts class ≤ countTenths counts' class
 
 data Pairwise : List ℕ → List ℕ → Type 0 where
   none : Pairwise [] []
@@ -84,8 +84,8 @@ module _ (table : Table) (grade : ℕ) (cusums cusums' : List Cusum) (counts cou
   unfolding classFails
   class-fails-mono class = go (hasPlan grade)
     where
-      go : (b : Bool) → (b && fails (numbersOf table grade class) (tenthsIn cusums class) (countIn counts class)) ≡ true
-          → (b && fails (numbersOf table grade class) (tenthsIn cusums' class) (countIn counts' class)) ≡ true
+      go : (b : Bool) → (b && fails (numbersOf table grade class) (tenthsIn cusums class) (countTenths counts class)) ≡ true
+          → (b && fails (numbersOf table grade class) (tenthsIn cusums' class) (countTenths counts' class)) ≡ true
       go true e = fails-mono (numbersOf table grade class) _ _ _ _ (lower class) (fewer class) e
       go false e = e
 
@@ -115,10 +115,10 @@ module _ (counts counts' : List ℕ) (fewer : NoMore counts counts') where
   unfolding noneAbove
   none-above-mono bound row e = all-mono _ _ step classes e
     where
-      step : (class : ℕ) → leb (countIn counts' class) (bound (inClass row class)) ≡ true
-          → leb (countIn counts class) (bound (inClass row class)) ≡ true
-      step class e = le-leb (countIn counts class) (bound (inClass row class))
-          (omega (arith, fewer class, leb-true (countIn counts' class) (bound (inClass row class)) e))
+      step : (class : ℕ) → leb (countTenths counts' class) (bound (inClass row class)) ≡ true
+          → leb (countTenths counts class) (bound (inClass row class)) ≡ true
+      step class e = le-leb (countTenths counts class) (bound (inClass row class))
+          (omega (arith, fewer class, leb-true (countTenths counts' class) (bound (inClass row class)) e))
 
   pub best-lower-mono : (table : Table) (grade : ℕ) → bestLower table grade counts ≤ bestLower table grade counts'
   unfolding bestLower admits

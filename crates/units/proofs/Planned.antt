@@ -10,7 +10,7 @@ use Rattle.cusum.specs.declared.Cusum.{Cusum}
 use Rattle.cusum.specs.Step.{fails}
 use Rattle.cusum.proofs.Laws.{overshoot-met}
 use Rattle.units.specs.Conditions.{any}
-use Rattle.units.specs.Words.{hasPlan, classes, Table, rowOf, inClass, countIn, tenthsIn, noOvershoots}
+use Rattle.units.specs.Words.{hasPlan, classes, Table, rowOf, inClass, countTenths, tenthsIn, noOvershoots}
 use Rattle.units.specs.Unit.{classFails, classCusum, newCusums, classOvershoot, newOvershoots, unitFails, steppedUnder, steppedIn}
 use Rattle.units.proofs.Lists.{map-same, in-none}
 
@@ -25,4 +25,4 @@ unfolding steppedIn
 none-over row cusums counts met =
     map-same (length classes) _ _
     (λ class known. overshoot-met _ _ _
-    (in-none (length classes) (λ k. fails (inClass row k) (tenthsIn cusums k) (countIn counts k)) met class known))
+    (in-none (length classes) (λ k. fails (inClass row k) (tenthsIn cusums k) (countTenths counts k)) met class known))

@@ -68,7 +68,7 @@ upFrom first (suc size) = first ∷ upFrom (suc first) size
 abbrev pub tableOf : Plan → Table
 tableOf plan = map (λ grade. map (λ class. cellOf plan (length classes * grade + class)) classes) plannedGrades
 
--- total is the sum of critical, severe, major and minor
+-- total is the sum of critical, severe, major and minor (here a count has no largest; the code sums tenths)
 abbrev pub total : SampleUnit → Defects
 total unit = record { 0 = unit .critical .0 + unit .severe .0 + unit .major .0 + unit .minor .0 }
 
@@ -81,8 +81,8 @@ abbrev pub tenthsOf : SampleUnit → List ℕ
 tenthsOf unit = map defectTenths (countsOf unit)
 
 -- the count of a class, in tenths
-abbrev pub countIn : List ℕ → ℕ → ℕ
-countIn counts class = getD counts class 0
+abbrev pub countTenths : List ℕ → ℕ → ℕ
+countTenths counts class = getD counts class 0
 
 -- the CuSum where no plan is in force
 abbrev pub zeroCusum : Cusum

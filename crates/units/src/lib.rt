@@ -34,7 +34,7 @@ pub type Cusums = [Cusum; CLASSES];
 pub type Overshoots = [u64; CLASSES];
 
 // The count of each class, in tenths.
-type Counts = [u32; CLASSES];
+type Tenths = [u32; CLASSES];
 
 // The designated grade, and S, T and L of grades A, B, C, in each by class.
 pub struct Plan {
@@ -128,8 +128,8 @@ pub fn row_of(table: Table, grade: u8) -> Row
     no_row()
 }
 
-// In tenths; so is their sum, which is that of total.
-fn counts_of(unit: SampleUnit) -> Counts
+// The counts of a unit by class, in tenths; total is summed in tenths, too.
+fn tenths_of(unit: SampleUnit) -> Tenths
     ensures { λ r. ⌜ r ≡ tenthsOf unit ⌝ }
 {
     let critical = unit.critical.tenths();
@@ -163,13 +163,13 @@ pub fn starts(row: Row) -> Cusums
 pub fn step_classes(row: Row, cusums: Cusums, unit: SampleUnit) -> SteppedClasses
     ensures { λ r. ⌜ r ≡ steppedIn row cusums (tenthsOf unit) ⌝ }
 {
-    let counts = counts_of(unit);
+    let tenths = tenths_of(unit);
     let mut new = [Cusum::ZERO; CLASSES];
     let mut over = [0u64; CLASSES];
     let mut fails = false;
     let mut class: usize = 0;
     while class < CLASSES {
-        let stepped = cusums[class].step(row[class], counts[class]);
+        let stepped = cusums[class].step(row[class], tenths[class]);
         let cusum = stepped.cusum;
         new[class] = cusum;
         over[class] = stepped.overshoot;
@@ -214,12 +214,12 @@ fn highest_of(numbers: PlanNumbers, limits: bool) -> u64
 }
 
 // Whether no count of a class is above that.
-fn none_above(limits: bool, row: Row, counts: Counts) -> bool
-    ensures { λ r. ⌜ r ≡ cond limits (admits row counts) (withinTolerance row counts) ⌝ }
+fn none_above(limits: bool, row: Row, tenths: Tenths) -> bool
+    ensures { λ r. ⌜ r ≡ cond limits (admits row tenths) (withinTolerance row tenths) ⌝ }
 {
     let mut class: usize = 0;
     while class < CLASSES {
-        if highest_of(row[class], limits) < counts[class] as u64 {
+        if highest_of(row[class], limits) < tenths[class] as u64 {
             return false;
         }
         class += 1;
@@ -244,11 +244,11 @@ fn all_zero(cusums: Cusums) -> bool
 pub fn best_lower(table: Table, grade: u8, unit: SampleUnit) -> u8
     ensures { λ r. ⌜ r ≡ bestLower table grade (tenthsOf unit) ⌝ }
 {
-    let counts = counts_of(unit);
-    if (grade < 1) & none_above(WITH_LIMIT, row_of(table, 1), counts) {
+    let tenths = tenths_of(unit);
+    if (grade < 1) & none_above(WITH_LIMIT, row_of(table, 1), tenths) {
         return 1;
     }
-    if (grade < 2) & none_above(WITH_LIMIT, row_of(table, 2), counts) {
+    if (grade < 2) & none_above(WITH_LIMIT, row_of(table, 2), tenths) {
         return 2;
     }
     SUBSTANDARD
@@ -259,5 +259,5 @@ pub fn qualifies_with(table: Table, designated: u8, cusums: Cusums, unit: Sample
     ensures { λ r. ⌜ r ≡ qualifies table designated cusums (tenthsOf unit) ⌝ }
 {
     let zero = all_zero(cusums);
-    zero & none_above(TOLERANCE_ALONE, row_of(table, designated), counts_of(unit))
+    zero & none_above(TOLERANCE_ALONE, row_of(table, designated), tenths_of(unit))
 }

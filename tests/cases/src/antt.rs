@@ -156,13 +156,13 @@ pub fn graded<K: Kind>(case: &Case<K>) -> Graded {
 /// `crates/outcome/specs/Held.antt`.
 pub fn abbreviations(outcome: &str) -> String {
     let mut text = String::new();
-    for (name, word, form) in [
-        ("Graded", "GradedBy", "List ℕ → ℕ → ℕ → List ℕ"),
-        ("RefusedWith", "RefusedBy", "ℕ → List ℕ → ℕ"),
-        ("WithoutRoom", "WithoutRoomBy", "ℕ → List ℕ → ℕ → ℕ"),
+    for (name, form, word, size) in [
+        ("Graded", "List ℕ → ℕ → ℕ → List ℕ", "GradedBy", " resultSize"),
+        ("RefusedWith", "ℕ → List ℕ → ℕ", "RefusedBy", ""),
+        ("WithoutRoom", "ℕ → List ℕ → ℕ → ℕ", "WithoutRoomBy", " resultSize"),
     ] {
         text += &format!("\nabbrev pub {name} : {form} → Type 0\n");
-        text += &format!("{name} = {word} {outcome} resultSize\n");
+        text += &format!("{name} = {word} {outcome}{size}\n");
     }
     text
 }

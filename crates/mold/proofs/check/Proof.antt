@@ -11,13 +11,13 @@ use Rattle.mold.proofs.check.Tie as tie
 opening-refusal-requires : tie.Need-opening-refusal-requires
 opening-refusal-requires c κs = search needs
 
-refusal-requires : tie.Need-refusal-requires
-refusal-requires c κs = search needs
+refused-as-requires : tie.Need-refused-as-requires
+refused-as-requires c κs = search needs
 
 returns : tie.Need-returns
 unfolding checked pick
 returns c =
-    rw (c .refusal .ensures, ← c .before .before .opening-refusal .ensures, ne-eqb _ _ (c .before .if1 .taken))
+    rw (c .refused-as .ensures, ← c .before .before .opening-refusal .ensures, ne-eqb _ _ (c .before .if1 .taken))
 
 check-records-requires : tie.Need-check-records-requires
 check-records-requires c κs = opening-passed _ (sym (c .before .opening-refusal .ensures) ∙ c .if1 .left) .0
@@ -30,4 +30,4 @@ returns-2 c =
 pub check-spec : {M : Type 1} → statement M
 check-spec =
     tie.close
-    (tie.spec opening-refusal-requires refusal-requires returns check-records-requires returns-2)
+    (tie.spec opening-refusal-requires refused-as-requires returns check-records-requires returns-2)

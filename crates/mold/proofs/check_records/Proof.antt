@@ -21,15 +21,15 @@ loop-holds c = stands-first _ (c .before .pre)
 unit-refusal-requires : tie.Need-unit-refusal-requires Inv-loop μ-loop
 unit-refusal-requires c κs = c .before .loop .inv .within
 
-refusal-requires : tie.Need-refusal-requires Inv-loop μ-loop
-refusal-requires c κs = search needs
+refused-as-requires : tie.Need-refused-as-requires Inv-loop μ-loop
+refused-as-requires c κs = search needs
 
 returns : tie.Need-returns Inv-loop μ-loop
 returns c =
     let test = c .before in
     let refusal = test .before in
     let start = refusal .before in
-    c .refusal .ensures
+    c .refused-as .ensures
     ∙ stands-refused _ _ _ (start .before .loop .inv) (start .loop-test .taken) _ (refusal .unit-refusal .ensures) (test .if1 .taken)
 
 add-units : tie.Need-add-units Inv-loop μ-loop
@@ -71,7 +71,7 @@ check-records-spec =
     μ-loop
     loop-holds
     unit-refusal-requires
-    refusal-requires
+    refused-as-requires
     returns
     add-units
     add-at

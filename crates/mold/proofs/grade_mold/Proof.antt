@@ -21,14 +21,14 @@ mul-if2 c =
     let (level, whole) = passed-whole _ _ (check .check .ensures) (c .before .if1 .left) in
     omega (arith, whole, check .before .before .before .good)
 
-refusal-requires : tie.Need-refusal-requires
-refusal-requires c κs = search needs
+refused-as-requires : tie.Need-refused-as-requires
+refused-as-requires c κs = search needs
 
 returns-2 : tie.Need-returns-2
 returns-2 c =
     let tests = c .before .before .before in
     let entry = tests .before .before .before .before .before in
-    ap (λ (given : Answer). record { answer = given; buffer = entry .args .results .now }) (c .refusal .ensures)
+    ap (λ (given : Answer). record { answer = given; buffer = entry .args .results .now }) (c .refused-as .ensures)
     ∙ outcome-short _ _ (tests .before .before .check .ensures) _ (tests .if1 .left) (c .before .if2 .taken)
 
 write-units-requires : tie.Need-write-units-requires
@@ -54,7 +54,7 @@ grade-mold-spec =
     check-requires
     returns
     mul-if2
-    refusal-requires
+    refused-as-requires
     returns-2
     write-units-requires
     same-length

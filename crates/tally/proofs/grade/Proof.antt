@@ -18,11 +18,11 @@ grade-accepted-requires c κs = sym (c .before .before .before .before .check .e
 enum-known-number : tie.Need-enum-known-number
 enum-known-number c = search needs
 
-cast-refusal : tie.Need-cast-refusal
-cast-refusal c = search needs
+cast-refused-as : tie.Need-cast-refused-as
+cast-refused-as c = search needs
 
-refusal-requires : tie.Need-refusal-requires
-refusal-requires c κs = search needs
+refused-as-requires : tie.Need-refused-as-requires
+refused-as-requires c κs = search needs
 
 same-length : tie.Need-same-length
 same-length c = search needs
@@ -42,7 +42,7 @@ returns-2 c =
     let told = c .before .before in
     let checked = told .before .before in
     let start = checked .before .before .before in
-    ap (λ (a : Answer). record { answer = a; buffer = start .args .results .now }) (c .refusal .ensures)
+    ap (λ (a : Answer). record { answer = a; buffer = start .args .results .now }) (c .refused-as .ensures)
     ∙ sym (ap (outcomeBy (start .args .sheet .now) (start .args .results .now)) (sym (checked .check .ensures) ∙ told .number .given .1))
 
 pub grade-spec : {M : Type 1} → statement M
@@ -53,8 +53,8 @@ grade-spec =
     enum-known-records
     grade-accepted-requires
     enum-known-number
-    cast-refusal
-    refusal-requires
+    cast-refused-as
+    refused-as-requires
     same-length
     returns
     returns-2)

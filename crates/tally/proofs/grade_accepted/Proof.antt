@@ -16,13 +16,13 @@ mul-if1 c =
     let start = c .before .before in
     omega (arith, units-few _ (start .args .results .now) _ _ (start .pre))
 
-refusal-requires : tie.Need-refusal-requires
-refusal-requires c κs = search needs
+refused-as-requires : tie.Need-refused-as-requires
+refused-as-requires c κs = search needs
 
 returns : tie.Need-returns
 returns c =
     let start = c .before .before .before .before in
-    ap (λ (a : Answer). record { answer = a; buffer = start .args .results .now }) (c .refusal .ensures) ∙ too-short _ _ _ _ (start .pre) (c .before .if1 .taken)
+    ap (λ (a : Answer). record { answer = a; buffer = start .args .results .now }) (c .refused-as .ensures) ∙ too-short _ _ _ _ (start .pre) (c .before .if1 .taken)
 
 plan-of-requires : tie.Need-plan-of-requires
 plan-of-requires c κs =
@@ -32,8 +32,8 @@ plan-of-requires c κs =
 any-limit-too-large-requires : tie.Need-any-limit-too-large-requires
 any-limit-too-large-requires c κs = search needs
 
-refusal-requires-2 : tie.Need-refusal-requires-2
-refusal-requires-2 c κs = search needs
+refused-as-requires-2 : tie.Need-refused-as-requires-2
+refused-as-requires-2 c κs = search needs
 
 returns-2 : tie.Need-returns-2
 returns-2 c =
@@ -82,11 +82,11 @@ grade-accepted-spec =
     tie.close
     (tie.spec
     mul-if1
-    refusal-requires
+    refused-as-requires
     returns
     plan-of-requires
     any-limit-too-large-requires
-    refusal-requires-2
+    refused-as-requires-2
     returns-2
     table-requires
     write-records-requires

@@ -4,8 +4,8 @@ use borrow.Author.Needs.{needs}
 use Rattle.units.proofs.best_lower.Statement.{statement}
 use Rattle.units.proofs.best_lower.Tie as tie
 
-counts-of-requires : tie.Need-counts-of-requires
-counts-of-requires c κs = search needs
+tenths-of-requires : tie.Need-tenths-of-requires
+tenths-of-requires c κs = search needs
 
 row-of-requires : tie.Need-row-of-requires
 row-of-requires c κs = search needs
@@ -17,7 +17,7 @@ returns : tie.Need-returns
 unfolding bestLower
 returns c =
     let row = c .before .before in
-    rw (← row .before .counts-of .ensures, ← row .row-of .ensures, ← c .before .none-above .ensures, c .if1 .taken)
+    rw (← row .before .tenths-of .ensures, ← row .row-of .ensures, ← c .before .none-above .ensures, c .if1 .taken)
 
 row-of-requires-2 : tie.Need-row-of-requires-2
 row-of-requires-2 c κs = search needs
@@ -30,7 +30,7 @@ unfolding bestLower
 returns-2 c =
     let first = c .before .before .before in
     let row1 = first .before .before .row-of .ensures in
-    let counts = first .before .before .before .counts-of .ensures in
+    let counts = first .before .before .before .tenths-of .ensures in
     let row2 = c .before .before .row-of2 .ensures in
     rw (← counts, ← row1, ← first .before .none-above .ensures, first .if1 .left, ← row2, ← c .before .none-above2 .ensures, c .if2 .taken)
 
@@ -39,7 +39,7 @@ unfolding bestLower
 returns-3 c =
     let first = c .before .before .before in
     let row1 = first .before .before .row-of .ensures in
-    let counts = first .before .before .before .counts-of .ensures in
+    let counts = first .before .before .before .tenths-of .ensures in
     let row2 = c .before .before .row-of2 .ensures in
     rw (← counts, ← row1, ← first .before .none-above .ensures, first .if1 .left, ← row2, ← c .before .none-above2 .ensures, c .if2 .left)
 
@@ -47,7 +47,7 @@ pub best-lower-spec : {M : Type 1} → statement M
 best-lower-spec =
     tie.close
     (tie.spec
-    counts-of-requires
+    tenths-of-requires
     row-of-requires
     none-above-requires
     returns

@@ -9,7 +9,7 @@ use borrow.Author.Tests.{lt-leb, le-leb}
 use lib.ListN.{length, drop}
 use Rattle.cusum.specs.declared.PlanNumbers.{PlanNumbers}
 use Rattle.units.specs.Conditions.{all}
-use Rattle.units.specs.Words.{classes, inClass, countIn}
+use Rattle.units.specs.Words.{classes, inClass, countTenths}
 use Rattle.units.specs.Unit.{noneAbove, admits, withinTolerance}
 use Rattle.units.proofs.Lists.{all-hit, all-miss, all-end}
 use borrow.Author.Needs.{needs}
@@ -29,7 +29,7 @@ one-test false row counts = refl
 abbrev Inv-loop : tie.InvT-loop
 Inv-loop limits row counts class₀ class = (class ≤ length classes)
     × (cond limits (admits row counts) (withinTolerance row counts)
-    ≡ all (λ k. leb (countIn counts k) (bound limits (inClass row k))) (drop class classes))
+    ≡ all (λ k. leb (countTenths counts k) (bound limits (inClass row k))) (drop class classes))
 
 abbrev μ-loop : tie.MeasureT-loop
 μ-loop limits row counts class₀ class = length classes - class
@@ -64,7 +64,7 @@ returns c =
     sym
     (start .loop .inv .1
     ∙ all-miss (length classes) _ class (omega arith)
-    (lt-leb (countIn (args .t3) class) (bound (args .limits) (inClass (args .t2) class)) (omega arith)))
+    (lt-leb (countTenths (args .t3) class) (bound (args .limits) (inClass (args .t2) class)) (omega arith)))
 
 add-class : tie.Need-add-class Inv-loop μ-loop
 add-class c = search needs
@@ -80,7 +80,7 @@ loop-again c =
       search needs,
       start .loop .inv .1
           ∙ all-hit (length classes) _ class (omega arith)
-          (le-leb (countIn (args .t3) class) (bound (args .limits) (inClass (args .t2) class)) (omega arith)),
+          (le-leb (countTenths (args .t3) class) (bound (args .limits) (inClass (args .t2) class)) (omega arith)),
     )
 
 returns-2 : tie.Need-returns-2 Inv-loop μ-loop

@@ -10,8 +10,8 @@ all-zero-requires c κs = search needs
 row-of-requires : tie.Need-row-of-requires
 row-of-requires c κs = search needs
 
-counts-of-requires : tie.Need-counts-of-requires
-counts-of-requires c κs = search needs
+tenths-of-requires : tie.Need-tenths-of-requires
+tenths-of-requires c κs = search needs
 
 none-above-requires : tie.Need-none-above-requires
 none-above-requires c κs = search needs
@@ -20,9 +20,9 @@ returns : tie.Need-returns
 unfolding qualifies
 returns c =
     let row = c .before .before in
-    rw (c .none-above .ensures, c .before .counts-of .ensures, row .row-of .ensures, row .before .all-zero .ensures)
+    rw (c .none-above .ensures, c .before .tenths-of .ensures, row .row-of .ensures, row .before .all-zero .ensures)
 
 pub qualifies-with-spec : {M : Type 1} → statement M
 qualifies-with-spec =
     tie.close
-    (tie.spec all-zero-requires row-of-requires counts-of-requires none-above-requires returns)
+    (tie.spec all-zero-requires row-of-requires tenths-of-requires none-above-requires returns)

@@ -9,7 +9,7 @@ use lib.ListN.{length}
 use Rattle.cusum.specs.declared.PlanNumbers.{PlanNumbers}
 use Rattle.cusum.specs.declared.Cusum.{Cusum}
 use Rattle.cusum.specs.Step.{fails, newCusum, overshoot}
-use Rattle.units.specs.Words.{classes, zeroCusum, inClass, countIn, tenthsIn}
+use Rattle.units.specs.Words.{classes, zeroCusum, inClass, countTenths, tenthsIn}
 use Rattle.units.specs.Unit.{steppedIn}
 use Rattle.units.proofs.Lists.{Filled, fill-first, fill-next, fill-last, Tested, tested-first, tested-next, tested-last}
 use borrow.Author.Needs.{needs}
@@ -18,9 +18,9 @@ use Rattle.units.proofs.step_classes.Tie as tie
 
 abbrev Stepped : List PlanNumbers → List Cusum → List ℕ → List Cusum → List ℕ → Bool → ℕ → Type 0
 Stepped row cusums counts new over failed class =
-    Filled (length classes) (λ k. record { tenths = newCusum (inClass row k) (tenthsIn cusums k) (countIn counts k) }) zeroCusum new class
-    × Filled (length classes) (λ k. overshoot (inClass row k) (tenthsIn cusums k) (countIn counts k)) 0 over class
-    × Tested (length classes) (λ k. fails (inClass row k) (tenthsIn cusums k) (countIn counts k)) failed class
+    Filled (length classes) (λ k. record { tenths = newCusum (inClass row k) (tenthsIn cusums k) (countTenths counts k) }) zeroCusum new class
+    × Filled (length classes) (λ k. overshoot (inClass row k) (tenthsIn cusums k) (countTenths counts k)) 0 over class
+    × Tested (length classes) (λ k. fails (inClass row k) (tenthsIn cusums k) (countTenths counts k)) failed class
 
 all-stepped : (row : List PlanNumbers) (cusums : List Cusum) {counts counts' : List ℕ} {new : List Cusum} {over : List ℕ} {failed : Bool} {class : ℕ}
     → counts ≡ counts' → Stepped row cusums counts new over failed class → length classes ≤ class
@@ -35,8 +35,8 @@ Inv-loop row cusums counts new₀ over₀ fails₀ class₀ new over fails class
 abbrev μ-loop : tie.MeasureT-loop
 μ-loop row cusums counts new₀ over₀ fails₀ class₀ new over fails class = length classes - class
 
-counts-of-requires : tie.Need-counts-of-requires Inv-loop μ-loop
-counts-of-requires c κs = search needs
+tenths-of-requires : tie.Need-tenths-of-requires Inv-loop μ-loop
+tenths-of-requires c κs = search needs
 
 loop-holds : tie.Need-loop-holds Inv-loop μ-loop
 loop-holds c = (fill-first refl, fill-first refl, tested-first)
@@ -90,7 +90,7 @@ loop-again c =
     )
 
 returns : tie.Need-returns Inv-loop μ-loop
-returns c = all-stepped _ _ (c .before .before .counts-of .ensures) (c .before .loop .inv) (omega arith)
+returns c = all-stepped _ _ (c .before .before .tenths-of .ensures) (c .before .loop .inv) (omega arith)
 
 pub step-classes-spec : {M : Type 1} → statement M
 step-classes-spec =
@@ -98,7 +98,7 @@ step-classes-spec =
     (tie.spec
     Inv-loop
     μ-loop
-    counts-of-requires
+    tenths-of-requires
     loop-holds
     mul-step
     array-copy-out-step

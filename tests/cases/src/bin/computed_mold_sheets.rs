@@ -346,15 +346,15 @@ fn refusals() -> Vec<Case> {
         refused(
             7,
             8,
-            "grounds 7 and 17",
-            "7 and not 17: the two bytes left behind the mark are a code, and 26 fields are missing.",
+            "fields missing",
+            "7: the two bytes left behind the mark are a code, and the positive fields are missing.",
             vec![opening(5), first(), unit(0x1A1A, 26).cut(4)],
         ),
         refused(
             17,
             3,
             "ground 17",
-            "17: 26 fields of 25. And 13 in a buffer without room.",
+            "17: 26 fields of 25, also in a buffer without room.",
             vec![opening(5), unit(1, 26)],
         ),
         refused(

@@ -7,8 +7,8 @@ use Rattle.cusum.specs.Counts.{defectTenths}
 use Rattle.units.specs.declared.SampleUnit.{SampleUnit}
 use Rattle.units.specs.Words.{total, tenthsOf}
 use borrow.Author.Needs.{needs}
-use Rattle.units.proofs.counts_of.Statement.{statement}
-use Rattle.units.proofs.counts_of.Tie as tie
+use Rattle.units.proofs.tenths_of.Statement.{statement}
+use Rattle.units.proofs.tenths_of.Tie as tie
 
 -- ten times a sum is the sum of ten times each
 tenths-are : (unit : SampleUnit) (critical severe major minor : ℕ)
@@ -47,8 +47,8 @@ returns c =
     tenths-are (one .before .args .unit) (one .tenths .result) (two .tenths2 .result) (c .before .tenths3 .result) (c .tenths4 .result)
     (one .tenths .ensures) (two .tenths2 .ensures) (c .before .tenths3 .ensures) (c .tenths4 .ensures)
 
-pub counts-of-spec : {M : Type 1} → statement M
-counts-of-spec =
+pub tenths-of-spec : {M : Type 1} → statement M
+tenths-of-spec =
     tie.close
     (tie.spec
     tenths-requires
