@@ -1,6 +1,6 @@
 -- Demand 1: the answer is acceptance or a listed refusal, and which bytes of the buffer are kept.
 -- By cases on the verdict and on the tests of numbers 13 and 14; the buffer by the laws of an accepted and of a refused sheet.
-use Prim.Native.Nat.{ℕ, _*_, _<_}
+use Prim.Native.Nat.{ℕ, _*_}
 use mathlib.Core.Path.{_≡_, refl, ap, subst⁻¹}
 use mathlib.Core.Bool.{Bool, true, false}
 use mathlib.Core.List.{List}

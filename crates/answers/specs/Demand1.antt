@@ -1,7 +1,7 @@
 -- Demand 1: any file at all is accepted, or refused by one of the listed refusals with the place where it stopped. A refused sheet
 -- changes nothing in the result buffer, an accepted one changes only its result records. No premise is on the bytes or on the
 -- buffer: the caller has nothing to check beforehand.
-use Prim.Native.Nat.{ℕ, _<_, _≤_}
+use Prim.Native.Nat.{ℕ, _≤_}
 use mathlib.Core.Path.{_≡_}
 use mathlib.Core.List.{List}
 use mathlib.Core.Logic.{_⊎_}

@@ -1,19 +1,18 @@
 -- Demand 1 for mold sheets: the answer is acceptance or a listed refusal, and which bytes of the buffer are kept. By the cases of the
 -- outcome; numbers ground by ground.
-use Prim.Native.Nat.{ℕ, _+_, _*_, _<_}
+use Prim.Native.Nat.{ℕ, _+_, _*_}
 use mathlib.Core.Path.{_≡_, refl, sym, _∙_, ap, subst⁻¹}
 use mathlib.Core.Bool.{Bool, true, false}
 use mathlib.Core.List.{List, _++_}
 use mathlib.Core.Logic.{_⊎_, inl, inr}
 use native.Mathlib.Omega.{arith}
-use lib.ListN.{length, drop, length-append, length-drop}
+use lib.ListN.{drop, length-append, length-drop}
 use lib.Seq.{drop-append-seam}
 use Rattle.outcome.specs.declared.Answer.{Answer}
 use Rattle.outcome.specs.Outcome.{Outcome}
 use Rattle.sheet.specs.Refusals.{refusedIf}
 use Rattle.grounds.specs.Answered.{AnswerAndBuffer}
 use Rattle.grounds.proofs.Answered.{stopped}
-use Rattle.mold.specs.Layout.{offset}
 use Rattle.mold.specs.Refusals.{openingRefusal, unitRefusal, recordRefusal, checked}
 use Rattle.mold.specs.Results.{resultSize, written}
 use Rattle.mold.proofs.Checking.{Facts, Says, checked-says}

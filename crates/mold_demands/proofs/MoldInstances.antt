@@ -1,5 +1,5 @@
 -- The instances, each from its theorem; the course of the example by its rules, unit by unit.
-use Prim.Native.Nat.{ℕ, suc, _+_, _*_, _<_, _≤_}
+use Prim.Native.Nat.{ℕ, _*_, _<_, _≤_}
 use mathlib.Core.Path.{_≡_, refl, sym, _∙_, ap}
 use mathlib.Core.Bool.{true}
 use mathlib.Core.List.{List}
@@ -17,7 +17,7 @@ use Rattle.mold.specs.Outcome.{MoldAcceptedAs}
 use Rattle.mold.proofs.Computing.{computing}
 use Rattle.mold_demands.specs.MoldRecords.{tenFields, RawAboveLimit, MoldGradedByRules}
 use Rattle.mold_demands.specs.MoldLargest.{failure, tenFieldsFrom}
-use Rattle.mold_demands.specs.MoldSheets.{manualExample, manualExampleResults, ground17AtSecondUnit}
+use Rattle.mold_demands.specs.MoldSheets.{manualExample, ground17AtSecondUnit}
 use Rattle.mold_demands.specs.MoldInstances.{exampleLeft, MoldInstances}
 use Rattle.mold_demands.proofs.MoldAnswers.{mold-answered}
 use Rattle.mold_demands.proofs.MoldGrounds.{mold-refusals}
