@@ -3,7 +3,7 @@ use Prim.Native.Nat.{ℕ, _*_}
 use Rattle.cusum.specs.declared.Defects.{Defects}
 use Rattle.cusum.specs.declared.DefectiveFields.{DefectiveFields}
 
--- in tenths one is ten
+-- ten times a number: of either count one is ten tenths
 abbrev pub tenTimes : ℕ → ℕ
 tenTimes number = 10 * number
 

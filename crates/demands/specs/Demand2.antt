@@ -102,8 +102,8 @@ pub record SameWords (bytes : List ℕ) (course : Course) : Type 0 where
   pub tenths-of-other : (i class : ℕ) → (UnitAt bytes i → ⊥) → tenthsFrom (sheetIn bytes) class i 1 ≡ []
   pub tenths-of-none : (class from : ℕ) → tenthsFrom (sheetIn bytes) class from 0 ≡ []
   pub tenths-go-on : (class from records : ℕ) →
-      let counts = tenthsFrom (sheetIn bytes) class in
-      counts from (suc records) ≡ counts from records ++ counts (from + records) 1
+      let tenths = tenthsFrom (sheetIn bytes) class in
+      tenths from (suc records) ≡ tenths from records ++ tenths (from + records) 1
 
 -- of an accepted sheet and the result buffer as it is left: its course follows the rules, every other that does agrees with it at every
 -- unit, and before every record and behind the last, and it is what is recorded

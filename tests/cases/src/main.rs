@@ -213,7 +213,8 @@ fn main() {
             let counts = covered(&cases);
             let (mut stdin, mut stdout) = (Vec::new(), String::new());
             for (place, Case { kind, name, sheet }) in cases.cases.iter().enumerate() {
-                assert!(sheet.len() <= 65_536, "{name}");
+                // The program has room for one byte more than is taken for a sheet.
+                assert!(sheet.len() <= 65_537, "{name}");
                 stdin.push(kind.byte());
                 stdin.extend((sheet.len() as u32).to_be_bytes());
                 stdin.extend(sheet);

@@ -217,6 +217,9 @@ pub fn add_refusals(cases: &mut Cases) {
         let sheet = [&base[..], &[byte]].concat();
         cases.refused(&format!("mold, number 6, a last byte {byte:02X}"), sheet, 6, 23);
     }
+    // 15: one byte more than is taken for a sheet, whatever the bytes are.
+    let long = [&base[..], &vec![0; 65_537 - base.len()]].concat();
+    cases.refused("mold, number 15, 65,537 bytes", long, 15, 65_536);
     // 7 where the last byte left would be too many fields; 17 in a record before one that is cut
     // short; 17 where a byte is lost, so that the next mark is read as fields.
     let cut = [&base[..], &[0x4D, 0x55, 26, 26]].concat();
