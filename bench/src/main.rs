@@ -288,9 +288,10 @@ fn main() {
     compare(&mut table_by_code);
     compare_mold();
     let mut tuned = |sheet: &[u8], results: &mut [u8]| table_by_code.grade(sheet, results);
-    println!("The library beside the independent grader and the tuned one, peach plan, {rounds}");
+    println!("The library beside the independent grader and the tuned one, {rounds} rounds, tally");
     println!(
-        "rounds; all built for release, result buffers cleared before each grading (not timed)."
+        "sheets under the peach plan; all built for release, result buffers cleared before each\n\
+         grading (not timed)."
     );
     println!(
         "The library and the tuned grader agree on {RANDOM_SHEETS} random sheets, and on as many"

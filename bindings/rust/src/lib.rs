@@ -83,24 +83,24 @@ pub const VERSION: &str = env!("CARGO_PKG_VERSION");
 
 /// The mark that opens a plan record, as a number of two bytes; the high byte comes first.
 pub const PLAN_MARK: u16 = 0x504C;
-/// The mark of a sample unit.
+/// The mark of a sample unit on a tally sheet.
 pub const UNIT_MARK: u16 = 0x5355;
 /// The mark of a redesignation.
 pub const REDESIGNATION_MARK: u16 = 0x5244;
 /// The mark of a break in production.
 pub const BREAK_MARK: u16 = 0x424B;
-/// The mark of a result record.
+/// The mark of a result record of a tally sheet.
 pub const RESULT_MARK: u16 = 0x4752;
 
 /// Bytes of a plan record.
 pub const PLAN_SIZE: usize = 75;
-/// Bytes of a sample unit.
+/// Bytes of a sample unit on a tally sheet.
 pub const UNIT_SIZE: usize = 14;
 /// Bytes of a redesignation.
 pub const REDESIGNATION_SIZE: usize = 3;
 /// Bytes of a break in production.
 pub const BREAK_SIZE: usize = 2;
-/// Bytes of a result record.
+/// Bytes of a result record of a tally sheet.
 pub const RESULT_SIZE: usize = 32;
 
 /// The most sample units on a sheet, so that `RESULT_SIZE * MOST_UNITS` bytes hold the results of

@@ -10,9 +10,9 @@ use Rattle.results.specs.Record.{resultSize}
 use Rattle.computed.specs.WorkedCases.{peachPlan, peachUnits, peach, peachResults}
 use Rattle.computed.proofs.WorkedCases.{worked-cases}
 use Rattle.text.specs.Text.{digits, decimal, oneDecimal, restOfLine, lineWith, linesBy}
-use Rattle.lines.specs.Lines.{lineOf, linesOf, emptyResults}
+use Rattle.lines.specs.Lines.{lineOf, linesOf, emptyResults, tallySheet}
 use Rattle.computed.specs.Peach.{peachLines, PeachPrinted, SmallSheets}
-use Rattle.lines.proofs.Printed.{lines-printed}
+use Rattle.text.proofs.Printed.{lines-printed}
 
 seven-lines : (rest : List ℕ) → linesOf (peachResults ++ rest) 7 ≡ peachLines
 unfolding peachResults peachLines digits decimal oneDecimal restOfLine lineWith lineOf linesBy
@@ -28,7 +28,7 @@ unfolding peachPlan peachUnits peach peachResults
 peach-printed =
     record {
       records-lines = seven-lines [];
-      sheet-lines = lines-printed peach _ _ (sym (worked-cases .p10 emptyResults (room 7 (omega arith)))) (omega arith) refl ∙ seven-lines _;
+      sheet-lines = lines-printed tallySheet peach _ _ (sym (worked-cases .p10 emptyResults (room 7 (omega arith)))) (omega arith) refl ∙ seven-lines _;
     }
 
 pub small-sheets : SmallSheets

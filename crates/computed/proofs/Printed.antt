@@ -1,4 +1,4 @@
--- What is printed: for every input by the tests of its definition; for the sheets from their outcomes, and the lines of their records by
+-- What is printed: for every input as for sheets of any kind; for the sheets from their outcomes, and the lines of their records by
 -- computation. A number in decimal by induction, a digit at a time.
 use Prim.Native.Nat.{ℕ, zero, suc, _+_, _*_, _/_, _%_, _<_}
 use mathlib.Core.Path.{_≡_, refl, sym, _∙_, subst}
@@ -9,10 +9,9 @@ use lib.Dec.{ltb, lit<}
 use borrow.Author.Tests.{ltb-true, ltb-false}
 use Rattle.text.specs.Ascii.{ascii}
 use Rattle.text.specs.Text.{digits, decimal, oneDecimal, restOfLine, lineWith, refusedLine, linesBy}
-use Rattle.lines.specs.Lines.{lineOf, linesOf, emptyResults, printed}
+use Rattle.lines.specs.Lines.{lineOf, linesOf, emptyResults, tallySheet}
 use Rattle.text.proofs.Decimals as decimals
-use Rattle.text.proofs.Printed.{printed-within, refused-line, too-much-line}
-use Rattle.lines.proofs.Printed.{too-much, lines-printed, refusal-printed}
+use Rattle.text.proofs.Printed.{lines-printed, refusal-printed, text-cases}
 use Rattle.computed.specs.WorkedCases.{peachPlan}
 use Rattle.computed.specs.FurtherSheets.{PrintedSheets, repeated, recoveryWithoutPlan, recoveryWithoutPlanResults, recoveryWithoutPlanLines, cusumsOfTwoBytes, cusumsOfTwoBytesResults, cusumsOfTwoBytesLines, grounds8And9, ground12, twelveUnitsResults, twelveUnitsLines}
 use Rattle.computed.specs.Printed.{emptyBuffer, InDecimal, PrintedText}
@@ -59,30 +58,26 @@ unfolding peachPlan recoveryWithoutPlan cusumsOfTwoBytes grounds8And9 repeated g
 printed-sheets =
     record {
       recovery-without-plan =
-          lines-printed recoveryWithoutPlan _ _ (sym (further-sheets .step-three .recovery-without-plan emptyResults (room 7 (lit< tt)))) (lit< tt) refl
+          lines-printed tallySheet recoveryWithoutPlan _ _ (sym (further-sheets .step-three .recovery-without-plan emptyResults (room 7 (lit< tt)))) (lit< tt) refl
           ∙ without-plan-lines _;
       cusums-of-two-bytes =
-          lines-printed cusumsOfTwoBytes _ _ (sym (further-sheets .units .cusums-of-two-bytes emptyResults (room 3 (lit< tt)))) (lit< tt) refl
+          lines-printed tallySheet cusumsOfTwoBytes _ _ (sym (further-sheets .units .cusums-of-two-bytes emptyResults (room 3 (lit< tt)))) (lit< tt) refl
           ∙ two-bytes-lines _;
       grounds-8-and-9 =
-          refusal-printed grounds8And9 _ _ (sym (further-sheets .refusals .grounds-8-and-9 emptyResults)) (lit< tt) (λ none. omega arith)
+          refusal-printed tallySheet grounds8And9 _ _ (sym (further-sheets .refusals .grounds-8-and-9 emptyResults)) (lit< tt) (λ none. omega arith)
           ∙ two-refusals .0;
       ground-12 =
-          refusal-printed ground12 _ _ (sym (further-sheets .full .ground-12 emptyResults)) (lit< tt) (λ none. omega arith) ∙ two-refusals .1;
+          refusal-printed tallySheet ground12 _ _ (sym (further-sheets .full .ground-12 emptyResults)) (lit< tt) (λ none. omega arith) ∙ two-refusals .1;
       twelve-units = twelve-lines;
     }
 
 -- ---- every input
 
 pub printed-text : PrintedText
-unfolding emptyBuffer emptyResults printed
+unfolding emptyBuffer emptyResults
 printed-text =
     record {
-      too-much = λ input above. too-much input above ∙ too-much-line;
-      any-other = λ input within. printed-within input _ within;
-      refused = λ input number offset within some promise.
-          refusal-printed input _ _ (sym promise) within (λ none. omega arith) ∙ refused-line number offset;
-      accepted = λ input results units offset within promise. lines-printed input _ _ (sym promise) within refl;
+      cases = text-cases tallySheet;
       decimals = λ value. in-decimal (suc value) value (omega arith);
       sheets = printed-sheets;
     }

@@ -1,15 +1,13 @@
 -- What is printed, said a second time in the words of paper 01 ("The printing program"), for every input; and some sheets with the text
 -- that the independent grader prints for them.
-use Prim.Native.Nat.{ℕ, _+_, _*_, _<_, _≤_}
+use Prim.Native.Nat.{ℕ, _+_, _*_, _<_}
 use Prim.Native.Char.{code}
-use mathlib.Core.Path.{_≡_}
 use mathlib.Core.List.{List, [], _∷_, _++_}
-use lib.ListN.{length, replicate}
-use Rattle.outcome.specs.Outcome.{refusal}
+use lib.ListN.{replicate}
 use Rattle.tally.specs.Outcome.{outcome}
-use Rattle.text.specs.Ascii.{ascii}
 use Rattle.text.specs.Text.{decimal}
-use Rattle.lines.specs.Lines.{linesOf, textOf, printed}
+use Rattle.text.specs.TextCases.{TextCases}
+use Rattle.lines.specs.Lines.{lineOf, printed}
 use Rattle.computed.specs.FurtherSheets.{PrintedSheets}
 
 -- the result buffer that a sheet is graded into: 32 bytes for each of 1,000 units, filled with zeros
@@ -23,19 +21,8 @@ pub data InDecimal : List ℕ → ℕ → Type 0 where
       → InDecimal (text ++ ((code "0" + last) ∷ [])) (10 * tens + last)
 
 pub record PrintedText : Type 0 where
-  -- "Input above 65,536 bytes is number 15, offset 65536, before all else."
-  pub too-much : (input : List ℕ) → 65536 < length input → printed input ≡ ascii "refused 15 65536\n"
-  -- for any other input it is what its outcome says
-  pub any-other : (input : List ℕ) → length input ≤ 65536
-      → printed input ≡ textOf (outcome input emptyBuffer .answer) (outcome input emptyBuffer .buffer)
-  -- "A refused sheet prints only "refused", number and offset."
-  pub refused : (input : List ℕ) (number offset : ℕ) → length input ≤ 65536 → 0 < number
-      → outcome input emptyBuffer ≡ refusal number offset emptyBuffer
-      → printed input ≡ ascii "refused " ++ decimal number ++ ascii " " ++ decimal offset ++ ascii "\n"
-  -- an accepted one "a line a unit, no header"
-  pub accepted : (input results : List ℕ) (units offset : ℕ) → length input ≤ 65536
-      → outcome input emptyBuffer ≡ record { answer = record { number = 0; units = units; offset = offset }; buffer = results }
-      → printed input ≡ linesOf results units
+  -- number 15, a refusal, or the lines of an accepted sheet
+  pub cases : TextCases (record { outcome = outcome; buffer = emptyBuffer; line = λ sheet. lineOf }) printed
   -- numbers are "in decimal"
   pub decimals : (value : ℕ) → InDecimal (decimal value) value
   -- sheets, and lines with every letter and with many digits

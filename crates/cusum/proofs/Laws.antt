@@ -114,7 +114,7 @@ overshoot-met l o c e = omega (arith, overshoot-is l o c, fails-false l o c e)
 pub overshoot-mono : (l : PlanNumbers) (o o' c c' : ℕ) → o ≤ o' → c ≤ c' → overshoot l o c ≤ overshoot l o' c'
 overshoot-mono l o o' c c' h k = omega (arith, overshoot-is l o c, overshoot-is l o' c')
 
--- it is no more than the defects of the unit, where the CuSum before it is at most L
+-- it is no more than the unit's count, in tenths, where the CuSum before it is at most L
 pub overshoot-le-tenths : (l : PlanNumbers) (o c : ℕ) → o ≤ l .limit → overshoot l o c ≤ c
 overshoot-le-tenths l o c h = omega (arith, overshoot-is l o c)
 

@@ -13,7 +13,7 @@ use Rattle.cusum.specs.declared.PlanNumbers.{PlanNumbers}
 use Rattle.cusum.proofs.Integers.{unroll}
 use Rattle.cusum.proofs.Laws.{met-at, new-cusum-le-limit}
 
--- the CuSum after a run of counts
+-- the CuSum after a run of counts, in tenths
 unfoldable pub after : PlanNumbers → ℕ → List ℕ → ℕ
 after l a [] = a
 after l a (c ∷ cs) = after l (newCusum l a c) cs

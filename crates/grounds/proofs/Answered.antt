@@ -1,4 +1,5 @@
--- The first record that is refused, as the check finds it; only one record is: of two, neither is before the other.
+-- The first record that is refused, as the check finds it. Only one record is: of two, neither is before the other; that follows from the
+-- statement alone, and would not from a weaker one.
 use Prim.Native.Nat.{ℕ, _<_}
 use mathlib.Core.Path.{_≡_, refl, sym, _∙_, ap, subst⁻¹}
 use mathlib.Core.Bool.{Bool, true, false}

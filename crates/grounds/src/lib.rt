@@ -1,2 +1,2 @@
-// A table of grounds on which sheets of a kind are refused, and which of its rows is returned. Statements in specs/, proofs in
-// proofs/; there is no code here.
+// For sheets of any kind: a table of grounds and which of its rows is returned; the answer, and what is left of the result buffer.
+// Statements in specs/, proofs in proofs/; there is no code here.

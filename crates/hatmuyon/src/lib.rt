@@ -5,7 +5,7 @@ ghost use Rattle.mold.specs.Outcome.{moldOutcome};
 ghost use Rattle.tally.specs.Outcome.{outcome};
 use outcome::Answer;
 
-// Grades a whole sheet into a result buffer; see tally::grade. A slice passes as a pointer and then a length.
+// Grades a tally sheet into a result buffer; see tally::grade. A slice passes as a pointer and then a length.
 #[no_mangle]
 pub extern "C" fn hatmuyon_grade(sheet: &[u8], results: &mut [u8]) -> Answer
     ensures { λ r. ⌜ _≡_ {A = Outcome} (record { answer = r; buffer = now (results .exit) }) (outcome (now (sheet .entry)) (now (results .entry))) ⌝ }

@@ -3,13 +3,12 @@ use Prim.Native.Nat.{ℕ, _+_, _*_}
 use Prim.Native.Char.{code}
 use mathlib.Core.List.{List, [], _∷_, map}
 use lib.ListN.{getD, replicate}
-use Rattle.outcome.specs.declared.Answer.{Answer}
 use Rattle.units.specs.Words.{classes}
 use Rattle.sheet.specs.Refusals.{mostUnits}
 use Rattle.results.specs.Record.{resultSize, codeIn, portionGradeIn, codeGradeIn, planGradeIn, standingIn, cusumIn}
 use Rattle.tally.specs.Outcome.{outcome}
 use Rattle.text.specs.Ascii.{ascii}
-use Rattle.text.specs.Text.{decimal, oneDecimal, lineWith, linesBy, textBy, printedBy, Printing, leaving}
+use Rattle.text.specs.Text.{decimal, oneDecimal, lineWith, linesBy, SheetKind, printedAs, Printing, leaving}
 
 -- a grade: A, B, C, else S
 abbrev pub gradeLetter : ℕ → ℕ
@@ -46,16 +45,18 @@ linesOf results = linesBy (lineOf results)
 
 -- ---- the whole text
 
-abbrev pub textOf : Answer → List ℕ → List ℕ
-textOf answer results = textBy answer (lineOf results)
-
 -- a result buffer for the most units that a sheet has, filled with zeros
 unfoldable pub emptyResults : List ℕ
 emptyResults = replicate (resultSize * mostUnits) 0
 
--- for an input of any length
-unfoldable pub printed : List ℕ → List ℕ
-printed input = printedBy input (textOf (outcome input emptyResults .answer) (outcome input emptyResults .buffer))
+-- the tally sheet as it is printed; its results have all that stands in a line
+abbrev pub tallySheet : SheetKind
+tallySheet = record { outcome = outcome; buffer = emptyResults; line = λ sheet. lineOf }
 
-unfoldable pub printing : List ℕ → List ℕ → Printing
+-- for an input of any length
+abbrev pub printed : List ℕ → List ℕ
+printed = printedAs tallySheet
+
+-- the caller's text as it is left
+abbrev pub printing : List ℕ → List ℕ → Printing
 printing input text = leaving (printed input) text

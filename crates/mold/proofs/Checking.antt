@@ -31,7 +31,7 @@ opening-passed bytes e =
     )
 
 -- a unit that is not refused is whole
-pub unit-passed : (bytes : List ℕ) (at units : ℕ) → unitRefusal bytes at units ≡ 0 → at + unitSize ≤ length bytes
+unit-passed : (bytes : List ℕ) (at units : ℕ) → unitRefusal bytes at units ≡ 0 → at + unitSize ≤ length bytes
 unfolding unitRefusal
 unit-passed bytes at units e =
     let (marked, rest) = ground-passed _ 6 _ (lit< tt) e in

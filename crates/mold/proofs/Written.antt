@@ -14,7 +14,7 @@ use Rattle.results.proofs.Stores.{appended}
 use Rattle.mold.specs.Grading.{numbersOf, tenthsAt, cusumBefore, failsAt}
 use Rattle.mold.specs.Results.{resultSize, resultBytes, resultOf, written}
 
-pub length-result : (bytes : List ℕ) (i : ℕ) → length (resultOf bytes i) ≡ resultSize
+length-result : (bytes : List ℕ) (i : ℕ) → length (resultOf bytes i) ≡ resultSize
 unfolding resultBytes bytesOf
 length-result bytes i = refl
 

@@ -27,7 +27,7 @@ limit-le (suc (suc (suc (suc zero)))) = omega arith
 limit-le (suc (suc (suc (suc (suc zero))))) = omega arith
 limit-le (suc (suc (suc (suc (suc (suc row)))))) = omega arith
 
-pub new-cusum-small : (bytes : List ℕ) (i : ℕ) → cusumBefore bytes (suc i) < 65536
+new-cusum-small : (bytes : List ℕ) (i : ℕ) → cusumBefore bytes (suc i) < 65536
 unfolding cusumBefore
 new-cusum-small bytes i = omega (arith, new-cusum-le-limit (numbersOf bytes) (cusumBefore bytes i) (tenthsAt bytes i), limit-le (levelRow bytes))
 

@@ -57,7 +57,7 @@ module _ (bytes : List ℕ) where
           at j from below true same = ap (failsAt bytes) (eqb-true j n same) ∙ e
           at j from below false other = before .latest j from (let apart = eqb-false j n other in omega arith)
 
-  pub anchor-of : (i : ℕ) → MoldAnchorAt bytes i
+  anchor-of : (i : ℕ) → MoldAnchorAt bytes i
   anchor-of i =
       let last = latest-of (suc i) in
       record {

@@ -1,4 +1,4 @@
--- What is printed: for every input by the laws of a text; the example from its outcome, and the lines of its records by computation.
+-- What is printed: for every input as for sheets of any kind; the example from its outcome, and the lines of its records by computation.
 use Prim.Native.Nat.{ℕ, _*_, _≤_}
 use mathlib.Core.Path.{_≡_, refl, sym, _∙_}
 use mathlib.Core.List.{List, _++_}
@@ -6,11 +6,10 @@ use native.Mathlib.Omega.{arith}
 use lib.ListN.{length, drop, length-replicate}
 use Rattle.text.specs.Ascii.{ascii}
 use Rattle.text.specs.Text.{digits, decimal, oneDecimal, restOfLine, lineWith, linesBy}
-use Rattle.text.proofs.Printed.{refused-line, too-much-line}
+use Rattle.text.proofs.Printed.{lines-printed, text-cases}
 use Rattle.mold.specs.Layout.{moldUnitAt}
 use Rattle.mold.specs.Results.{resultSize}
-use Rattle.mold_lines.specs.MoldLines.{moldLineOf, emptyMoldResults}
-use Rattle.mold_lines.proofs.MoldLines.{mold-too-much, mold-lines-printed, mold-refusal-printed}
+use Rattle.mold_lines.specs.MoldLines.{moldLineOf, emptyMoldResults, moldSheet}
 use Rattle.mold_demands.specs.MoldSheets.{manualExample, manualExampleResults}
 use Rattle.mold_demands.specs.MoldText.{emptyMoldBuffer, MoldText}
 use Rattle.mold_demands.proofs.MoldSheets.{mold-sheets}
@@ -28,11 +27,8 @@ pub mold-text : MoldText
 unfolding emptyMoldBuffer emptyMoldResults manualExample
 mold-text =
     record {
-      too-much = λ input above. mold-too-much input above ∙ too-much-line;
-      refused = λ input number offset within some promise.
-          mold-refusal-printed input _ _ (sym promise) within (λ none. omega arith) ∙ refused-line number offset;
-      accepted = λ input results units offset within promise. mold-lines-printed input _ _ (sym promise) within refl;
+      cases = text-cases moldSheet;
       example =
-          mold-lines-printed manualExample _ _ (sym (mold-sheets .levels .manual-example emptyMoldResults room)) (omega arith) refl
+          lines-printed moldSheet manualExample _ _ (sym (mold-sheets .levels .manual-example emptyMoldResults room)) (omega arith) refl
           ∙ example-lines (drop (resultSize * 5) emptyMoldResults);
     }

@@ -6,7 +6,7 @@ use mathlib.Core.List.{List, [], _∷_}
 use lib.ListN.{getD, replicate}
 use Rattle.sheet.specs.Refusals.{mostUnits}
 use Rattle.text.specs.Ascii.{ascii}
-use Rattle.text.specs.Text.{decimal, oneDecimal, lineWith, textBy, printedBy, Printing, leaving}
+use Rattle.text.specs.Text.{decimal, oneDecimal, lineWith, SheetKind, printedAs, Printing, leaving}
 use Rattle.text.specs.Wrote.{wordSize, numberDigits, cusumSize}
 use Rattle.mold.specs.Layout.{unitIn}
 use Rattle.mold.specs.Results.{resultSize, metIn, cusumIn}
@@ -28,14 +28,16 @@ moldLineOf sheet results j = lineWith (decimal (j + 1)) (decimal (unitIn sheet j
 unfoldable pub emptyMoldResults : List ℕ
 emptyMoldResults = replicate (resultSize * mostUnits) 0
 
+-- the mold sheet as it is printed
+abbrev pub moldSheet : SheetKind
+moldSheet = record { outcome = moldOutcome; buffer = emptyMoldResults; line = moldLineOf }
+
 -- for an input of any length
-unfoldable pub moldPrinted : List ℕ → List ℕ
-moldPrinted input =
-    let given = moldOutcome input emptyMoldResults in
-    printedBy input (textBy (given .answer) (moldLineOf input (given .buffer)))
+abbrev pub moldPrinted : List ℕ → List ℕ
+moldPrinted = printedAs moldSheet
 
 -- the caller's text as it is left
-unfoldable pub moldPrinting : List ℕ → List ℕ → Printing
+abbrev pub moldPrinting : List ℕ → List ℕ → Printing
 moldPrinting input text = leaving (moldPrinted input) text
 
 -- for contracts of private functions: no line is longer

@@ -31,7 +31,7 @@ module _ (sheet : Sheet) (class : ℕ) where
 
   -- one record more on a trail: its count, if it is a unit
   abbrev extended : Trail → ℕ → Trail
-  extended trail i = record { failed = trail .failed; counts = trail .counts ++ tenthsAt class (sheet .entry i) }
+  extended trail i = record { failed = trail .failed; tenths = trail .tenths ++ tenthsAt class (sheet .entry i) }
 
   trail-kept : (i : ℕ) → restartAt sheet i ≡ false → trailBefore sheet class (suc i) ≡ trailAt sheet class i
   unfolding trailBefore
@@ -50,10 +50,10 @@ module _ (sheet : Sheet) (class : ℕ) where
   trail-failed i e = rw e
 
   -- from record `from` on, with nothing behind the anchor: no failure and no restart before record from + n
-  trail-between : (from n : ℕ) (failed : Bool) → trailBefore sheet class from ≡ record { failed = failed; counts = [] }
+  trail-between : (from n : ℕ) (failed : Bool) → trailBefore sheet class from ≡ record { failed = failed; tenths = [] }
       → ((j : ℕ) → from ≤ j → j < from + n → classFailsAt sheet class j ≡ false)
       → ((j : ℕ) → from ≤ j → j < from + n → restartAt sheet j ≡ false)
-      → trailBefore sheet class (from + n) ≡ record { failed = failed; counts = tenthsFrom sheet class from n }
+      → trailBefore sheet class (from + n) ≡ record { failed = failed; tenths = tenthsFrom sheet class from n }
   unfolding tenthsFrom
   trail-between from zero failed e f r = rw add-zero e
   trail-between from (suc n) failed e f r =
@@ -64,9 +64,9 @@ module _ (sheet : Sheet) (class : ℕ) where
       ∙ ap (λ (trail : Trail). extended trail (from + n)) earlier
 
   -- with record from + n, too
-  trail-through : (from n : ℕ) (failed : Bool) → trailBefore sheet class from ≡ record { failed = failed; counts = [] }
+  trail-through : (from n : ℕ) (failed : Bool) → trailBefore sheet class from ≡ record { failed = failed; tenths = [] }
       → Latest sheet class (from + n) from
-      → trailAt sheet class (from + n) ≡ record { failed = failed; counts = tenthsFrom sheet class from (suc n) }
+      → trailAt sheet class (from + n) ≡ record { failed = failed; tenths = tenthsFrom sheet class from (suc n) }
   unfolding tenthsFrom
   trail-through from n failed e latest =
       trail-extended (from + n) (latest .no-failure (from + n) (omega arith) (omega arith))
@@ -75,7 +75,7 @@ module _ (sheet : Sheet) (class : ℕ) where
 
   -- the trail before a record that an anchor lies right before
   trail-at-anchor : (i from : ℕ) (failed : Bool) → from ≤ i → Anchor sheet class i from failed
-      → trailBefore sheet class from ≡ record { failed = failed; counts = [] }
+      → trailBefore sheet class from ≡ record { failed = failed; tenths = [] }
   unfolding trailBefore
   trail-at-anchor i from failed h opening = refl
   trail-at-anchor i from failed h (restart j l e) = trail-restarted j e
@@ -83,7 +83,7 @@ module _ (sheet : Sheet) (class : ℕ) where
 
   -- where the anchor lies behind record i itself, that is at a failure of its own
   trail-at-own : (i from : ℕ) (failed : Bool) → i < from → Anchor sheet class i from failed
-      → trailAt sheet class i ≡ record { failed = failed; counts = [] }
+      → trailAt sheet class i ≡ record { failed = failed; tenths = [] }
   trail-at-own i from failed h opening = absurd (omega arith)
   trail-at-own i from failed h (restart j l e) = absurd (omega arith)
   trail-at-own i from failed h (failure j l e r) =
@@ -91,12 +91,12 @@ module _ (sheet : Sheet) (class : ℕ) where
 
   -- THE ANCHOR: wherever the latest one lies, the trail has its kind and the counts since it
   pub anchored : (i from n : ℕ) (failed : Bool) → from + n ≡ suc i → Anchor sheet class i from failed → Latest sheet class i from
-      → trailAt sheet class i ≡ record { failed = failed; counts = tenthsFrom sheet class from n }
+      → trailAt sheet class i ≡ record { failed = failed; tenths = tenthsFrom sheet class from n }
   unfolding tenthsFrom
   anchored i from zero failed e lies latest = trail-at-own i from failed (omega arith) lies
   anchored i from (suc n) failed e lies latest =
       let here : from + n ≡ i = omega arith in
-      subst (λ (record-number : ℕ). trailAt sheet class record-number ≡ record { failed = failed; counts = tenthsFrom sheet class from (suc n) }) here
+      subst (λ (record-number : ℕ). trailAt sheet class record-number ≡ record { failed = failed; tenths = tenthsFrom sheet class from (suc n) }) here
       (trail-through from n failed (trail-at-anchor i from failed (omega arith) lies)
       (subst⁻¹ (λ (record-number : ℕ). Latest sheet class record-number from) here latest))
 
@@ -180,4 +180,4 @@ pub largest-form-by-place : (sheet : Sheet) (class : ℕ) → class < length cla
 largest-form-by-place sheet class in-range i unit e h from n failed q lies latest =
     let numbers = numbersOf (sheet .table) (inForceAt sheet i) class in
     largest-form sheet class in-range i unit e h
-    ∙ ap (λ (t : Trail). largestForm numbers (anchorValue numbers (t .failed)) (t .counts)) (anchored sheet class i from n failed q lies latest)
+    ∙ ap (λ (t : Trail). largestForm numbers (anchorValue numbers (t .failed)) (t .tenths)) (anchored sheet class i from n failed q lies latest)

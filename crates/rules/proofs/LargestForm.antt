@@ -27,23 +27,23 @@ use Rattle.rules.proofs.Restarts.{cusumsBehind, restart-starts, no-rest
 
 -- ---- where the anchor lies, as a fold over the records
 
--- behind a record, for a class: whether the anchor is a failure (L) or not (S), and the counts since it, oldest first
+-- behind a record, for a class: whether the anchor is a failure (L) or not (S), and the counts since it, in tenths, oldest first
 pub record Trail : Type 0 where
   pub failed : Bool
-  pub counts : List ℕ
+  pub tenths : List ℕ
 
 -- at a restart or at the opening of the sheet
 abbrev pub fromStart : Trail
-fromStart = record { failed = false; counts = [] }
+fromStart = record { failed = false; tenths = [] }
 
 -- at a failure: its own count is not in the sum
 abbrev pub failedHere : Trail
-failedHere = record { failed = true; counts = [] }
+failedHere = record { failed = true; tenths = [] }
 
 -- up to and with a record
 unfoldable pub trailWith : Table → ℕ → State → Entry → Trail → Trail
 trailWith table class state entry trail =
-    cond (failsAt table class state entry) failedHere (record { failed = trail .failed; counts = trail .counts ++ tenthsAt class entry })
+    cond (failsAt table class state entry) failedHere (record { failed = trail .failed; tenths = trail .tenths ++ tenthsAt class entry })
 
 -- before record i
 unfoldable pub trailBefore : Sheet → ℕ → ℕ → Trail
@@ -61,19 +61,19 @@ trailAt sheet class i = trailWith (sheet .table) class (before sheet i) (sheet .
 -- a value of a class under its S, T and L: reached from the anchor by the counts since it, none of which failed
 abbrev Reached : PlanNumbers → ℕ → Trail → Type 0
 Reached numbers value trail =
-    (value ≡ after numbers (anchorValue numbers (trail .failed)) (trail .counts)) × Meets numbers (anchorValue numbers (trail .failed)) (trail .counts)
+    (value ≡ after numbers (anchorValue numbers (trail .failed)) (trail .tenths)) × Meets numbers (anchorValue numbers (trail .failed)) (trail .tenths)
 
 -- where there is a plan, so it is with the CuSum before a record
 abbrev Held : Table → ℕ → ℕ → List Cusum → Trail → Type 0
 Held table class grade cusums trail = hasPlan grade ≡ true → Reached (numbersOf table grade class) (tenthsIn cusums class) trail
 
 one-unit : (numbers : PlanNumbers) (value count : ℕ) (trail : Trail) → Reached numbers value trail → (b : Bool) → fails numbers value count ≡ b
-    → Reached numbers (newCusum numbers value count) (cond b failedHere (record { failed = trail .failed; counts = trail .counts ++ count ∷ [] }))
+    → Reached numbers (newCusum numbers value count) (cond b failedHere (record { failed = trail .failed; tenths = trail .tenths ++ count ∷ [] }))
 unfolding after Meets anchorValue
 one-unit numbers value count trail r true e = (failed-at numbers value count e, tt)
 one-unit numbers value count trail r false e = (
-  ap (λ (x : ℕ). newCusum numbers x count) (r .0) ∙ sym (after-snoc numbers _ (trail .counts) count),
-  meets-snoc numbers _ (trail .counts) count (r .1) (ap (λ (x : ℕ). fails numbers x count) (sym (r .0)) ∙ e),
+  ap (λ (x : ℕ). newCusum numbers x count) (r .0) ∙ sym (after-snoc numbers _ (trail .tenths) count),
+  meets-snoc numbers _ (trail .tenths) count (r .1) (ap (λ (x : ℕ). fails numbers x count) (sym (r .0)) ∙ e),
 )
 
 module _ (table : Table) (class : ℕ) (in-range : class < length classes) where
@@ -136,13 +136,13 @@ module _ (sheet : Sheet) (class : ℕ) (in-range : class < length classes) where
   within-limit i planned start-within =
       let numbers = numbersOf (sheet .table) (inForceAt sheet i) class in
       let trail = trailBefore sheet class i in
-      rw (held-before i planned .0) (after-le-limit numbers _ (trail .counts) (anchor-within numbers start-within (trail .failed)))
+      rw (held-before i planned .0) (after-le-limit numbers _ (trail .tenths) (anchor-within numbers start-within (trail .failed)))
 
   -- THE FIRST HALF OF DEMAND 3, over records
   pub largest-form : (i : ℕ) (unit : SampleUnit) → sheet .entry i ≡ UnitRecord unit → hasPlan (inForceAt sheet i) ≡ true →
       let numbers = numbersOf (sheet .table) (inForceAt sheet i) class in
       pos (classCusum (sheet .table) (inForceAt sheet i) (before sheet i .cusums) (tenthsOf unit) class)
-      ≡ largestForm numbers (anchorValue numbers (trailAt sheet class i .failed)) (trailAt sheet class i .counts)
+      ≡ largestForm numbers (anchorValue numbers (trailAt sheet class i .failed)) (trailAt sheet class i .tenths)
   largest-form i unit is-unit planned =
       let reached = at-unit (sheet .table) class in-range (before sheet i) unit (trailBefore sheet class i) planned (held-before i) in
       rw is-unit (ap pos (reached .0) ∙ run-largest _ _ _ (reached .1))

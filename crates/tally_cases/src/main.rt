@@ -4,6 +4,7 @@
 ghost use Prim.Native.Nat.{_≤_};
 ghost use lib.ListN.{length};
 use encoding::number_at;
+use layout::NUMBER_SIZE;
 use lines::TEXT_SIZE;
 use mold_lines::MOLD_TEXT_SIZE;
 use text::LARGEST_INPUT;
@@ -23,8 +24,6 @@ const MOLD: u8 = 1;
 
 // What stands before a sheet: its kind, and its length as two numbers of two bytes, each of which has so many values.
 const LENGTH_OFFSET: usize = 1;
-
-const NUMBER_SIZE: usize = 2;
 
 const HEADER_SIZE: usize = LENGTH_OFFSET + 2 * NUMBER_SIZE;
 
@@ -89,7 +88,7 @@ fn print_sheet(kind: u8, sheet: &[u8]) {
     }
 }
 
-// Prints one case; false where none is left.
+// Prints one case; false where none is left, or its kind is none of these.
 fn print_case(number: u64) -> bool {
     let header = read_header();
     if (ROOM < header.length) | (MOLD < header.kind) {

@@ -1,7 +1,7 @@
 -- What is printed in each case of an input: too long, accepted, refused; how long a refusal is; and a text that stands first in the
 -- caller's. From the definitions, by what each test says.
 use Prim.Native.Nat.{ℕ, _+_, _*_, _^_, _<_, _≤_}
-use mathlib.Core.Path.{_≡_, refl, ap}
+use mathlib.Core.Path.{_≡_, refl, sym, _∙_, ap}
 use mathlib.Core.List.{List, _++_, append-assoc}
 use native.Mathlib.Nat.{zero-add}
 use native.Mathlib.Omega.{arith}
@@ -9,30 +9,39 @@ use borrow.Author.Tests.{lt-ltb, le-ltb, eq-eqb, ne-eqb}
 use lib.ListN.{length, drop, length-append}
 use lib.Seq.{sets-eq}
 use Rattle.outcome.specs.declared.Answer.{Answer}
+use Rattle.outcome.specs.Outcome.{Outcome}
 use Rattle.text.specs.Ascii.{ascii}
-use Rattle.text.specs.Text.{digits, decimal, restOfLine, lineWith, linesBy, refusedLine, textBy, largestInput, tooMuchInput, printedBy, Printing, leaving}
+use Rattle.text.specs.Text.{digits, decimal, restOfLine, lineWith, linesBy, refusedLine, textBy, largestInput, tooMuchInput, SheetKind, printedAs, Printing, leaving}
+use Rattle.text.specs.TextCases.{TextCases}
 use Rattle.text.specs.Wrote.{Wrote, wordSize}
 use Rattle.text.proofs.Decimals.{length-decimal}
 
 -- ---- the cases
 
-module _ (input text : List ℕ) where
-  pub printed-too-much : largestInput < length input → printedBy input text ≡ refusedLine tooMuchInput largestInput
-  unfolding printedBy
-  printed-too-much above = rw (lt-ltb largestInput (length input) above)
+module _ (kind : SheetKind) (input : List ℕ) where
+  pub too-much : largestInput < length input → printedAs kind input ≡ refusedLine tooMuchInput largestInput
+  unfolding printedAs
+  too-much above = rw (lt-ltb largestInput (length input) above)
 
-  pub printed-within : length input ≤ largestInput → printedBy input text ≡ text
-  unfolding printedBy
-  printed-within within = rw (le-ltb largestInput (length input) within)
+  any-other : length input ≤ largestInput
+      → printedAs kind input
+      ≡ textBy (kind .outcome input (kind .buffer) .answer) (kind .line input (kind .outcome input (kind .buffer) .buffer))
+  unfolding printedAs
+  any-other within = rw (le-ltb largestInput (length input) within)
 
-module _ (answer : Answer) (line : ℕ → List ℕ) where
-  pub text-accepted : answer .number ≡ 0 → textBy answer line ≡ linesBy line (answer .units)
-  unfolding textBy
-  text-accepted accepted = rw (eq-eqb (answer .number) 0 accepted)
+  module _ (answer : Answer) (results : List ℕ)
+      (promise : _≡_ {A = Outcome} (record { answer = answer; buffer = results }) (kind .outcome input (kind .buffer))) where
+    printed-text : length input ≤ largestInput → printedAs kind input ≡ textBy answer (kind .line input results)
+    printed-text within = any-other within ∙ sym (ap (λ (given : Outcome). textBy (given .answer) (kind .line input (given .buffer))) promise)
 
-  pub text-refused : (answer .number ≡ 0 → ⊥) → textBy answer line ≡ refusedLine (answer .number) (answer .offset)
-  unfolding textBy
-  text-refused refused = rw (ne-eqb (answer .number) 0 refused)
+    pub lines-printed : length input ≤ largestInput → answer .number ≡ 0 → printedAs kind input ≡ linesBy (kind .line input results) (answer .units)
+    unfolding textBy
+    lines-printed within accepted = printed-text within ∙ rw (eq-eqb (answer .number) 0 accepted)
+
+    pub refusal-printed : length input ≤ largestInput → (answer .number ≡ 0 → ⊥)
+        → printedAs kind input ≡ refusedLine (answer .number) (answer .offset)
+    unfolding textBy
+    refusal-printed within refused = printed-text within ∙ rw (ne-eqb (answer .number) 0 refused)
 
 -- ---- a refusal
 
@@ -49,6 +58,17 @@ refused-line number offset = simp append-assoc
 pub too-much-line : refusedLine tooMuchInput largestInput ≡ ascii "refused 15 65536\n"
 unfolding digits decimal restOfLine lineWith refusedLine
 too-much-line = refl
+
+-- the cases in the paper's words
+pub text-cases : (kind : SheetKind) → TextCases kind (printedAs kind)
+text-cases kind =
+    record {
+      too-much = λ input above. too-much kind input above ∙ too-much-line;
+      any-other = any-other kind;
+      refused = λ input number offset within some promise.
+          refusal-printed kind input _ _ (sym promise) within (λ none. omega arith) ∙ refused-line number offset;
+      accepted = λ input results units offset within promise. lines-printed kind input _ _ (sym promise) within refl;
+    }
 
 -- no refusal is longer: the word, and two numbers of 64 bits
 pub short-refusal : (number offset : ℕ) → number < 10 ^ wordSize → offset < 10 ^ wordSize

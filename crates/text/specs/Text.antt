@@ -6,6 +6,7 @@ use mathlib.Core.List.{List, [], _∷_, _++_}
 use lib.Dec.{eqb, ltb}
 use lib.ListN.{length, drop}
 use Rattle.outcome.specs.declared.Answer.{Answer}
+use Rattle.outcome.specs.Outcome.{Outcome}
 use Rattle.text.specs.Ascii.{ascii}
 
 abbrev pub newline : ℕ
@@ -67,9 +68,17 @@ largestInput = 65536
 abbrev pub tooMuchInput : ℕ
 tooMuchInput = 15
 
--- number 15 before all else
-unfoldable pub printedBy : List ℕ → List ℕ → List ℕ
-printedBy input text = cond (ltb largestInput (length input)) (refusedLine tooMuchInput largestInput) text
+-- a kind of sheet: its outcome, the result buffer that is graded into, and the line of a unit by the sheet and its results
+pub record SheetKind : Type 0 where
+  pub outcome : List ℕ → List ℕ → Outcome
+  pub buffer : List ℕ
+  pub line : List ℕ → List ℕ → ℕ → List ℕ
+
+-- for an input of any length: number 15 before all else
+unfoldable pub printedAs : SheetKind → List ℕ → List ℕ
+printedAs kind input =
+    let given = kind .outcome input (kind .buffer) in
+    cond (ltb largestInput (length input)) (refusedLine tooMuchInput largestInput) (textBy (given .answer) (kind .line input (given .buffer)))
 
 -- the printing function's answer, the size of the printed text, and the caller's text as it is left
 pub record Printing : Type 0 where

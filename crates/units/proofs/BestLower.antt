@@ -14,41 +14,41 @@ use Rattle.units.specs.BestLower.{Admits, BestLower}
 use Rattle.units.proofs.Lists.{all-each, each-all}
 use Rattle.units.proofs.Tests.{and-both}
 
-module _ (table : Table) (counts : List ℕ) where
+module _ (table : Table) (tenths : List ℕ) where
   abbrev bound : ℕ → ℕ → ℕ
   bound grade class = numbersOf table grade class .tolerance + numbersOf table grade class .limit
 
   -- the test of a grade, and what it says
-  admits-all : (grade : ℕ) → admits (rowOf table grade) counts ≡ true → Admits table grade counts
+  admits-all : (grade : ℕ) → admits (rowOf table grade) tenths ≡ true → Admits table grade tenths
   unfolding admits noneAbove
   admits-all grade e class inside =
-      leb-true (countTenths counts class) (bound grade class) (all-each (length classes) _ e class inside)
+      leb-true (countTenths tenths class) (bound grade class) (all-each (length classes) _ e class inside)
 
-  admits-test : (grade : ℕ) → Admits table grade counts → admits (rowOf table grade) counts ≡ true
+  admits-test : (grade : ℕ) → Admits table grade tenths → admits (rowOf table grade) tenths ≡ true
   unfolding admits noneAbove
   admits-test grade every =
-      each-all (length classes) _ (λ class inside. le-leb (countTenths counts class) (bound grade class) (every class inside))
+      each-all (length classes) _ (λ class inside. le-leb (countTenths tenths class) (bound grade class) (every class inside))
 
-  not-admits : (grade : ℕ) → admits (rowOf table grade) counts ≡ false → Admits table grade counts → ⊥
+  not-admits : (grade : ℕ) → admits (rowOf table grade) tenths ≡ false → Admits table grade tenths → ⊥
   not-admits grade e every = true≢false (sym (admits-test grade every) ∙ e)
 
   -- the test of a lower grade failed
-  passed-over : (grade better : ℕ) → grade < better → (ltb grade better && admits (rowOf table better) counts) ≡ false → Admits table better counts → ⊥
+  passed-over : (grade better : ℕ) → grade < better → (ltb grade better && admits (rowOf table better) tenths) ≡ false → Admits table better tenths → ⊥
   passed-over grade better lower e every =
       not-admits better (sym (ap-and (ltb grade better) (lt-ltb grade better lower)) ∙ e) every
     where
-      ap-and : (test : Bool) → test ≡ true → (test && admits (rowOf table better) counts) ≡ admits (rowOf table better) counts
+      ap-and : (test : Bool) → test ≡ true → (test && admits (rowOf table better) tenths) ≡ admits (rowOf table better) tenths
       ap-and test yes-lower = rw yes-lower
 
-  pub best-lower-is : (grade : ℕ) → grade < substandard → BestLower table grade counts (bestLower table grade counts)
+  pub best-lower-is : (grade : ℕ) → grade < substandard → BestLower table grade tenths (bestLower table grade tenths)
   unfolding bestLower
   best-lower-is grade planned =
-      go (ltb grade 1 && admits (rowOf table 1) counts) refl (ltb grade 2 && admits (rowOf table 2) counts) refl
+      go (ltb grade 1 && admits (rowOf table 1) tenths) refl (ltb grade 2 && admits (rowOf table 2) tenths) refl
     where
-      go : (first : Bool) → (ltb grade 1 && admits (rowOf table 1) counts) ≡ first → (second : Bool) → (ltb grade 2 && admits (rowOf table 2) counts) ≡ second
-          → BestLower table grade counts (cond first 1 (cond second 2 substandard))
+      go : (first : Bool) → (ltb grade 1 && admits (rowOf table 1) tenths) ≡ first → (second : Bool) → (ltb grade 2 && admits (rowOf table 2) tenths) ≡ second
+          → BestLower table grade tenths (cond first 1 (cond second 2 substandard))
       go true e second f =
-          let (lower, admitted) = and-both (ltb grade 1) (admits (rowOf table 1) counts) e in
+          let (lower, admitted) = and-both (ltb grade 1) (admits (rowOf table 1) tenths) e in
           record {
             lower = ltb-true grade 1 lower;
             grade-or-none = omega arith;
@@ -56,7 +56,7 @@ module _ (table : Table) (counts : List ℕ) where
             none-better = λ better above below _. omega arith;
           }
       go false e true f =
-          let (lower, admitted) = and-both (ltb grade 2) (admits (rowOf table 2) counts) f in
+          let (lower, admitted) = and-both (ltb grade 2) (admits (rowOf table 2) tenths) f in
           record {
             lower = ltb-true grade 2 lower;
             grade-or-none = omega arith;
@@ -71,7 +71,7 @@ module _ (table : Table) (counts : List ℕ) where
             none-better = λ better above below every. by-grade better above below every;
           }
         where
-          by-grade : (better : ℕ) → grade < better → better < substandard → Admits table better counts → ⊥
+          by-grade : (better : ℕ) → grade < better → better < substandard → Admits table better tenths → ⊥
           by-grade zero above below every = omega arith
           by-grade (suc zero) above below every = passed-over grade 1 above e every
           by-grade (suc (suc zero)) above below every = passed-over grade 2 above f every

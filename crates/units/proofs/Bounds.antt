@@ -28,17 +28,17 @@ count-le-all unit (suc (suc zero)) = omega arith
 count-le-all unit (suc (suc (suc zero))) = omega arith
 count-le-all unit (suc (suc (suc (suc class)))) = omega arith
 
-module _ (table : Table) (grade : ℕ) (cusums : List Cusum) (counts : List ℕ) (class : ℕ) where
+module _ (table : Table) (grade : ℕ) (cusums : List Cusum) (tenths : List ℕ) (class : ℕ) where
   -- a CuSum is at most its L
-  pub class-cusum-le : classCusum table grade cusums counts class ≤ numbersOf table grade class .limit
+  pub class-cusum-le : classCusum table grade cusums tenths class ≤ numbersOf table grade class .limit
   unfolding classCusum
   class-cusum-le =
       choice-le (hasPlan grade) _ 0 _
-      (new-cusum-le-limit (numbersOf table grade class) (tenthsIn cusums class) (countTenths counts class)) (omega arith)
+      (new-cusum-le-limit (numbersOf table grade class) (tenthsIn cusums class) (countTenths tenths class)) (omega arith)
 
   -- an overshoot at most ten times the count, if the CuSum before the unit is at most L where there is a plan
   pub class-overshoot-le : (hasPlan grade ≡ true → tenthsIn cusums class ≤ numbersOf table grade class .limit)
-      → classOvershoot table grade cusums counts class ≤ countTenths counts class
+      → classOvershoot table grade cusums tenths class ≤ countTenths tenths class
   unfolding classOvershoot
   class-overshoot-le within = go (hasPlan grade) within
     where
@@ -46,17 +46,17 @@ module _ (table : Table) (grade : ℕ) (cusums : List Cusum) (counts : List ℕ)
       numbers = numbersOf table grade class
 
       go : (planned : Bool) → (planned ≡ true → tenthsIn cusums class ≤ numbers .limit)
-          → cond planned (overshoot numbers (tenthsIn cusums class) (countTenths counts class)) 0 ≤ countTenths counts class
-      go true within = overshoot-le-tenths numbers (tenthsIn cusums class) (countTenths counts class) (within refl)
+          → cond planned (overshoot numbers (tenthsIn cusums class) (countTenths tenths class)) 0 ≤ countTenths tenths class
+      go true within = overshoot-le-tenths numbers (tenthsIn cusums class) (countTenths tenths class) (within refl)
       go false within = omega arith
 
-best-lower-at-most : (table : Table) (grade : ℕ) (counts : List ℕ) → bestLower table grade counts ≤ substandard
+best-lower-at-most : (table : Table) (grade : ℕ) (tenths : List ℕ) → bestLower table grade tenths ≤ substandard
 unfolding bestLower
-best-lower-at-most table grade counts =
-    choice-le (ltb grade 1 && admits (rowOf table 1) counts) 1 _ 3 (omega arith)
-    (choice-le (ltb grade 2 && admits (rowOf table 2) counts) 2 3 3 (omega arith) (omega arith))
+best-lower-at-most table grade tenths =
+    choice-le (ltb grade 1 && admits (rowOf table 1) tenths) 1 _ 3 (omega arith)
+    (choice-le (ltb grade 2 && admits (rowOf table 2) tenths) 2 3 3 (omega arith) (omega arith))
 
-pub defect-grade-at-most : (table : Table) (grade : ℕ) (cusums : List Cusum) (counts : List ℕ) → grade ≤ substandard → defectGrade table grade cusums counts ≤ substandard
+pub defect-grade-at-most : (table : Table) (grade : ℕ) (cusums : List Cusum) (tenths : List ℕ) → grade ≤ substandard → defectGrade table grade cusums tenths ≤ substandard
 unfolding defectGrade
-defect-grade-at-most table grade cusums counts h =
-    choice-le (unitFails table grade cusums counts) _ grade 3 (best-lower-at-most table grade counts) h
+defect-grade-at-most table grade cusums tenths h =
+    choice-le (unitFails table grade cusums tenths) _ grade 3 (best-lower-at-most table grade tenths) h

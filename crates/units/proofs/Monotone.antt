@@ -27,7 +27,7 @@ pub record Fewer (u v : SampleUnit) : Type 0 where
 
 -- the same of counts by class, in tenths
 abbrev pub NoMore : List ℕ → List ℕ → Type 0
-NoMore counts counts' = (class : ℕ) → countTenths counts class ≤ countTenths counts' class
+NoMore tenths tenths' = (class : ℕ) → countTenths tenths class ≤ countTenths tenths' class
 
 data Pairwise : List ℕ → List ℕ → Type 0 where
   none : Pairwise [] []
@@ -40,11 +40,11 @@ pairwise-no-more (more h others) (suc class) = pairwise-no-more others class
 
 pub counts-fewer : (u v : SampleUnit) → Fewer u v → NoMore (tenthsOf u) (tenthsOf v)
 counts-fewer u v f =
-    let tenths : (n m : ℕ) → n ≤ m → tenTimes n ≤ tenTimes m = λ n m h. omega arith in
+    let ten-times : (n m : ℕ) → n ≤ m → tenTimes n ≤ tenTimes m = λ n m h. omega arith in
     let sum : total u .0 ≤ total v .0 = omega arith in
-    let counts : Pairwise (tenthsOf u) (tenthsOf v) =
-    more (tenths _ _ (f .critical)) (more (tenths _ _ (f .severe)) (more (tenths _ _ (f .major)) (more (tenths _ _ sum) none))) in
-    pairwise-no-more counts
+    let classes : Pairwise (tenthsOf u) (tenthsOf v) =
+    more (ten-times _ _ (f .critical)) (more (ten-times _ _ (f .severe)) (more (ten-times _ _ (f .major)) (more (ten-times _ _ sum) none))) in
+    pairwise-no-more classes
 
 -- no CuSum of the first list is higher
 abbrev pub NoHigher : List Cusum → List Cusum → Type 0
@@ -64,34 +64,34 @@ planned-mono : (planned : Bool) (x y : ℕ) → x ≤ y → cond planned x 0 ≤
 planned-mono true x y h = h
 planned-mono false x y h = omega arith
 
-module _ (table : Table) (grade : ℕ) (cusums cusums' : List Cusum) (counts counts' : List ℕ)
-    (lower : NoHigher cusums cusums') (fewer : NoMore counts counts') where
-  pub class-cusum-mono : (class : ℕ) → classCusum table grade cusums counts class ≤ classCusum table grade cusums' counts' class
+module _ (table : Table) (grade : ℕ) (cusums cusums' : List Cusum) (tenths tenths' : List ℕ)
+    (lower : NoHigher cusums cusums') (fewer : NoMore tenths tenths') where
+  pub class-cusum-mono : (class : ℕ) → classCusum table grade cusums tenths class ≤ classCusum table grade cusums' tenths' class
   unfolding classCusum
   class-cusum-mono class =
       planned-mono (hasPlan grade) _ _ (new-cusum-mono (numbersOf table grade class) _ _ _ _ (lower class) (fewer class))
 
-  pub class-overshoot-mono : (class : ℕ) → classOvershoot table grade cusums counts class ≤ classOvershoot table grade cusums' counts' class
+  pub class-overshoot-mono : (class : ℕ) → classOvershoot table grade cusums tenths class ≤ classOvershoot table grade cusums' tenths' class
   unfolding classOvershoot
   class-overshoot-mono class =
       planned-mono (hasPlan grade) _ _ (overshoot-mono (numbersOf table grade class) _ _ _ _ (lower class) (fewer class))
 
-  pub cusums-mono : NoHigher (newCusums table grade cusums counts) (newCusums table grade cusums' counts')
+  pub cusums-mono : NoHigher (newCusums table grade cusums tenths) (newCusums table grade cusums' tenths')
   unfolding newCusums
   cusums-mono = map-no-higher _ _ class-cusum-mono classes
 
-  pub class-fails-mono : (class : ℕ) → classFails table grade cusums counts class ≡ true → classFails table grade cusums' counts' class ≡ true
+  pub class-fails-mono : (class : ℕ) → classFails table grade cusums tenths class ≡ true → classFails table grade cusums' tenths' class ≡ true
   unfolding classFails
   class-fails-mono class = go (hasPlan grade)
     where
-      go : (b : Bool) → (b && fails (numbersOf table grade class) (tenthsIn cusums class) (countTenths counts class)) ≡ true
-          → (b && fails (numbersOf table grade class) (tenthsIn cusums' class) (countTenths counts' class)) ≡ true
+      go : (b : Bool) → (b && fails (numbersOf table grade class) (tenthsIn cusums class) (countTenths tenths class)) ≡ true
+          → (b && fails (numbersOf table grade class) (tenthsIn cusums' class) (countTenths tenths' class)) ≡ true
       go true e = fails-mono (numbersOf table grade class) _ _ _ _ (lower class) (fewer class) e
       go false e = e
 
-  pub unit-fails-mono : unitFails table grade cusums counts ≡ true → unitFails table grade cusums' counts' ≡ true
+  pub unit-fails-mono : unitFails table grade cusums tenths ≡ true → unitFails table grade cusums' tenths' ≡ true
   unfolding unitFails
-  unit-fails-mono e = any-mono (classFails table grade cusums counts) (classFails table grade cusums' counts') class-fails-mono classes e
+  unit-fails-mono e = any-mono (classFails table grade cusums tenths) (classFails table grade cusums' tenths') class-fails-mono classes e
 
 -- ---- grades
 
@@ -110,42 +110,42 @@ and-mono : (s t t' : Bool) → (t' ≡ true → t ≡ true) → (s && t') ≡ tr
 and-mono true t t' h e = h e
 and-mono false t t' h e = e
 
-module _ (counts counts' : List ℕ) (fewer : NoMore counts counts') where
-  none-above-mono : (bound : PlanNumbers → ℕ) (row : List PlanNumbers) → noneAbove bound row counts' ≡ true → noneAbove bound row counts ≡ true
+module _ (tenths tenths' : List ℕ) (fewer : NoMore tenths tenths') where
+  none-above-mono : (bound : PlanNumbers → ℕ) (row : List PlanNumbers) → noneAbove bound row tenths' ≡ true → noneAbove bound row tenths ≡ true
   unfolding noneAbove
   none-above-mono bound row e = all-mono _ _ step classes e
     where
-      step : (class : ℕ) → leb (countTenths counts' class) (bound (inClass row class)) ≡ true
-          → leb (countTenths counts class) (bound (inClass row class)) ≡ true
-      step class e = le-leb (countTenths counts class) (bound (inClass row class))
-          (omega (arith, fewer class, leb-true (countTenths counts' class) (bound (inClass row class)) e))
+      step : (class : ℕ) → leb (countTenths tenths' class) (bound (inClass row class)) ≡ true
+          → leb (countTenths tenths class) (bound (inClass row class)) ≡ true
+      step class e = le-leb (countTenths tenths class) (bound (inClass row class))
+          (omega (arith, fewer class, leb-true (countTenths tenths' class) (bound (inClass row class)) e))
 
-  pub best-lower-mono : (table : Table) (grade : ℕ) → bestLower table grade counts ≤ bestLower table grade counts'
+  pub best-lower-mono : (table : Table) (grade : ℕ) → bestLower table grade tenths ≤ bestLower table grade tenths'
   unfolding bestLower admits
   best-lower-mono table grade =
-      let lower : (better : ℕ) → Bool = λ better. ltb grade better && admits (rowOf table better) counts in
-      let lower' : (better : ℕ) → Bool = λ better. ltb grade better && admits (rowOf table better) counts' in
+      let lower : (better : ℕ) → Bool = λ better. ltb grade better && admits (rowOf table better) tenths in
+      let lower' : (better : ℕ) → Bool = λ better. ltb grade better && admits (rowOf table better) tenths' in
       let admitted : (better : ℕ) → lower' better ≡ true → lower better ≡ true
       = λ better. and-mono (ltb grade better) _ _ (none-above-mono _ (rowOf table better)) in
       pick-mono (lower 1) (lower' 1) 1 _ _ (admitted 1) (at-least (lower' 2) 1 2 substandard (λ e. omega arith) (omega arith))
       (pick-mono (lower 2) (lower' 2) 2 substandard substandard (admitted 2) (omega arith) (omega arith))
 
 -- a lower grade is lower, or Substandard
-pub best-lower-le : (table : Table) (grade : ℕ) (counts : List ℕ) → grade ≤ substandard → grade ≤ bestLower table grade counts
+pub best-lower-le : (table : Table) (grade : ℕ) (tenths : List ℕ) → grade ≤ substandard → grade ≤ bestLower table grade tenths
 unfolding bestLower
-best-lower-le table grade counts h =
-    at-least (ltb grade 1 && admits (rowOf table 1) counts) grade 1 _ (λ e. omega (arith, ltb-true grade 1 (and-both _ _ e .0)))
-    (at-least (ltb grade 2 && admits (rowOf table 2) counts) grade 2 substandard (λ e. omega (arith, ltb-true grade 2 (and-both _ _ e .0))) h)
+best-lower-le table grade tenths h =
+    at-least (ltb grade 1 && admits (rowOf table 1) tenths) grade 1 _ (λ e. omega (arith, ltb-true grade 1 (and-both _ _ e .0)))
+    (at-least (ltb grade 2 && admits (rowOf table 2) tenths) grade 2 substandard (λ e. omega (arith, ltb-true grade 2 (and-both _ _ e .0))) h)
 
-pub defect-grade-mono : (table : Table) (grade : ℕ) (cusums cusums' : List Cusum) (counts counts' : List ℕ)
-    → NoHigher cusums cusums' → NoMore counts counts' → grade ≤ substandard
-    → defectGrade table grade cusums counts ≤ defectGrade table grade cusums' counts'
+pub defect-grade-mono : (table : Table) (grade : ℕ) (cusums cusums' : List Cusum) (tenths tenths' : List ℕ)
+    → NoHigher cusums cusums' → NoMore tenths tenths' → grade ≤ substandard
+    → defectGrade table grade cusums tenths ≤ defectGrade table grade cusums' tenths'
 unfolding defectGrade
-defect-grade-mono table grade cusums cusums' counts counts' lower fewer h =
-    go (unitFails table grade cusums counts) (unitFails table grade cusums' counts') (unit-fails-mono table grade cusums cusums' counts counts' lower fewer)
+defect-grade-mono table grade cusums cusums' tenths tenths' lower fewer h =
+    go (unitFails table grade cusums tenths) (unitFails table grade cusums' tenths') (unit-fails-mono table grade cusums cusums' tenths tenths' lower fewer)
   where
-    go : (x y : Bool) → (x ≡ true → y ≡ true) → cond x (bestLower table grade counts) grade ≤ cond y (bestLower table grade counts') grade
-    go true true m = best-lower-mono counts counts' fewer table grade
+    go : (x y : Bool) → (x ≡ true → y ≡ true) → cond x (bestLower table grade tenths) grade ≤ cond y (bestLower table grade tenths') grade
+    go true true m = best-lower-mono tenths tenths' fewer table grade
     go true false m = absurd (false≢true (m refl))
-    go false true m = best-lower-le table grade counts' h
+    go false true m = best-lower-le table grade tenths' h
     go false false m = omega arith

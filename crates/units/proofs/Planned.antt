@@ -14,15 +14,15 @@ use Rattle.units.specs.Words.{hasPlan, classes, Table, rowOf, inClass, c
 use Rattle.units.specs.Unit.{classFails, classCusum, newCusums, classOvershoot, newOvershoots, unitFails, steppedUnder, steppedIn}
 use Rattle.units.proofs.Lists.{map-same, in-none}
 
-pub stepped-under : (table : Table) (grade : ℕ) (cusums : List Cusum) (counts : List ℕ) → hasPlan grade ≡ true
-    → steppedIn (rowOf table grade) cusums counts ≡ steppedUnder table grade cusums counts
+pub stepped-under : (table : Table) (grade : ℕ) (cusums : List Cusum) (tenths : List ℕ) → hasPlan grade ≡ true
+    → steppedIn (rowOf table grade) cusums tenths ≡ steppedUnder table grade cusums tenths
 unfolding steppedIn newCusums newOvershoots unitFails classFails classCusum classOvershoot any
-stepped-under table grade cusums counts planned = rw planned
+stepped-under table grade cusums tenths planned = rw planned
 
-pub none-over : (row : List PlanNumbers) (cusums : List Cusum) (counts : List ℕ) → steppedIn row cusums counts .fails ≡ false
-    → steppedIn row cusums counts .overshoots ≡ noOvershoots
+pub none-over : (row : List PlanNumbers) (cusums : List Cusum) (tenths : List ℕ) → steppedIn row cusums tenths .fails ≡ false
+    → steppedIn row cusums tenths .overshoots ≡ noOvershoots
 unfolding steppedIn
-none-over row cusums counts met =
+none-over row cusums tenths met =
     map-same (length classes) _ _
     (λ class known. overshoot-met _ _ _
-    (in-none (length classes) (λ k. fails (inClass row k) (tenthsIn cusums k) (countTenths counts k)) met class known))
+    (in-none (length classes) (λ k. fails (inClass row k) (tenthsIn cusums k) (countTenths tenths k)) met class known))

@@ -82,7 +82,7 @@ tenthsOf unit = map defectTenths (countsOf unit)
 
 -- the count of a class, in tenths
 abbrev pub countTenths : List ℕ → ℕ → ℕ
-countTenths counts class = getD counts class 0
+countTenths tenths class = getD tenths class 0
 
 -- the CuSum where no plan is in force
 abbrev pub zeroCusum : Cusum

@@ -273,8 +273,8 @@ pub struct Step {
 /// becomes L. If it is below zero, the CuSum becomes 0. Otherwise it is the CuSum." "The step that
 /// gives a new CuSum shall also give the overshoot, raw value less L, or zero where the class met"
 /// (paper 02, A.1).
-pub fn step(old: i64, defects: i64, numbers: Numbers) -> Step {
-    let raw = old + defects - numbers.t;
+pub fn step(old: i64, tenths: i64, numbers: Numbers) -> Step {
+    let raw = old + tenths - numbers.t;
     if raw > numbers.l {
         Step { cusum: numbers.l, fails: true, overshoot: raw - numbers.l }
     } else if raw < 0 {

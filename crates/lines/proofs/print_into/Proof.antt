@@ -2,9 +2,9 @@
 use native.Mathlib.Omega.{arith}
 use borrow.Author.Needs.{needs}
 use Rattle.text.specs.Text.{largestInput, tooMuchInput}
-use Rattle.text.proofs.Printed.{short-refusal}
-use Rattle.lines.specs.Lines.{emptyResults}
-use Rattle.lines.proofs.Printed.{too-much, lines-printed, refusal-printed, records-inside, whole-printed}
+use Rattle.text.proofs.Printed.{too-much, lines-printed, refusal-printed, short-refusal, whole-text}
+use Rattle.lines.specs.Lines.{emptyResults, tallySheet, printed}
+use Rattle.lines.proofs.Printed.{records-inside}
 use Rattle.lines.proofs.print_into.Statement.{statement}
 use Rattle.lines.proofs.print_into.Tie as tie
 
@@ -15,7 +15,7 @@ returns : tie.Need-returns
 returns c =
     let test = c .before .before in
     let input = test .before .before .args .input .now in
-    whole-printed input (rw (too-much input (test .if1 .taken)) (c .refusal-line .ensures))
+    whole-text (printed input) (rw (too-much tallySheet input (test .if1 .taken)) (c .refusal-line .ensures))
 
 slice-aggregate-grade : tie.Need-slice-aggregate-grade
 slice-aggregate-grade c = search needs
@@ -43,8 +43,8 @@ returns-2 c =
     let input = graded .before .before .before .before .args .input .now in
     let within = graded .before .before .if1 .left in
     let grade = graded .grade in
-    let lines = lines-printed input (grade .result) (grade .last .1 .0) (grade .ensures) within (accepted .if2 .taken) in
-    whole-printed input (rw lines (c .unit-lines .ensures))
+    let lines = lines-printed tallySheet input (grade .result) (grade .last .1 .0) (grade .ensures) within (accepted .if2 .taken) in
+    whole-text (printed input) (rw lines (c .unit-lines .ensures))
 
 refusal-line-requires-2 : tie.Need-refusal-line-requires-2
 refusal-line-requires-2 c κs =
@@ -59,8 +59,8 @@ returns-3 c =
     let input = graded .before .before .before .before .args .input .now in
     let within = graded .before .before .if1 .left in
     let grade = graded .grade in
-    let line = refusal-printed input (grade .result) (grade .last .1 .0) (grade .ensures) within (refused .if2 .left) in
-    whole-printed input (rw line (c .refusal-line2 .ensures))
+    let line = refusal-printed tallySheet input (grade .result) (grade .last .1 .0) (grade .ensures) within (refused .if2 .left) in
+    whole-text (printed input) (rw line (c .refusal-line2 .ensures))
 
 pub print-into-spec : {M : Type 1} → statement M
 print-into-spec =

@@ -1,7 +1,7 @@
 -- It is safe: what was read and what is written lie inside their arrays.
 use mathlib.Core.Path.{sym}
 use lib.Seq.{length-take-le}
-use Rattle.lines.proofs.Printed.{printed-inside}
+use Rattle.text.proofs.Printed.{text-inside}
 use borrow.Author.Needs.{needs}
 use Rattle.print_tally.proofs.main.Statement.{statement}
 use Rattle.print_tally.proofs.main.Tie as tie
@@ -27,12 +27,12 @@ print-into-requires : tie.Need-print-into-requires
 print-into-requires c κs = search needs
 
 array-share-prefix-text : tie.Need-array-share-prefix-text
-array-share-prefix-text c = printed-inside _ _ (c .print-into .ensures)
+array-share-prefix-text c = text-inside _ _ (c .print-into .ensures)
 
 slice-aggregate-write-all : tie.Need-slice-aggregate-write-all
 slice-aggregate-write-all c =
     let print = c .before .print-into in
-    sym (length-take-le (print .result) (print .last .1 .0) (printed-inside _ _ (print .ensures)))
+    sym (length-take-le (print .result) (print .last .1 .0) (text-inside _ _ (print .ensures)))
 
 write-all-requires : tie.Need-write-all-requires
 write-all-requires c κs = search needs

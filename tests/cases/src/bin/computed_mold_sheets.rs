@@ -347,7 +347,7 @@ fn refusals() -> Vec<Case> {
             7,
             8,
             "fields missing",
-            "7: the two bytes left behind the mark are a code, and the positive fields are missing.",
+            "7 and not 17: the two bytes left behind the mark are a code; the positive fields are missing.",
             vec![opening(5), first(), unit(0x1A1A, 26).cut(4)],
         ),
         refused(
