@@ -380,7 +380,7 @@ markAlone =
     ∷ 0x4D ∷ 0x55  -- 2 bytes of 1: 1
     ∷ []
 
--- 7: the two bytes left behind the mark are a code, and the positive fields are missing.
+-- 7 and not 17: the two bytes left behind the mark are a code; the positive fields are missing.
 unfoldable pub fieldsMissing : List ℕ
 fieldsMissing =
     0x4D ∷ 0x44 ∷ 5  -- level 25

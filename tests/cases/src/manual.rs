@@ -2,7 +2,8 @@
 //! comment says what was filled in and what is garbled in the crawled copy. In all of them: a class
 //! that an example does not show gets the wide plan 0/999.9/0; "=" stands for a grade that is not
 //! printed, which repeats the one before it, so that number 5 does not apply; codes are 1, 2, ...
-//! where the manual has one for each unit or none.
+//! where the manual has one for each unit or none. Mold counts are no counts of defects: the example
+//! of them is in `mold.rs`.
 
 #[rustfmt::skip]
 pub const EXAMPLES: &[(&str, &str)] = &[
@@ -13,15 +14,6 @@ pub const EXAMPLES: &[(&str, &str)] = &[
         plan major    1/4/3 = =
         major         3 4 0 8 2
         cusum         0 0 0 3 1
-    "),
-    // Mold count, defect action level 12%; positive fields in place of defects.
-    // Filled in: the class (total), B and C; L is read from 'Reset to "L" (2)'.
-    ("computing, example 2", "
-        designated    A
-        plan total    0/3/2 = =
-        total         3 3 2 6 3
-        cusum         0 0 0 2 2
-        standing      m m m f m
     "),
     // Severe defects only, decimal fractions. Filled in: B and C.
     ("computing, example 3", "
@@ -384,16 +376,6 @@ pub const EXAMPLES: &[(&str, &str)] = &[
         force         A   A   A   A   A   B   B   B   A
         grade         A   A   A   B   B   -   -   -   A
         production    A   A   A   B   B   A   A   A   A
-    "),
-    // Mold count, defect action level 40%, drums 8 and 11; positive fields in place of defects.
-    // Filled in: the class (total), B and C.
-    ("appendix 5, mold of tomato paste", "
-        designated    A
-        plan total    1/10/4 = =
-        code          8   11
-        total         14  8
-        cusum         4   2
-        standing      f   m
     "),
     // All classes, reevaluated at a buyer's plan; no two in a row fail, so that step 3 does not come
     // up. Units 8 and 9 are cut off, and the codes cannot be told apart. Filled in: codes 1, 2, ...
