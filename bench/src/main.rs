@@ -290,9 +290,9 @@ fn main() {
     let mut tuned = |sheet: &[u8], results: &mut [u8]| table_by_code.grade(sheet, results);
     println!("The library beside the independent grader and the tuned one, {rounds} rounds, tally");
     println!(
-        "sheets under the peach plan; all built for release, result buffers cleared before each\n\
-         grading (not timed)."
+        "sheets under the peach plan; all built for release, result buffers cleared before each"
     );
+    println!("grading (not timed).");
     println!(
         "The library and the tuned grader agree on {RANDOM_SHEETS} random sheets, and on as many"
     );
