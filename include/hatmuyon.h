@@ -131,8 +131,9 @@ enum hatmuyon_standing {
 #define HATMUYON_MOLD_UNIT_SIZE 5
 #define HATMUYON_MOLD_RESULT_SIZE 5
 
-/* How many level rows there are, from 0 on, and how many fields are counted. A mold sheet has at most HATMUYON_MOST_UNITS
- * units, too: a result buffer for any has HATMUYON_MOLD_RESULT_SIZE * HATMUYON_MOST_UNITS bytes. */
+/* How many level rows there are, from 0 on, and how many fields are counted. A mold sheet has at
+ * most HATMUYON_MOST_UNITS units, too: a result buffer for any has HATMUYON_MOLD_RESULT_SIZE *
+ * HATMUYON_MOST_UNITS bytes. */
 #define HATMUYON_MOLD_LEVELS 6
 #define HATMUYON_MOST_POSITIVE_FIELDS 25
 

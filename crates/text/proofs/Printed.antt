@@ -86,12 +86,14 @@ short-refusal number offset numbered placed =
 -- a text written from the start on stands first, and the bytes behind it are kept
 pub whole-text : (printed : List ℕ) {before after : List ℕ} {end : ℕ}
     → Wrote before 0 printed after end → _≡_ {A = Printing} (record { size = end; text = after }) (leaving printed before)
+unfolding leaving
 whole-text printed {before} wrote =
     rw (wrote .ends, wrote .holds, sets-eq printed before 0 (omega (arith, wrote .ends, wrote .inside)), zero-add)
 
 -- what is printed lies inside it
 pub text-inside : (printed before : List ℕ) {after : List ℕ} {end : ℕ}
     → _≡_ {A = Printing} (record { size = end; text = after }) (leaving printed before) → end ≤ length after
+unfolding leaving
 text-inside printed before promise =
     let size = ap (λ (given : Printing). given .size) promise in
     let whole = ap (λ (given : Printing). length (given .text)) promise in

@@ -86,5 +86,5 @@ pub record Printing : Type 0 where
   pub text : List ℕ
 
 -- what is printed stands first, and the bytes behind it are kept
-abbrev pub leaving : List ℕ → List ℕ → Printing
+unfoldable pub leaving : List ℕ → List ℕ → Printing
 leaving printed text = record { size = length printed; text = printed ++ drop (length printed) text }
