@@ -2,11 +2,12 @@
 //! offset and every byte of the buffer with guard bytes before and behind it, on seeded random
 //! sheets, which must be kept; and both halves of demand 3, with what A.1 of paper 02 adds of
 //! overshoots, on the bytes that the library left. For every fourth case also a mold sheet (A.2 of
-//! paper 02), with the first half of demand 3.
+//! paper 02), with the first half of demand 3. At the end every count there is (A.3).
 //!
 //! `differential [CASES [SEED]]`. A sheet on which the two differ is written to a file and named. A
 //! run of 10,000 cases or more also fails if one of the things that it counts never came up.
 
+mod counts;
 mod mold;
 
 use grader::generate::{self, seed_of, Counts, Dice};
@@ -222,12 +223,15 @@ fn main() {
             molds += 1;
         }
     }
+    let (defects, fields) = (counts::defects(), counts::fields());
     print!("{counts}");
     println!(
         "{checked:>9}  sheets whose recorded CuSums are the 'largest of' form, overshoots by sums"
     );
     println!("{pairs:>9}  pairs alike but for fewer counts, {graded_pairs} with grades compared");
     println!("{molds_checked:>9}  mold sheets whose recorded CuSums are the 'largest of' form");
+    println!("{defects:>9}  sheets with every count from 0 to 2,000 in each kind and in all kinds");
+    println!("{fields:>9}  mold sheets with every number of fields from 0 to 25 at each level");
     // A short run need not have everything.
     if let Some(name) = counts.missing().find(|_| cases >= WHOLE) {
         println!("differential: no case has: {name}");
