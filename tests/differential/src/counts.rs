@@ -7,6 +7,7 @@ use grader::generate_mold::mold_sheet;
 use grader::mold::{self, LEVELS, MOST_FIELDS};
 use grader::sheet::{Record, Sheet};
 use grader::{grade_traced, RESULT_SIZE};
+use hatmuyon::ffi;
 
 /// "a count above 2,000" is refused.
 const MOST_DEFECTS: i64 = 2_000;
@@ -19,10 +20,18 @@ fn sheet(limits: [i64; 3], records: Vec<Record>) -> Vec<u8> {
     Sheet { designated: 0, table, records }.bytes()
 }
 
+/// Compares a sheet, which must be accepted, so that its count is graded.
 fn compare(count: i64, sheet: &[u8]) -> Vec<u8> {
-    let mut expected = vec![0; 3 * RESULT_SIZE];
+    let fill = fill(count as u64);
+    let mut expected = vec![fill; 4 * RESULT_SIZE];
     let (answer, _) = grade_traced(sheet, &mut expected, false);
-    compare_with(Kind::Tally, count as u64, sheet, 0, answer, &expected)
+    assert_eq!(answer.number, 0, "a sheet of the count {count}");
+    compare_with(Kind::Tally, count as u64, sheet, fill, answer, &expected)
+}
+
+/// Another byte than zero, which an overshoot or a CuSum may have.
+fn fill(count: u64) -> u8 {
+    1 + (count % 251) as u8
 }
 
 /// Compares a unit with these counts where L is 0, so that the tenths of a class are its overshoot and
@@ -44,7 +53,8 @@ fn compare_counts(count: i64, counts: [i64; 4]) -> usize {
         }
     }
     compare(count, &sheet([9_999; 3], vec![unit]));
-    compare(count, &sheet([0, 10, 10], vec![fails, fails, unit]));
+    let third = compare(count, &sheet([0, 10, 10], vec![fails, fails, unit]));
+    assert_eq!(third[2 * RESULT_SIZE + ffi::RESULT_STANDING], 2, "the third unit is in step 3");
     3
 }
 
@@ -61,9 +71,11 @@ pub fn fields() -> usize {
     let sheets = rows.flat_map(|row| (0..=MOST_FIELDS).map(move |fields| (row, fields)));
     let compared = sheets.map(|(row, fields)| {
         let sheet = mold_sheet(row, &[fields, MOST_FIELDS, fields]).bytes();
-        let mut expected = vec![0; 3 * mold::RESULT_SIZE];
+        let fill = fill(u64::from(fields));
+        let mut expected = vec![fill; 4 * mold::RESULT_SIZE];
         let (answer, _) = mold::grade_traced(&sheet, &mut expected, false);
-        compare_with(Kind::Mold, u64::from(fields), &sheet, 0, answer, &expected);
+        assert_eq!(answer.number, 0, "a mold sheet of {fields} fields");
+        compare_with(Kind::Mold, u64::from(fields), &sheet, fill, answer, &expected);
     });
     compared.count()
 }
