@@ -5,7 +5,7 @@ use mathlib.Core.Path.{refl}
 use lib.Dec.{lit<}
 use Rattle.tally.proofs.Computing.{computing}
 use Rattle.computed.specs.WorkedCases.{peachPlan}
-use Rattle.computed.specs.FurtherSheets.{BreakSheets, RedesignationSheets, UnitSheets, StepThreeSheets, OvershootSheets, FewerDefectSheets, RefusedSheets, FullSheets, FurtherSheets, ground12, grounds12And8, grounds7And12, breakBetweenUnits, breakBetweenUnitsResults, breakBetweenFailures, breakBetweenFailuresResults, breakInStepThree, breakInStepThreeResults, breakInRun, breakInRunResults, breakWithoutPlan, breakWithoutPlanResults, noUnit, noUnitResults, noUnitButRecords, noUnitButRecordsResults, redesignationOutsideStepThree, redesignationOutsideStepThreeResults, redesignationInStepThree, redesignationInStepThreeResults, redesignationInRun, redesignationInRunResults, redesignationToLowerGrade, redesignationToLowerGradeResults, redesignationBelowLowerGrade, redesignationBelowLowerGradeResults, redesignationWithoutPlan, redesignationWithoutPlanResults, redesignationAfterStepThree, redesignationAfterStepThreeResults, everyKindOfRecord, everyKindOfRecordResults, bestLowerGrade, bestLowerGradeResults, designatedCFailedTwice, designatedCFailedTwiceResults, prerequisiteSubstandard, prerequisiteSubstandardResults, prerequisitesOfTwoFailures, prerequisitesOfTwoFailuresResults, totalAloneFails, totalAloneFailsResults, twoClassesFailInTurn, twoClassesFailInTurnResults, unitThatMeetsBetweenFailures, unitThatMeetsBetweenFailuresResults, codeMetAgain, codeMetAgainResults, startEqualToLimit, startEqualToLimitResults, cusumsOfTwoBytes, cusumsOfTwoBytesResults, p1InBytes, p1InBytesResults, failureInStepThree, failureInStepThreeResults, lowerThanPlanInForce, lowerThanPlanInForceResults, twoFailuresInStepThree, twoFailuresInStepThreeResults, aboveTolerance, aboveToleranceResults, cusumAboveZero, cusumAboveZeroResults, recovery, recoveryResults, recoveryWithoutPlan, recoveryWithoutPlanResults, afterStepThree, afterStepThreeResults, p7AndP8InBytes, p7AndP8InBytesResults, overshootAboveTwoBytes, overshootAboveTwoBytesResults, overshootsAroundTwoBytes, overshootsAroundTwoBytesResults, overshootsInEveryClass, overshootsInEveryClassResults, rawValueAtLimit, rawValueAtLimitResults, noOvershootWithoutPlan, noOvershootWithoutPlanResults, oneMinorDefectFewer, oneMinorDefectFewerResults, oneSevereDefectFewer, oneSevereDefectFewerResults, noDefectInPlaceOfOne, noDefectInPlaceOfOneResults, planCutShort, grounds1And2, grounds2And3, grounds3And4, grounds4And5, ground5BySum, ground5ByTolerance, oneByteLeft, secondPlan, markAlone, grounds7And8, grounds8And9, ground9Before8, recoverableAbove1, newGradeAboveC, ground11Before10, ground11ByLastRedesignation, ground11InStepThree, bufferWithoutRoom}
+use Rattle.computed.specs.FurtherSheets.{BreakSheets, RedesignationSheets, UnitSheets, StepThreeSheets, LowerPlanSheets, OvershootSheets, FewerDefectSheets, RefusedSheets, FullSheets, FurtherSheets, ground12, grounds12And8, grounds7And12, breakBetweenUnits, breakBetweenUnitsResults, breakBetweenFailures, breakBetweenFailuresResults, breakInStepThree, breakInStepThreeResults, breakInRun, breakInRunResults, breakWithoutPlan, breakWithoutPlanResults, noUnit, noUnitResults, noUnitButRecords, noUnitButRecordsResults, redesignationOutsideStepThree, redesignationOutsideStepThreeResults, redesignationInStepThree, redesignationInStepThreeResults, redesignationInRun, redesignationInRunResults, redesignationToLowerGrade, redesignationToLowerGradeResults, redesignationBelowLowerGrade, redesignationBelowLowerGradeResults, redesignationWithoutPlan, redesignationWithoutPlanResults, redesignationAfterStepThree, redesignationAfterStepThreeResults, everyKindOfRecord, everyKindOfRecordResults, bestLowerGrade, bestLowerGradeResults, designatedCFailedTwice, designatedCFailedTwiceResults, prerequisiteSubstandard, prerequisiteSubstandardResults, prerequisitesOfTwoFailures, prerequisitesOfTwoFailuresResults, totalAloneFails, totalAloneFailsResults, twoClassesFailInTurn, twoClassesFailInTurnResults, unitThatMeetsBetweenFailures, unitThatMeetsBetweenFailuresResults, codeMetAgain, codeMetAgainResults, startEqualToLimit, startEqualToLimitResults, cusumsOfTwoBytes, cusumsOfTwoBytesResults, p1InBytes, p1InBytesResults, failureInStepThree, failureInStepThreeResults, lowerThanPlanInForce, lowerThanPlanInForceResults, aboveTolerance, aboveToleranceResults, cusumAboveZero, cusumAboveZeroResults, recovery, recoveryResults, recoveryWithoutPlan, recoveryWithoutPlanResults, afterStepThree, afterStepThreeResults, p7AndP8InBytes, p7AndP8InBytesResults, everyLowerPlan, everyLowerPlanResults, oneFailureBehindStartOfStepThree, oneFailureBehindStartOfStepThreeResults, threeFailuresInStepThree, threeFailuresInStepThreeResults, worseFailureFirstInStepThree, worseFailureFirstInStepThreeResults, worseFailureSecondInStepThree, worseFailureSecondInStepThreeResults, unitThatMeetsBetweenFailuresInStepThree, unitThatMeetsBetweenFailuresInStepThreeResults, breakBetweenFailuresInStepThree, breakBetweenFailuresInStepThreeResults, redesignationBetweenFailuresInStepThree, redesignationBetweenFailuresInStepThreeResults, endOfStepThreeBetweenFailures, endOfStepThreeBetweenFailuresResults, runBeforeAnotherLowerPlan, runBeforeAnotherLowerPlanResults, recoveryUnderAnotherLowerPlan, recoveryUnderAnotherLowerPlanResults, redesignationAfterAnotherLowerPlan, redesignationAfterAnotherLowerPlanResults, overshootAboveTwoBytes, overshootAboveTwoBytesResults, overshootsAroundTwoBytes, overshootsAroundTwoBytesResults, overshootsInEveryClass, overshootsInEveryClassResults, rawValueAtLimit, rawValueAtLimitResults, noOvershootWithoutPlan, noOvershootWithoutPlanResults, oneMinorDefectFewer, oneMinorDefectFewerResults, oneSevereDefectFewer, oneSevereDefectFewerResults, noDefectInPlaceOfOne, noDefectInPlaceOfOneResults, planCutShort, grounds1And2, grounds2And3, grounds3And4, grounds4And5, ground5BySum, ground5ByTolerance, oneByteLeft, secondPlan, markAlone, grounds7And8, grounds8And9, ground9Before8, recoverableAbove1, newGradeAboveC, ground11Before10, ground11ByLastRedesignation, ground11InStepThree, bufferWithoutRoom}
 use Rattle.computed.proofs.Computed.{accepts, without-room}
 use Rattle.computed.proofs.FullSheet.{cut-short, one-too-many}
 
@@ -62,20 +62,42 @@ unit-sheets =
 
 step-three-sheets : StepThreeSheets
 unfolding computing peachPlan failureInStepThree failureInStepThreeResults lowerThanPlanInForce lowerThanPlanInForceResults
-    twoFailuresInStepThree twoFailuresInStepThreeResults aboveTolerance
-    aboveToleranceResults cusumAboveZero cusumAboveZeroResults recovery recoveryResults recoveryWithoutPlan recoveryWithoutPlanResults afterStepThree
+    aboveTolerance aboveToleranceResults cusumAboveZero cusumAboveZeroResults recovery recoveryResults recoveryWithoutPlan recoveryWithoutPlanResults afterStepThree
     afterStepThreeResults p7AndP8InBytes p7AndP8InBytesResults
 step-three-sheets =
     record {
       failure-in-step-three = λ buffer holds. accepts failureInStepThree buffer 4 4 refl holds refl;
       lower-than-plan-in-force = λ buffer holds. accepts lowerThanPlanInForce buffer 4 4 refl holds refl;
-      two-failures-in-step-three = λ buffer holds. accepts twoFailuresInStepThree buffer 5 5 refl holds refl;
       above-tolerance = λ buffer holds. accepts aboveTolerance buffer 6 6 refl holds refl;
       cusum-above-zero = λ buffer holds. accepts cusumAboveZero buffer 6 6 refl holds refl;
       recovery = λ buffer holds. accepts recovery buffer 6 6 refl holds refl;
       recovery-without-plan = λ buffer holds. accepts recoveryWithoutPlan buffer 7 7 refl holds refl;
       after-step-three = λ buffer holds. accepts afterStepThree buffer 7 7 refl holds refl;
       p7-and-p8-in-bytes = λ buffer holds. accepts p7AndP8InBytes buffer 8 8 refl holds refl;
+    }
+
+lower-plan-sheets : LowerPlanSheets
+unfolding computing peachPlan everyLowerPlan everyLowerPlanResults oneFailureBehindStartOfStepThree oneFailureBehindStartOfStepThreeResults
+    threeFailuresInStepThree threeFailuresInStepThreeResults worseFailureFirstInStepThree worseFailureFirstInStepThreeResults
+    worseFailureSecondInStepThree worseFailureSecondInStepThreeResults unitThatMeetsBetweenFailuresInStepThree
+    unitThatMeetsBetweenFailuresInStepThreeResults breakBetweenFailuresInStepThree breakBetweenFailuresInStepThreeResults
+    redesignationBetweenFailuresInStepThree redesignationBetweenFailuresInStepThreeResults endOfStepThreeBetweenFailures
+    endOfStepThreeBetweenFailuresResults runBeforeAnotherLowerPlan runBeforeAnotherLowerPlanResults recoveryUnderAnotherLowerPlan recoveryUnderAnotherLowerPlanResults
+    redesignationAfterAnotherLowerPlan redesignationAfterAnotherLowerPlanResults
+lower-plan-sheets =
+    record {
+      every-lower-plan = λ buffer holds. accepts everyLowerPlan buffer 7 7 refl holds refl;
+      one-failure-behind-start-of-step-three = λ buffer holds. accepts oneFailureBehindStartOfStepThree buffer 4 4 refl holds refl;
+      three-failures-in-step-three = λ buffer holds. accepts threeFailuresInStepThree buffer 6 6 refl holds refl;
+      worse-failure-first-in-step-three = λ buffer holds. accepts worseFailureFirstInStepThree buffer 5 5 refl holds refl;
+      worse-failure-second-in-step-three = λ buffer holds. accepts worseFailureSecondInStepThree buffer 5 5 refl holds refl;
+      unit-that-meets-between-failures-in-step-three = λ buffer holds. accepts unitThatMeetsBetweenFailuresInStepThree buffer 6 6 refl holds refl;
+      break-between-failures-in-step-three = λ buffer holds. accepts breakBetweenFailuresInStepThree buffer 6 5 refl holds refl;
+      redesignation-between-failures-in-step-three = λ buffer holds. accepts redesignationBetweenFailuresInStepThree buffer 6 5 refl holds refl;
+      end-of-step-three-between-failures = λ buffer holds. accepts endOfStepThreeBetweenFailures buffer 6 5 refl holds refl;
+      run-before-another-lower-plan = λ buffer holds. accepts runBeforeAnotherLowerPlan buffer 8 8 refl holds refl;
+      recovery-under-another-lower-plan = λ buffer holds. accepts recoveryUnderAnotherLowerPlan buffer 8 8 refl holds refl;
+      redesignation-after-another-lower-plan = λ buffer holds. accepts redesignationAfterAnotherLowerPlan buffer 6 5 refl holds refl;
     }
 
 overshoot-sheets : OvershootSheets
@@ -143,6 +165,7 @@ further-sheets =
       redesignations = redesignation-sheets;
       units = unit-sheets;
       step-three = step-three-sheets;
+      lower-plans = lower-plan-sheets;
       overshoots = overshoot-sheets;
       fewer-defects = fewer-defect-sheets;
       refusals = refused-sheets;

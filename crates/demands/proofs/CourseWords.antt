@@ -15,12 +15,13 @@ use Rattle.cusum.proofs.Laws.{fails-true, fails-false}
 use Rattle.encoding.specs.Bytes.{number}
 use Rattle.units.specs.Words.{substandard, classes, hasPlan, numbersOf, tenthsOf, countTenths, tenthsIn}
 use Rattle.units.specs.Unit.{classFails, classCusum, classOvershoot, unitFails, allZero, noneAbove, withinTolerance, qualifies}
+use Rattle.units.specs.Records.{isUnitThat}
 use Rattle.units.specs.declared.SampleUnit.{SampleUnit}
 use Rattle.units.specs.declared.Entry.{Entry}
 use Rattle.units.specs.declared.Entry.the-variants.{UnitRecord, Redesignation, Break}
 use Rattle.rules.specs.StepThree.{inStepThree, inForceIn, qualifiesWith}
 use Rattle.rules.specs.Sheet.{Sheet, before, designatedAt, inForceAt, gradedAt}
-use Rattle.rules.specs.TwoInARow.{failsDesignated, unitFailsAt, unitFailsBefore, secondInARow}
+use Rattle.rules.specs.TwoInARow.{failsDesignated, failsLower, unitFailsAt, unitFailsBefore, secondInARow, unitFailsLowerAt, secondAtLower, lowerPlanStartsAt}
 use Rattle.rules.specs.ThreeInARow.{recordQualifies, unitQualifiesAt, thirdInARow}
 use Rattle.rules.specs.Anchor.{failsAt, tenthsAt, classFailsAt, restartBy, restartAt, tenthsFrom}
 use Rattle.rules.proofs.Anchors.{tenths-of-one}
@@ -40,7 +41,7 @@ use Rattle.tally.proofs.Entries.{unit-is, designated-before, designated-planned
 use Rattle.tally.proofs.Overfull.{cusum-graded}
 use Rattle.grounds.specs.Tells.{Tells}
 use Rattle.answers.specs.Grounds.{toleranceIn, limitIn, startIn, IsUnit, IsRedesignation, IsBreak, newGrade}
-use Rattle.demands.specs.Course.{Course, classCounts, tenTimesCount, ClassFails, UnitFails, FailsDesignated, SecondFails, Qualifies, ThreeQualify, ThirdQualifies, KeepsStepThree, Restart, at-break, step-three-begins, step-three-ends, at-redesignation}
+use Rattle.demands.specs.Course.{Course, classCounts, tenTimesCount, ClassFails, UnitFails, FailsDesignated, FailsLower, SecondFails, SecondFailsLower, Qualifies, ThreeQualify, ThirdQualifies, KeepsStepThree, Restart, at-break, step-three-begins, lower-plan-again, step-three-ends, at-redesignation}
 use Rattle.grounds.proofs.Tells.{told, tells-true, tells-false, tells-lt, tells-le, tells-eq, tells-as, tells-not, tells-and, tells-or, tells-any, tells-all}
 use Rattle.answers.proofs.Rows.{numbers-there, Marked, as-unit, as-redesignation, as-break, as-none, marked, is-unit-mark, is-redesignation-mark, is-break-mark, unit-mark-is}
 
@@ -125,6 +126,19 @@ module _ (bytes : List ℕ) (facts : Facts bytes (recordsIn bytes)) where
       go (Redesignation grade) e = new grade
       go Break e = break
 
+  -- a test of units tells, at a record, what it tells of the unit there
+  tells-that : (i : ℕ) (holds : SampleUnit → Bool) (P : Type 0) → (P → UnitAt bytes i) → (UnitAt bytes i → Tells (holds (unitIn bytes i)) P)
+      → Tells (isUnitThat holds (sheet .entry i)) P
+  unfolding isUnitThat
+  tells-that i holds P only-units of-unit = go (sheet .entry i) refl
+    where
+      go : (entry : Entry) → sheet .entry i ≡ entry → Tells (isUnitThat holds entry) P
+      go (UnitRecord unit) e =
+          let same : unit ≡ unitIn bytes i = unit-is bytes i unit (sym (entry-is i) ∙ e) in
+          subst⁻¹ (λ (u : SampleUnit). Tells (holds u) P) same (of-unit (unit-there i unit e))
+      go (Redesignation new) e = record { so = λ never. absurd (false≢true never); not-so = λ _ here. not-redesignation i new e (only-units here) }
+      go Break e = record { so = λ never. absurd (false≢true never); not-so = λ _ here. not-break i e (only-units here) }
+
   pub designated-is : (i : ℕ) → designatedAt sheet i ≡ designatedBefore bytes i
   unfolding sheetIn
   designated-is i = designated-before bytes (recordsIn bytes) i
@@ -170,13 +184,13 @@ module _ (bytes : List ℕ) (facts : Facts bytes (recordsIn bytes)) where
           }
 
   pub tells-class-at : (i class : ℕ) → UnitAt bytes i → class < length classes → Tells (classFailsAt sheet class i) (ClassFails bytes course i class)
-  unfolding classFailsAt failsAt
+  unfolding classFailsAt failsAt isUnitThat
   tells-class-at i class at known =
       subst⁻¹ (λ (entry : Entry). Tells (failsAt (sheet .table) class (before sheet i) entry) (ClassFails bytes course i class))
-      (unit-here i at) (unfold failsAt in tells-class i class known)
+      (unit-here i at) (tells-class i class known)
 
   pub only-units-fail : (i class : ℕ) → (UnitAt bytes i → ⊥) → classFailsAt sheet class i ≡ false
-  unfolding classFailsAt failsAt
+  unfolding classFailsAt failsAt isUnitThat
   only-units-fail i class none = other-entry i none (λ entry. failsAt (sheet .table) class (before sheet i) entry ≡ false) (λ new. refl) refl
 
   -- a unit fails in one of its classes
@@ -198,22 +212,23 @@ module _ (bytes : List ℕ) (facts : Facts bytes (recordsIn bytes)) where
 
   pub tells-designated : (i : ℕ) → Tells (unitFailsAt sheet i) (FailsDesignated bytes course i)
   unfolding unitFailsAt failsDesignated
-  tells-designated i = go (sheet .entry i) refl
-    where
-      go : (entry : Entry) → sheet .entry i ≡ entry → Tells (failsDesignated (sheet .table) (before sheet i) entry) (FailsDesignated bytes course i)
-      go (UnitRecord unit) e =
-          let at = unit-there i unit e in
-          let same : unit ≡ unitIn bytes i = unit-is bytes i unit (sym (entry-is i) ∙ e) in
-          subst⁻¹ (λ (u : SampleUnit). Tells (not (inStepThree (before sheet i .phase)) && unitFails (sheet .table) (designatedAt sheet i) (before sheet i .cusums) (tenthsOf u))
-          (FailsDesignated bytes course i)) same
-          (subst⁻¹ (λ (test : Bool). Tells test (FailsDesignated bytes course i))
-          (outside-in-force (designatedAt sheet i) (before sheet i .phase) (before sheet i .cusums) (tenthsOf (unitIn bytes i)))
-          (tells-as
-          (λ (outside, fails-here). record { unit = at; outside-step-three = outside; fails = fails-here })
-          (λ (here : FailsDesignated bytes course i). (here .outside-step-three, here .fails))
-          (tells-and (tells-false (inStepThree (before sheet i .phase))) (tells-unit i))))
-      go (Redesignation new) e = record { so = λ never. absurd (false≢true never); not-so = λ _ here. not-redesignation i new e (here .unit) }
-      go Break e = record { so = λ never. absurd (false≢true never); not-so = λ _ here. not-break i e (here .unit) }
+  tells-designated i =
+      tells-that i _ (FailsDesignated bytes course i) (λ here. here .unit)
+      (λ at. subst⁻¹ (λ (test : Bool). Tells test (FailsDesignated bytes course i))
+      (outside-in-force (designatedAt sheet i) (before sheet i .phase) (before sheet i .cusums) (tenthsOf (unitIn bytes i)))
+      (tells-as
+      (λ (outside, fails-here). record { unit = at; step-three = outside; fails = fails-here })
+      (λ (here : FailsDesignated bytes course i). (here .step-three, here .fails))
+      (tells-and (tells-false (inStepThree (before sheet i .phase))) (tells-unit i))))
+
+  pub tells-lower : (i : ℕ) → Tells (unitFailsLowerAt sheet i) (FailsLower bytes course i)
+  unfolding unitFailsLowerAt failsLower
+  tells-lower i =
+      tells-that i _ (FailsLower bytes course i) (λ here. here .unit)
+      (λ at. tells-as
+      (λ (inside, fails-here). record { unit = at; step-three = inside; fails = fails-here })
+      (λ (here : FailsLower bytes course i). (here .step-three, here .fails))
+      (tells-and (tells-true (inStepThree (before sheet i .phase))) (tells-unit i)))
 
   pub tells-second : (i : ℕ) → Tells (secondInARow sheet i) (SecondFails bytes course i)
   unfolding secondInARow unitFailsBefore
@@ -225,6 +240,23 @@ module _ (bytes : List ℕ) (facts : Facts bytes (recordsIn bytes)) where
       let same : here .first ≡ i = omega (arith, here .next) in
       (subst (FailsDesignated bytes course) same (here .first-fails), here .second-fails))
       (tells-and (tells-designated i) (tells-designated (suc i)))
+
+  pub tells-second-lower : (i : ℕ) → Tells (secondAtLower sheet i) (SecondFailsLower bytes course i)
+  unfolding secondAtLower SecondFailsLower
+  tells-second-lower zero = record { so = λ never. absurd (false≢true never); not-so = λ _ here. here }
+  tells-second-lower (suc i) =
+      tells-as (λ ((one, none), two). (one, none, two)) (λ (one, none, two). ((one, none), two))
+      (tells-and (tells-and (tells-lower i) (tells-not (tells-second-lower i))) (tells-lower (suc i)))
+
+  -- the second of two failures fails
+  pub failing-second-lower : (i : ℕ) → SecondFailsLower bytes course i → FailsLower bytes course i
+  unfolding SecondFailsLower
+  failing-second-lower zero here = absurd here
+  failing-second-lower (suc i) (one, none, two) = two
+
+  pub tells-starts : (i : ℕ) → Tells (lowerPlanStartsAt sheet i) (SecondFails bytes course i ⊎ SecondFailsLower bytes course i)
+  unfolding lowerPlanStartsAt
+  tells-starts i = tells-or (tells-second i) (tells-second-lower i)
 
   -- ---- counts
 
@@ -255,20 +287,13 @@ module _ (bytes : List ℕ) (facts : Facts bytes (recordsIn bytes)) where
 
   pub tells-qualifies : (i : ℕ) → Tells (unitQualifiesAt sheet i) (Qualifies bytes course i)
   unfolding unitQualifiesAt recordQualifies qualifiesWith qualifies allZero withinTolerance noneAbove
-  tells-qualifies i = go (sheet .entry i) refl
-    where
-      go : (entry : Entry) → sheet .entry i ≡ entry → Tells (recordQualifies (sheet .table) (before sheet i) entry) (Qualifies bytes course i)
-      go (UnitRecord unit) e =
-          let at = unit-there i unit e in
-          let same : unit ≡ unitIn bytes i = unit-is bytes i unit (sym (entry-is i) ∙ e) in
-          subst⁻¹ (λ (u : SampleUnit). Tells (recordQualifies (sheet .table) (before sheet i) (UnitRecord u)) (Qualifies bytes course i)) same
-          (tells-as
-          (λ (inside, (zero-here, within-here)). record { unit = at; in-step-three = inside; zero = zero-here; within = within-here })
-          (λ (here : Qualifies bytes course i). (here .in-step-three, (here .zero, here .within)))
-          (tells-and (tells-true (inStepThree (before sheet i .phase)))
-          (tells-and (tells-all (length classes) _ _ (zero-tells i)) (tells-all (length classes) _ _ (within-tells i)))))
-      go (Redesignation new) e = record { so = λ never. absurd (false≢true never); not-so = λ _ here. not-redesignation i new e (here .unit) }
-      go Break e = record { so = λ never. absurd (false≢true never); not-so = λ _ here. not-break i e (here .unit) }
+  tells-qualifies i =
+      tells-that i _ (Qualifies bytes course i) (λ here. here .unit)
+      (λ at. tells-as
+      (λ (inside, (zero-here, within-here)). record { unit = at; in-step-three = inside; zero = zero-here; within = within-here })
+      (λ (here : Qualifies bytes course i). (here .in-step-three, (here .zero, here .within)))
+      (tells-and (tells-true (inStepThree (before sheet i .phase)))
+      (tells-and (tells-all (length classes) _ _ (zero-tells i)) (tells-all (length classes) _ _ (within-tells i)))))
 
   pub tells-third : (i : ℕ) → Tells (thirdInARow sheet i) (ThirdQualifies bytes course i)
   unfolding thirdInARow
@@ -298,7 +323,7 @@ module _ (bytes : List ℕ) (facts : Facts bytes (recordsIn bytes)) where
   unit-no-break : (i : ℕ) → UnitAt bytes i → IsBreak bytes i → ⊥
   unit-no-break i at is-break = not-break i (entry-is i ∙ break-entry bytes i is-break) at
 
-  unit-no-redesignation : (i : ℕ) → UnitAt bytes i → IsRedesignation bytes i → ⊥
+  pub unit-no-redesignation : (i : ℕ) → UnitAt bytes i → IsRedesignation bytes i → ⊥
   unit-no-redesignation i at is-redesignation =
       not-redesignation i (newGrade bytes i) (entry-is i ∙ redesignation-entry bytes i is-redesignation) at
 
@@ -306,11 +331,12 @@ module _ (bytes : List ℕ) (facts : Facts bytes (recordsIn bytes)) where
   unfolding restartAt restartBy
   tells-restart-unit i at =
       subst⁻¹ (λ (entry : Entry). Tells (restartBy sheet i entry) (Restart bytes course i)) (unit-here i at)
-      (unfold restartBy in tells-as (⊎-elim step-three-begins step-three-ends) from (tells-or (tells-second i) (tells-third i)))
+      (unfold restartBy in tells-as (⊎-elim (⊎-elim step-three-begins lower-plan-again) step-three-ends) from (tells-or (tells-starts i) (tells-third i)))
     where
-      from : Restart bytes course i → SecondFails bytes course i ⊎ ThirdQualifies bytes course i
+      from : Restart bytes course i → (SecondFails bytes course i ⊎ SecondFailsLower bytes course i) ⊎ ThirdQualifies bytes course i
       from (at-break is-break) = absurd (unit-no-break i at is-break)
-      from (step-three-begins second) = inl second
+      from (step-three-begins second) = inl (inl second)
+      from (lower-plan-again second) = inl (inr second)
       from (step-three-ends third) = inr third
       from (at-redesignation is-redesignation other) = absurd (unit-no-redesignation i at is-redesignation)
 
@@ -324,6 +350,7 @@ module _ (bytes : List ℕ) (facts : Facts bytes (recordsIn bytes)) where
       from : Restart bytes course i → KeepsStepThree bytes course i → ⊥
       from (at-break is-break) keeps = omega (arith, is-break, is-redesignation)
       from (step-three-begins second) keeps = unit-no-redesignation i (second .second-fails .unit) is-redesignation
+      from (lower-plan-again second) keeps = unit-no-redesignation i (failing-second-lower i second .unit) is-redesignation
       from (step-three-ends third) keeps = unit-no-redesignation i (unit-third i third) is-redesignation
       from (at-redesignation _ other) keeps = other keeps
 
@@ -337,6 +364,7 @@ module _ (bytes : List ℕ) (facts : Facts bytes (recordsIn bytes)) where
   pub restart-told : (i : ℕ) → Restart bytes course i → restartAt sheet i ≡ true
   restart-told i (at-break is-break) = told (tells-restart-break i is-break) (at-break is-break)
   restart-told i (step-three-begins second) = told (tells-restart-unit i (second .second-fails .unit)) (step-three-begins second)
+  restart-told i (lower-plan-again second) = told (tells-restart-unit i (failing-second-lower i second .unit)) (lower-plan-again second)
   restart-told i (step-three-ends third) = told (tells-restart-unit i (unit-third i third)) (step-three-ends third)
   restart-told i (at-redesignation is-redesignation other) =
       told (tells-restart-redesignation i is-redesignation) (at-redesignation is-redesignation other)

@@ -1,9 +1,9 @@
 -- Demand 2 for accepted sheets: the course of the definitions follows the rules by place, and the result records hold what it says.
 -- Each rule is a law of the definitions, read through what their tests tell; the code grade is by induction on the records.
 use Prim.Native.Nat.{ℕ, suc, _+_, _-_, _<_, _≤_, min}
-use mathlib.Core.Path.{_≡_, refl, sym, _∙_, ap}
+use mathlib.Core.Path.{_≡_, refl, sym, _∙_, ap, subst, subst⁻¹}
 use mathlib.Core.Bool.{Bool, true, false, cond, not, _&&_, true≢false, false≢true}
-use mathlib.Core.Logic.{_↔_, ⊎-elim}
+use mathlib.Core.Logic.{_⊎_, inl, inr, _↔_, ⊎-elim}
 use mathlib.Core.List.{List}
 use native.Mathlib.Omega.{arith}
 use lib.Dec.{eqb, ltb}
@@ -16,29 +16,33 @@ use Rattle.encoding.specs.Bytes.{byte}
 use Rattle.units.specs.Words.{substandard, hasPlan, classes, worse, rowOf, inClass, numbersOf, tenthsOf, countTenths, tenthsIn}
 use Rattle.units.specs.Unit.{starting, classFails, classCusum, classOvershoot, unitFails, defectGrade, portionGradeOf}
 use Rattle.units.specs.BestLower.{BestLower}
-use Rattle.units.specs.Records.{worstBefore}
+use Rattle.units.specs.Records.{isUnitThat, designatedBy, worstBefore}
 use Rattle.units.specs.declared.SampleUnit.{SampleUnit}
 use Rattle.units.specs.declared.Entry.the-variants.{Redesignation, Break}
 use Rattle.units.proofs.BestLower.{best-lower-is}
 use Rattle.units.proofs.Classes.{at-class}
 use Rattle.units.proofs.CodeGrade.{UnitWith, none-worse, attained}
 use Rattle.units.proofs.Tests.{and-both}
-use Rattle.rules.specs.StepThree.{inStepThree, inForceIn, restarted, graded}
-use Rattle.rules.specs.Sheet.{Sheet, before, designatedAt, inForceAt, inFinishedRun, recovered, portionGrade, standingOf, standing, codeGrade}
-use Rattle.rules.specs.TwoInARow.{unitFailsAt, unitFailsBefore, secondInARow}
+use Rattle.rules.specs.StepThree.{inStepThree, inForceIn, endsStepThree, restarted, graded}
+use Rattle.rules.specs.Sheet.{Sheet, before, designatedAt, inForceAt, qualifiesAt, inFinishedRun, recovered, portionGrade, standingOf, standing, codeGrade}
+use Rattle.rules.specs.ThreeInARow.{recordQualifies, unitQualifiesAt}
 use Rattle.rules.specs.Anchor.{tenthsFrom}
 use Rattle.rules.specs.declared.Phase.{Phase}
 use Rattle.rules.specs.declared.Phase.the-variants.{Designated, StepThree}
 use Rattle.rules.proofs.Anchors.{tenths-go-on}
+use Rattle.rules.proofs.FailingUnits.{FailingNeverQualifies, failing-never-qualifies}
 use Rattle.rules.proofs.Grades.{in-force-at-most}
 use Rattle.rules.proofs.FinishedRun.{finished-run, in-run, run-in}
 use Rattle.rules.proofs.TwoFailures.{begins-at-second, lower-is-worse}
 use Rattle.rules.proofs.ThreeQualify.{qualifies-at, third-ends}
 use Rattle.rules.proofs.Restarts.{cusumsBehind, restart-starts, no-restart-keeps}
 use Rattle.rules.proofs.StepThreeStands as stands
+use Rattle.rules.proofs.Steps.{in-force-outside, ends-qualifying}
 use Rattle.layout.specs.Layout.{recoverableOffset, sampleUnitAt, offset}
+use Rattle.layout.proofs.Units.{entry-unit}
 use Rattle.sheet.proofs.Accepted.{Facts}
-use Rattle.sheet.proofs.Ranges.{designated-le}
+use Rattle.sheet.specs.Refusals.{designatedBefore}
+use Rattle.sheet.proofs.Ranges.{designated-le, start-le-limit, tolerance-rises}
 use Rattle.recording.specs.Sheet.{sheetOf}
 use Rattle.outcome.specs.declared.Answer.{Answer}
 use Rattle.tally.specs.Outcome.{recordsIn}
@@ -47,7 +51,7 @@ use Rattle.tally.proofs.AcceptedSheet.{accepted-sheet}
 use Rattle.tally.proofs.Entries.{unit-is, new-grades}
 use Rattle.tally.proofs.Overfull.{cusum-graded}
 use Rattle.answers.specs.Grounds.{startIn, toleranceIn, limitIn, newGrade, IsBreak, IsRedesignation}
-use Rattle.demands.specs.Course.{Course, tenTimesCount, prerequisite, ClassFails, SecondFails, Qualifies, AmongThree, Recovered, Restart, RuleTwo, BestLowerGrade, RuleThree, Rules, SameBefore, SameAt}
+use Rattle.demands.specs.Course.{Course, tenTimesCount, prerequisite, ClassFails, UnitFails, SecondFails, SecondFailsLower, Qualifies, AmongThree, Recovered, Restart, RuleTwo, BestLowerGrade, RuleThree, Rules, LowerPlans, SameBefore, SameAt}
 use Rattle.demands.specs.Demand2.{recordedStanding, UnitRecorded, WorstOfCode, SameRecords, SameWords, Demand2Records}
 use Rattle.grounds.proofs.Tells.{told, not-told}
 use Rattle.answers.proofs.Rows.{designated-just-before, is-redesignation-mark, redesignation-mark-is}
@@ -68,11 +72,6 @@ unfolding inStepThree standingOf
 standing-inside Designated fails inside = absurd (false≢true inside)
 standing-inside (StepThree lower run) fails inside = refl
 
-in-force-outside : (designated : ℕ) (phase : Phase) → inStepThree phase ≡ false → inForceIn designated phase ≡ designated
-unfolding inStepThree inForceIn
-in-force-outside designated Designated out = refl
-in-force-outside designated (StepThree lower run) out = absurd (true≢false out)
-
 -- ---- the rules
 
 module _ (bytes : List ℕ) (facts : Facts bytes (recordsIn bytes)) where
@@ -81,6 +80,13 @@ module _ (bytes : List ℕ) (facts : Facts bytes (recordsIn bytes)) where
 
   abbrev course : Course
   course = courseOf bytes
+
+  -- none of its units fails and qualifies
+  pub apart : FailingNeverQualifies sheet
+  unfolding sheetIn sheetOf
+  apart =
+      failing-never-qualifies sheet
+      (record { start-within = start-le-limit bytes (recordsIn bytes) facts; tolerance-rises = tolerance-rises bytes (recordsIn bytes) facts })
 
   -- S of every class of a plan
   start-is : (grade class : ℕ) → grade < substandard → class < length classes → tenthsIn (starting (rowOf (sheet .table) grade)) class ≡ startIn bytes grade class
@@ -188,17 +194,33 @@ module _ (bytes : List ℕ) (facts : Facts bytes (recordsIn bytes)) where
 
   -- ---- step 3
 
-  lower-plan : (i : ℕ) → SecondFails bytes course (suc i) → course .planGrade (suc (suc i)) ≡ worse (course .defectGrade i) (course .defectGrade (suc i))
-  unfolding secondInARow unitFailsBefore
-  lower-plan i second =
-      let in-a-row = told (words.tells-second bytes facts (suc i)) second in
-      let (one, two) = and-both (unitFailsAt sheet i) (unitFailsAt sheet (suc i)) in-a-row in
-      let first = words.tells-designated bytes facts i .so one .unit in
-      in-force-lower (lower-is-worse sheet i (unitIn bytes i) (unitIn bytes (suc i)) (words.unit-here bytes facts i first)
-      (words.unit-here bytes facts (suc i) (second .second-fails .unit)) in-a-row)
-    where
-      in-force-lower : {lower : ℕ} → before sheet (suc (suc i)) .phase ≡ StepThree lower 0 → inForceAt sheet (suc (suc i)) ≡ lower
-      in-force-lower {lower} same = unfold inForceIn in ap (inForceIn (before sheet (suc (suc i)) .designated)) same
+  -- the grade of the plan in force, by the phase
+  in-force-lower : (i lower : ℕ) → before sheet i .phase ≡ StepThree lower 0 → inForceAt sheet i ≡ lower
+  unfolding inForceIn
+  in-force-lower i lower same = ap (inForceIn (before sheet i .designated)) same
+
+  -- a unit that fails does not qualify
+  fails-unqualified : (i : ℕ) → UnitFails bytes course i → qualifiesAt sheet i (unitIn bytes i) ≡ false
+  unfolding graded
+  fails-unqualified i fails = apart i (unitIn bytes i) (told (words.tells-unit bytes facts i) fails)
+
+  -- where two fail in a row a lower plan starts, as the second does not end step 3
+  two-start : (i : ℕ) → UnitAt bytes i → UnitAt bytes (suc i) → UnitFails bytes course (suc i)
+      → SecondFails bytes course (suc i) ⊎ SecondFailsLower bytes course (suc i)
+      → course .planGrade (suc (suc i)) ≡ worse (course .defectGrade i) (course .defectGrade (suc i))
+  two-start i first second fails starts =
+      in-force-lower (suc (suc i)) _
+      (lower-is-worse sheet i (unitIn bytes i) (unitIn bytes (suc i)) (words.unit-here bytes facts i first) (words.unit-here bytes facts (suc i) second)
+      (told (words.tells-starts bytes facts (suc i)) starts)
+      (ap (endsStepThree (before sheet (suc i) .phase)) (fails-unqualified (suc i) fails) ∙ ends-qualifying (before sheet (suc i) .phase)))
+
+  lower-plan : (i : ℕ) → SecondFails bytes course (suc i) ⊎ SecondFailsLower bytes course (suc i)
+      → course .planGrade (suc (suc i)) ≡ worse (course .defectGrade i) (course .defectGrade (suc i))
+  unfolding SecondFailsLower
+  lower-plan i (inl second) =
+      let first-is : second .first ≡ i = omega (arith, second .next) in
+      two-start i (subst (λ (j : ℕ). UnitAt bytes j) first-is (second .first-fails .unit)) (second .second-fails .unit) (second .second-fails .fails) (inl second)
+  lower-plan i (inr (one, none, two)) = two-start i (one .unit) (two .unit) (two .fails) (inr (one, none, two))
 
   break-here : (i : ℕ) → IsBreak bytes i → sheet .entry i ≡ Break
   break-here i is-break = words.entry-is bytes facts i ∙ break-entry bytes i is-break
@@ -208,19 +230,19 @@ module _ (bytes : List ℕ) (facts : Facts bytes (recordsIn bytes)) where
 
   after-redesignation : (i : ℕ) → IsRedesignation bytes i
       → course .inStepThree (suc i) ≡ (course .inStepThree i && ltb (newGrade bytes i) (inForceAt sheet i))
-  after-redesignation i is-redesignation = stands.at-redesignation sheet i (newGrade bytes i) (redesignation-here i is-redesignation)
+  after-redesignation i is-redesignation = stands.at-redesignation sheet apart i (newGrade bytes i) (redesignation-here i is-redesignation)
 
   -- ---- the CuSums before the next record
 
   at-start : (i class : ℕ) → Restart bytes course i → inForceAt sheet (suc i) < substandard → class < length classes
       → course .cusum (suc i) class ≡ startIn bytes (inForceAt sheet (suc i)) class
   at-start i class restart planned known =
-      ap (λ cusums. tenthsIn cusums class) (restart-starts sheet i (words.restart-told bytes facts i restart)) ∙ start-is (inForceAt sheet (suc i)) class planned known
+      ap (λ cusums. tenthsIn cusums class) (restart-starts sheet apart i (words.restart-told bytes facts i restart)) ∙ start-is (inForceAt sheet (suc i)) class planned known
 
   unit-goes-on : (i class : ℕ) → UnitAt bytes i → (Restart bytes course i → ⊥) → class < length classes → course .cusum (suc i) class ≡ course .newCusum i class
   unfolding cusumsBehind
   unit-goes-on i class at none known =
-      let kept = no-restart-keeps sheet i (not-told (words.tells-restart-unit bytes facts i at) none) .1 in
+      let kept = no-restart-keeps sheet apart i (not-told (words.tells-restart-unit bytes facts i at) none) .1 in
       ap (λ cusums. tenthsIn cusums class) (kept ∙ ap (cusumsBehind (sheet .table) (before sheet i)) (words.unit-here bytes facts i at))
       ∙ cusum-graded sheet i (unitIn bytes i) class known
 
@@ -228,7 +250,7 @@ module _ (bytes : List ℕ) (facts : Facts bytes (recordsIn bytes)) where
       → course .cusum (suc i) class ≡ course .cusum i class
   unfolding cusumsBehind
   redesignation-goes-on i class is-redesignation none known =
-      let kept = no-restart-keeps sheet i (not-told (words.tells-restart-redesignation bytes facts i is-redesignation) none) .1 in
+      let kept = no-restart-keeps sheet apart i (not-told (words.tells-restart-redesignation bytes facts i is-redesignation) none) .1 in
       ap (λ cusums. tenthsIn cusums class) (kept ∙ ap (cusumsBehind (sheet .table) (before sheet i)) (redesignation-here i is-redesignation))
 
   pub rules : Rules bytes course
@@ -241,16 +263,16 @@ module _ (bytes : List ℕ) (facts : Facts bytes (recordsIn bytes)) where
         rule-three = rule-three;
         designated-plan = λ i out. in-force-outside (designatedAt sheet i) (before sheet i .phase) out ∙ words.designated-is bytes facts i;
         lower-plan = lower-plan;
-        lower-stays = stands.lower-stays sheet;
-        begins = λ i second. begins-at-second sheet i (second .second-fails .outside-step-three) ∙ told (words.tells-second bytes facts i) second;
+        lower-stays = λ i inside still none. stands.lower-stays sheet apart i inside still (not-told (words.tells-second-lower bytes facts i) none);
+        begins = λ i second. begins-at-second sheet i (second .second-fails .step-three) ∙ told (words.tells-second bytes facts i) second;
         not-begun = λ i out none. begins-at-second sheet i out ∙ not-told (words.tells-second bytes facts i) none;
         ends = λ i third.
             let at = words.unit-third bytes facts i third in
-            stands.at-unit sheet i (unitIn bytes i) (words.unit-here bytes facts i at) (words.inside-third bytes facts i third)
+            stands.at-unit sheet apart i (unitIn bytes i) (words.unit-here bytes facts i at) (words.inside-third bytes facts i third)
             ∙ ap not (told (words.tells-third bytes facts i) third);
         unit-stays = λ i at inside none.
-            stands.at-unit sheet i (unitIn bytes i) (words.unit-here bytes facts i at) inside ∙ ap not (not-told (words.tells-third bytes facts i) none);
-        break-stays = λ i is-break inside. stands.at-break sheet i (break-here i is-break) ∙ inside;
+            stands.at-unit sheet apart i (unitIn bytes i) (words.unit-here bytes facts i at) inside ∙ ap not (not-told (words.tells-third bytes facts i) none);
+        break-stays = λ i is-break inside. stands.at-break sheet apart i (break-here i is-break) ∙ inside;
         redesignation-stays = λ i is-redesignation keeps. after-redesignation i is-redesignation ∙ told (words.tells-keeps bytes facts i) keeps;
         redesignation-ends = λ i is-redesignation none. after-redesignation i is-redesignation ∙ not-told (words.tells-keeps bytes facts i) none;
         restarts = at-start;
@@ -292,7 +314,7 @@ module _ (bytes : List ℕ) (facts : Facts bytes (recordsIn bytes)) where
       → ((i : ℕ) → i ≤ recordsIn bytes → SameBefore course other i) × ((i : ℕ) → UnitAt bytes i → i < recordsIn bytes → SameAt course other i)
   same-course other others =
       one-course bytes (recordsIn bytes) course other rules others bounded
-      (λ j. settled (words.tells-unit bytes facts j)) (λ j. settled (words.tells-second bytes facts j)) (λ j. settled (words.tells-third bytes facts j))
+      (λ j. settled (words.tells-unit bytes facts j)) (λ j. settled (words.tells-second bytes facts j)) (λ j. settled (words.tells-second-lower bytes facts j)) (λ j. settled (words.tells-third bytes facts j))
       (λ j. settled (words.tells-keeps bytes facts j)) (λ j inside. settled (words.tells-restart bytes facts j inside)) (words.kind bytes facts)
 
   pub only-course : (other : Course) → Rules bytes other → (i : ℕ) → UnitAt bytes i → SameAt course other i
@@ -307,7 +329,7 @@ module _ (bytes : List ℕ) (facts : Facts bytes (recordsIn bytes)) where
   in-three i among =
       let last = suc (suc (among .first)) in
       let row = among .in-a-row in
-      let ends = third-ends sheet (among .first) (told (words.tells-qualifies bytes facts _) (row .one)) (told (words.tells-qualifies bytes facts _) (row .two))
+      let ends = third-ends sheet apart (among .first) (told (words.tells-qualifies bytes facts _) (row .one)) (told (words.tells-qualifies bytes facts _) (row .two))
       (told (words.tells-qualifies bytes facts _) (row .three)) in
       let run = finished-run sheet last ends in
       run-in sheet i (record { last = last; run = run; ends = ends; from = omega (arith, run .ends-here, among .from); to = omega (arith, among .to) })
@@ -346,22 +368,57 @@ module _ (bytes : List ℕ) (facts : Facts bytes (recordsIn bytes)) where
       go true e = absurd (none (is-recovered i e))
       go false e = refl
 
-  -- a unit among the three is in step 3
-  three-inside : (i : ℕ) → AmongThree bytes course i → course .inStepThree i ≡ true
-  three-inside i among = go (eqb i (among .first)) refl (eqb i (suc (among .first))) refl
+  -- a unit among the three qualifies
+  three-qualify : (i : ℕ) → AmongThree bytes course i → Qualifies bytes course i
+  three-qualify i among = go (eqb i (among .first)) refl (eqb i (suc (among .first))) refl
     where
-      at : (j : ℕ) → i ≡ j → Qualifies bytes course j → course .inStepThree i ≡ true
-      at j same here = ap (λ (k : ℕ). course .inStepThree k) same ∙ here .in-step-three
-
-      go : (one : Bool) → eqb i (among .first) ≡ one → (two : Bool) → eqb i (suc (among .first)) ≡ two → course .inStepThree i ≡ true
-      go true e two f = at (among .first) (eqb-true i (among .first) e) (among .in-a-row .one)
-      go false e true f = at (suc (among .first)) (eqb-true i (suc (among .first)) f) (among .in-a-row .two)
+      go : (one : Bool) → eqb i (among .first) ≡ one → (two : Bool) → eqb i (suc (among .first)) ≡ two → Qualifies bytes course i
+      go true e two f = subst⁻¹ (Qualifies bytes course) (eqb-true i (among .first) e) (among .in-a-row .one)
+      go false e true f = subst⁻¹ (Qualifies bytes course) (eqb-true i (suc (among .first)) f) (among .in-a-row .two)
       go false e false f =
-          at (suc (suc (among .first)))
-          (omega (arith, eqb-false i (among .first) e, eqb-false i (suc (among .first)) f, among .from, among .to)) (among .in-a-row .three)
+          let last : i ≡ suc (suc (among .first))
+          = omega (arith, eqb-false i (among .first) e, eqb-false i (suc (among .first)) f, among .from, among .to) in
+          subst⁻¹ (Qualifies bytes course) last (among .in-a-row .three)
 
   pub outside-not-recovered : (i : ℕ) → course .inStepThree i ≡ false → recovered sheet i (unitIn bytes i) ≡ false
-  outside-not-recovered i out = not-recovered i (λ here. true≢false (sym (three-inside i (here .among-three)) ∙ out))
+  outside-not-recovered i out = not-recovered i (λ here. true≢false (sym (three-qualify i (here .among-three) .in-step-three) ∙ out))
+
+  -- ---- where a lower plan starts again
+
+  -- behind the second failure the phase is step 3, at a worse grade
+  starts-worse : (i : ℕ) → SecondFailsLower bytes course i → (course .planGrade i < course .planGrade (suc i)) × (course .inStepThree (suc i) ≡ true)
+  unfolding inStepThree
+  starts-worse i second =
+      let (lower, phase, less) = stands.lower-plan-worse sheet apart i (told (words.tells-second-lower bytes facts i) second) in
+      (omega (arith, less, in-force-lower (suc i) lower phase), ap inStepThree phase)
+
+  designated-kept : (i : ℕ) → UnitAt bytes i → course .designated (suc i) ≡ course .designated i
+  unfolding designatedBefore designatedBy
+  designated-kept i at = ap (designatedBy (designatedBefore bytes i)) (entry-unit bytes i (at .is-unit))
+
+  not-qualifying : (i : ℕ) → UnitFails bytes course i → Qualifies bytes course i → ⊥
+  unfolding unitQualifiesAt recordQualifies isUnitThat
+  not-qualifying i fails here =
+      let qualifies : qualifiesAt sheet i (unitIn bytes i) ≡ true
+      = sym (ap (recordQualifies (sheet .table) (before sheet i)) (words.unit-here bytes facts i (here .unit))) ∙ told (words.tells-qualifies bytes facts i) here in
+      true≢false (sym qualifies ∙ fails-unqualified i fails)
+
+  same-plan : (i : ℕ) → SecondFailsLower bytes course (suc i) → course .planGrade (suc i) ≡ course .planGrade i
+  unfolding SecondFailsLower
+  same-plan i (one, none, two) = rules .lower-stays i (one .step-three) (two .step-three) none
+
+  pub lower-plans : LowerPlans bytes course
+  lower-plans =
+      record {
+        same-plan = same-plan;
+        worse-grade = λ i second. starts-worse i second .0;
+        step-three-stays = λ i second. starts-worse i second .1;
+        designated-stays = λ i second. designated-kept i (words.failing-second-lower bytes facts i second .unit);
+        failing-not-qualifying = not-qualifying;
+        no-run = λ i first second row from to.
+            not-qualifying i (words.failing-second-lower bytes facts i second .fails)
+            (three-qualify i (record { first = first; from = from; to = to; in-a-row = row }));
+      }
 
 -- ---- what is recorded
 
@@ -493,6 +550,7 @@ demand2-records bytes buffer answer results accepted =
     record {
       course = courseOf bytes;
       rules = rules bytes facts;
+      lower-plans = lower-plans bytes facts;
       only-course = only-course bytes facts;
       only-course-before = only-course-before bytes facts;
       recorded = unit-recorded bytes buffer answer results accepted;

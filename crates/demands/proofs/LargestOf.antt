@@ -13,8 +13,10 @@ use Rattle.layout.specs.Layout.{sampleUnitAt, offset}
 use Rattle.layout.proofs.Units.{entry-unit}
 use Rattle.recording.specs.Sheet.{sheetOf}
 use Rattle.tally.specs.Accepted.{sheetIn}
+use Rattle.tally.proofs.AcceptedSheet.{accepted-sheet}
 use Rattle.demands.specs.Demand3.{AnchorAt, Demand3LargestForm}
 use Rattle.demands.proofs.Recorded.{recorded-cusum}
+use Rattle.demands.proofs.Graded.{apart}
 
 -- an anchor lies at the opening, or behind a record that is not behind the unit
 anchor-le : (sheet : Sheet) (class i from : ℕ) (failed : Bool) → Anchor sheet class i from failed → from ≤ suc i
@@ -43,6 +45,6 @@ demand3-largest-form bytes buffer answer results accepted i at planned class in-
       an-anchor = an-anchor-at bytes i class;
       largest-of = λ anchor.
           ap pos (recorded-cusum bytes buffer answer results accepted i at class (omega arith))
-          ∙ largest-form-by-place (sheetIn bytes) class (omega arith) i (sampleUnitAt bytes (offset bytes i)) (entry-unit bytes i (at .is-unit)) planned
+          ∙ largest-form-by-place (sheetIn bytes) (apart bytes (accepted-sheet bytes buffer answer results accepted .facts)) class (omega arith) i (sampleUnitAt bytes (offset bytes i)) (entry-unit bytes i (at .is-unit)) planned
           (anchor .from) (anchor .records) (anchor .at-failure) (anchor .to-this-unit) (anchor .is-anchor) (anchor .latest);
     }

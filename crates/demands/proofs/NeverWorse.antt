@@ -12,9 +12,12 @@ use Rattle.units.specs.Words.{tableOf, tenthsOf}
 use Rattle.units.specs.Unit.{classCusum, classOvershoot}
 use Rattle.rules.specs.Sheet.{Sheet, before, inForceAt, portionGrade, codeGrade}
 use Rattle.rules.specs.Anchor.{classFailsAt}
-use Rattle.rules.specs.TwoInARow.{secondInARow}
+use Rattle.rules.specs.TwoInARow.{failsDesignated, secondInARow}
+use Rattle.units.specs.Records.{isUnitThat}
 use Rattle.units.specs.declared.SampleUnit.{SampleUnit}
-use Rattle.rules.proofs.SideBySide.{Below, NoRedesignation, not-second, second, fewer-cusums, fewer-grades}
+use Rattle.units.specs.declared.Entry.the-variants.{Break}
+use Rattle.rules.proofs.TwoFailures.{not-second}
+use Rattle.rules.proofs.SideBySide.{Below, NoRedesignation, second, fewer-cusums, fewer-grades}
 use Rattle.layout.specs.Layout.{planOf, sampleUnitAt, offset, mark, entryAt}
 use Rattle.recording.specs.Sheet.{sheetOf}
 use Rattle.layout.specs.declared.Mark.the-variants.{UnitMark}
@@ -37,7 +40,7 @@ unfolding sheetOf
 never-behind bytes n facts never j = go (leb n j) refl
   where
     go : (test : Bool) → leb n j ≡ test → secondInARow (sheetOf bytes n) j ≡ false
-    go true e = not-second (sheetOf bytes n) j (past-entry bytes n (facts .end) j (leb-true n j e))
+    go true e = not-second (sheetOf bytes n) j Break (past-entry bytes n (facts .end) j (leb-true n j e)) (unfold failsDesignated isUnitThat in refl)
     go false e = never j (leb-false n j e)
 
 module _ (bytes bytes' buffer buffer' : List ℕ) (answer answer' : Answer) (results results' : List ℕ)

@@ -14,7 +14,7 @@ use Rattle.units.specs.Words.{substandard, classes, worse}
 use Rattle.tally.specs.Accepted.{UnitAt}
 use Rattle.grounds.specs.Tells.{Tells}
 use Rattle.answers.specs.Grounds.{startIn, toleranceIn, limitIn, IsBreak, IsRedesignation}
-use Rattle.demands.specs.Course.{Course, tenTimesCount, reached, toleranceAt, limitAt, ClassFails, UnitFails, FailsDesignated, SecondFails, Qualifies, ThirdQualifies, KeepsStepThree, Restart, at-break, step-three-begins, step-three-ends, at-redesignation, BestLowerGrade, Rules, SameBefore, SameAt}
+use Rattle.demands.specs.Course.{Course, tenTimesCount, reached, toleranceAt, limitAt, ClassFails, UnitFails, FailsInForce, SecondFails, SecondFailsLower, Qualifies, ThirdQualifies, KeepsStepThree, Restart, at-break, step-three-begins, lower-plan-again, step-three-ends, at-redesignation, BestLowerGrade, Rules, SameBefore, SameAt}
 use Rattle.grounds.proofs.Tells.{tells-lt, tells-as, tells-and}
 use Rattle.answers.proofs.Rows.{one-designated}
 
@@ -62,8 +62,8 @@ module _ (bytes : List ℕ) (course other : Course) (rules : Rules bytes course)
     unit-to : UnitFails bytes course i → UnitFails bytes other i
     unit-to here = record { class = here .class; a-class = here .a-class; fails = class-to (here .class) (here .a-class) (here .fails) }
 
-    designated-to : FailsDesignated bytes course i → FailsDesignated bytes other i
-    designated-to here = record { unit = here .unit; outside-step-three = sym (same .step-three) ∙ here .outside-step-three; fails = unit-to (here .fails) }
+    in-force-to : {stepThree : Bool} → FailsInForce bytes course stepThree i → FailsInForce bytes other stepThree i
+    in-force-to here = record { unit = here .unit; step-three = sym (same .step-three) ∙ here .step-three; fails = unit-to (here .fails) }
 
     new-same : (class : ℕ) → UnitAt bytes i → class < length classes → course .newCusum i class ≡ other .newCusum i class
     new-same class at known = go (ltb (course .planGrade i) substandard) refl
@@ -130,8 +130,8 @@ module _ (bytes : List ℕ) (course other : Course) (rules : Rules bytes course)
       record {
         first = here .first;
         next = here .next;
-        first-fails = designated-to (here .first) before bound (here .first-fails);
-        second-fails = designated-to i now bound-now (here .second-fails);
+        first-fails = in-force-to (here .first) before bound (here .first-fails);
+        second-fails = in-force-to i now bound-now (here .second-fails);
       }
 
   third-to : (i : ℕ) → Upto course other i → ThirdQualifies bytes course i → ThirdQualifies bytes other i
@@ -151,12 +151,34 @@ module _ (bytes : List ℕ) (course other : Course) (rules : Rules bytes course)
             };
       }
 
+-- the second failure of the lower plan, both ways at once: what does not hold of one course does not hold of the other
+second-lower-both : (bytes : List ℕ) (course other : Course) → Rules bytes course → Rules bytes other → (i : ℕ) → Upto course other i
+    → (SecondFailsLower bytes course i → SecondFailsLower bytes other i) × (SecondFailsLower bytes other i → SecondFailsLower bytes course i)
+unfolding SecondFailsLower
+second-lower-both bytes course other rules others zero upto = (λ here. here, λ here. here)
+second-lower-both bytes course other rules others (suc i) upto =
+    let (same, bound) = upto i (omega arith) in
+    let (same-next, bound-next) = upto (suc i) (omega arith) in
+    let (to, from) = second-lower-both bytes course other rules others i (λ j below. upto j (omega arith)) in (
+      λ (one, none, two). (
+        in-force-to bytes course other rules others i same bound one,
+        λ second. none (from second),
+        in-force-to bytes course other rules others (suc i) same-next bound-next two,
+      ),
+      λ (one, none, two). (
+        in-force-to bytes other course others rules i (turned same) (omega (arith, same .plan-grade, bound)) one,
+        λ second. none (to second),
+        in-force-to bytes other course others rules (suc i) (turned same-next) (omega (arith, same-next .plan-grade, bound-next)) two,
+      ),
+    )
+
 -- ---- the course that a sheet takes, and another
 
 module _ (bytes : List ℕ) (size : ℕ) (course other : Course) (rules : Rules bytes course) (others : Rules bytes other)
     (bounded : (i : ℕ) → course .planGrade i ≤ substandard)
     (unit-settled : (i : ℕ) → UnitFails bytes course i ⊎ (UnitFails bytes course i → ⊥))
     (second-settled : (i : ℕ) → SecondFails bytes course i ⊎ (SecondFails bytes course i → ⊥))
+    (second-lower-settled : (i : ℕ) → SecondFailsLower bytes course i ⊎ (SecondFailsLower bytes course i → ⊥))
     (third-settled : (i : ℕ) → ThirdQualifies bytes course i ⊎ (ThirdQualifies bytes course i → ⊥))
     (keeps-settled : (i : ℕ) → KeepsStepThree bytes course i ⊎ (KeepsStepThree bytes course i → ⊥))
     (restart-settled : (i : ℕ) → i < size → Restart bytes course i ⊎ (Restart bytes course i → ⊥))
@@ -245,36 +267,50 @@ module _ (bytes : List ℕ) (size : ℕ) (course other : Course) (rules : Rules 
     grade-next : course .designated (suc i) ≡ other .designated (suc i)
     grade-next = one-designated bytes (rules .designated (suc i)) (others .designated (suc i))
 
-    -- where step 3 stands behind a record that it did not stand before, the plan is that of the worse of two defect grades
-    lower-next : (k : ℕ) → i ≡ k → SecondFails bytes course k → course .planGrade (suc k) ≡ other .planGrade (suc k)
-    lower-next zero e second = omega (arith, second .next)
-    lower-next (suc k) e second =
-        let first-same = upto k (omega (arith, e)) .0 in
-        let second-same = upto (suc k) (omega (arith, e)) .0 in
+    again-to : SecondFailsLower bytes course i → SecondFailsLower bytes other i
+    again-to = second-lower-both bytes course other rules others i upto .0
+
+    again-from : SecondFailsLower bytes other i → SecondFailsLower bytes course i
+    again-from = second-lower-both bytes course other rules others i upto .1
+
+    -- where a lower plan starts, it is that of the worse of two defect grades
+    lower-next : (k : ℕ) → i ≡ k → SecondFails bytes course k ⊎ SecondFailsLower bytes course k → course .planGrade (suc k) ≡ other .planGrade (suc k)
+    unfolding SecondFailsLower
+    lower-next zero e (inl second) = omega (arith, second .next)
+    lower-next zero e (inr second) = absurd second
+    lower-next (suc k) e starts =
         let row : Upto course other (suc k) = λ j inside-row. upto j (omega (arith, e, inside-row)) in
-        let first-is : second .first ≡ k = omega (arith, second .next) in
-        rules .lower-plan k second
-        ∙ ap₂ worse
-        (defect-same k first-same (subst (UnitAt bytes) first-is (second .first-fails .unit)))
-        (defect-same (suc k) second-same (second .second-fails .unit))
-        ∙ sym (others .lower-plan k (second-to bytes course other rules others (suc k) row second))
+        let (first-unit, second-unit) : UnitAt bytes k × UnitAt bytes (suc k)
+        = ⊎-elim
+        (λ second. (subst (λ (j : ℕ). UnitAt bytes j) (omega (arith, second .next)) (second .first-fails .unit), second .second-fails .unit))
+        (λ (one, none, two). (one .unit, two .unit)) starts in
+        rules .lower-plan k starts
+        ∙ ap₂ worse (defect-same k (upto k (omega (arith, e)) .0) first-unit) (defect-same (suc k) (upto (suc k) (omega (arith, e)) .0) second-unit)
+        ∙ sym (others .lower-plan k
+        (⊎-elim (λ second. inl (second-to bytes course other rules others (suc k) row second))
+        (λ second. inr (second-lower-both bytes course other rules others (suc k) row .0 second)) starts))
 
     plan-next : course .planGrade (suc i) ≡ other .planGrade (suc i)
-    plan-next = go (course .inStepThree (suc i)) refl (course .inStepThree i) refl (second-settled i)
+    plan-next = go (course .inStepThree (suc i)) refl (course .inStepThree i) refl (second-settled i) (second-lower-settled i)
       where
         go : (stands : Bool) → course .inStepThree (suc i) ≡ stands → (stood : Bool) → course .inStepThree i ≡ stood
-            → SecondFails bytes course i ⊎ (SecondFails bytes course i → ⊥) → course .planGrade (suc i) ≡ other .planGrade (suc i)
-        go false e stood f second =
+            → SecondFails bytes course i ⊎ (SecondFails bytes course i → ⊥) → SecondFailsLower bytes course i ⊎ (SecondFailsLower bytes course i → ⊥)
+            → course .planGrade (suc i) ≡ other .planGrade (suc i)
+        go false e stood f second again =
             rules .designated-plan (suc i) e ∙ grade-next ∙ sym (others .designated-plan (suc i) (sym step-next ∙ e))
-        go true e true f second =
-            rules .lower-stays i f e ∙ here .plan-grade ∙ sym (others .lower-stays i (sym (here .step-three) ∙ f) (sym step-next ∙ e))
-        go true e false f (inl second) = lower-next i refl second
-        go true e false f (inr none) = absurd (true≢false (sym e ∙ rules .not-begun i f none))
+        go true e true f second (inl again) = lower-next i refl (inr again)
+        go true e true f second (inr none) =
+            rules .lower-stays i f e none
+            ∙ here .plan-grade
+            ∙ sym (others .lower-stays i (sym (here .step-three) ∙ f) (sym step-next ∙ e) (λ again. none (again-from again)))
+        go true e false f (inl second) again = lower-next i refl (inl second)
+        go true e false f (inr none) again = absurd (true≢false (sym e ∙ rules .not-begun i f none))
 
     -- the restarts are the same
     restart-to : Restart bytes course i → Restart bytes other i
     restart-to (at-break is-break) = at-break is-break
     restart-to (step-three-begins second) = step-three-begins (second-to bytes course other rules others i upto second)
+    restart-to (lower-plan-again second) = lower-plan-again (again-to second)
     restart-to (step-three-ends third) = step-three-ends (third-to bytes course other rules others i upto third)
     restart-to (at-redesignation new none) =
         at-redesignation new (λ keeps. none (keeps-to bytes other course others rules i (turned here) (back i (omega arith) .1) keeps))
@@ -282,6 +318,7 @@ module _ (bytes : List ℕ) (size : ℕ) (course other : Course) (rules : Rules 
     restart-from : Restart bytes other i → Restart bytes course i
     restart-from (at-break is-break) = at-break is-break
     restart-from (step-three-begins second) = step-three-begins (second-to bytes other course others rules i back second)
+    restart-from (lower-plan-again second) = lower-plan-again (again-from second)
     restart-from (step-three-ends third) = step-three-ends (third-to bytes other course others rules i back third)
     restart-from (at-redesignation new none) =
         at-redesignation new (λ keeps. none (keeps-to bytes course other rules others i here (bounded i) keeps))
@@ -300,7 +337,7 @@ module _ (bytes : List ℕ) (size : ℕ) (course other : Course) (rules : Rules 
           where
             kept : KeepsStepThree bytes course i ⊎ (KeepsStepThree bytes course i → ⊥) → course .cusum (suc i) class ≡ other .cusum (suc i) class
             kept (inl keeps) =
-                let same-plan = rules .lower-stays i (keeps .0) (rules .redesignation-stays i new keeps) in
+                let same-plan = rules .lower-stays i (keeps .0) (rules .redesignation-stays i new keeps) (λ again. none (lower-plan-again again)) in
                 rules .redesignation-goes-on i class new none known
                 ∙ here .cusums (omega (arith, planned, same-plan)) class known
                 ∙ sym (others .redesignation-goes-on i class new (λ restart. none (restart-from restart)) known)

@@ -17,7 +17,7 @@ use Rattle.units.specs.declared.Entry.the-variants.{UnitRecord}
 use Rattle.units.proofs.Bounds.{class-cusum-le, class-overshoot-le}
 use Rattle.rules.specs.Sheet.{before, inForceAt, gradedAt, portionGrade, standing, codeGrade}
 use Rattle.rules.proofs.Grades.{code-grade-at-most}
-use Rattle.rules.proofs.LargestForm.{within-limit}
+use Rattle.rules.proofs.FailingUnits.{within-limit}
 use Rattle.layout.specs.Layout.{sampleUnitAt, offset, unitsBefore}
 use Rattle.layout.proofs.Units.{entry-unit, units-among}
 use Rattle.sheet.proofs.Ranges.{designated-le, start-le-limit, prerequisite-le, count-le}
@@ -119,7 +119,7 @@ module _ (bytes buffer : List ℕ) (answer : Answer) (results : List ℕ) (accep
     unfolding sheetIn sheetOf
     overshoot-at-most class inside =
         class-overshoot-le (sheetIn bytes .table) (inForceAt (sheetIn bytes) i) (before (sheetIn bytes) i .cusums) (tenthsOf unit) class
-        (λ planned. within-limit (sheetIn bytes) class inside i planned
+        (λ planned. within-limit (sheetIn bytes) class inside i
         (start-le-limit bytes (recordsIn bytes) (sheet-accepted .facts) (inForceAt (sheetIn bytes) i) class))
 
     pub recorded-overshoot : (class : ℕ) → class < length classes

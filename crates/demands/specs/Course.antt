@@ -1,9 +1,10 @@
 -- The rules of grading, said a second time: by what stands in the bytes of the sheet and by place, without the functions that grade.
 -- A course tells what holds before each record and of each unit; the rules say which course a sheet takes, record by record.
-use Prim.Native.Nat.{ℕ, suc, _+_, _*_, _<_, _≤_}
+use Prim.Native.Nat.{ℕ, zero, suc, _+_, _*_, _<_, _≤_}
 use mathlib.Core.Path.{_≡_}
 use mathlib.Core.Bool.{Bool, true, false}
 use mathlib.Core.List.{List, [], _∷_}
+use mathlib.Core.Logic.{_⊎_}
 use lib.ListN.{length, getD}
 use Rattle.encoding.specs.Bytes.{byte, number}
 use Rattle.units.specs.Words.{substandard, classes, worse}
@@ -72,11 +73,18 @@ module _ (bytes : List ℕ) (course : Course) where
     pub a-class : class < length classes
     pub fails : ClassFails i class
 
-  -- record i is a unit that fails the designated plan
-  pub record FailsDesignated (i : ℕ) : Type 0 where
+  -- record i is a unit that fails the plan in force, in step 3 or outside it
+  pub record FailsInForce (stepThree : Bool) (i : ℕ) : Type 0 where
     pub unit : UnitAt bytes i
-    pub outside-step-three : course .inStepThree i ≡ false
+    pub step-three : course .inStepThree i ≡ stepThree
     pub fails : UnitFails i
+
+  -- that is the designated plan outside step 3, in it the lower plan
+  abbrev pub FailsDesignated : ℕ → Type 0
+  FailsDesignated = FailsInForce false
+
+  abbrev pub FailsLower : ℕ → Type 0
+  FailsLower = FailsInForce true
 
   -- two units in a row fail the designated plan, in the same class or not, and record i is the second: they are neighbours, so that a
   -- break or a redesignation between them forgets the first failure, and so does a unit that meets
@@ -85,6 +93,12 @@ module _ (bytes : List ℕ) (course : Course) where
     pub next : i ≡ suc first
     pub first-fails : FailsDesignated first
     pub second-fails : FailsDesignated i
+
+  -- two units in a row fail the lower plan, and record i is the second: neighbours again. Both come after the latest start of a lower
+  -- plan: the first is not itself such a second, nor the failure that began step 3, which is one of the designated plan
+  unfoldable pub SecondFailsLower : ℕ → Type 0
+  SecondFailsLower zero = ⊥
+  SecondFailsLower (suc first) = FailsLower first × (SecondFailsLower first → ⊥) × FailsLower (suc first)
 
   -- a unit in step 3 qualifies: all its CuSums are zero, as they are where there is no plan, and no count exceeds the designated T of
   -- its class
@@ -123,10 +137,12 @@ module _ (bytes : List ℕ) (course : Course) where
   abbrev pub KeepsStepThree : ℕ → Type 0
   KeepsStepThree i = (course .inStepThree i ≡ true) × (newGrade bytes i < course .planGrade i)
 
-  -- the restarts: a break, the start of step 3, its end, and every redesignation but one that keeps step 3
+  -- the restarts: a break, the start of step 3, that of another lower plan, the end of step 3, and every redesignation but one that
+  -- keeps step 3
   pub data Restart (i : ℕ) : Type 0 where
     at-break : IsBreak bytes i → Restart i
     step-three-begins : SecondFails i → Restart i
+    lower-plan-again : SecondFailsLower i → Restart i
     step-three-ends : ThirdQualifies i → Restart i
     at-redesignation : IsRedesignation bytes i → (KeepsStepThree i → ⊥) → Restart i
 
@@ -167,16 +183,17 @@ module _ (bytes : List ℕ) (course : Course) where
     -- units
     pub rule-two : (i class : ℕ) → UnitAt bytes i → class < length classes → RuleTwo i class
     pub rule-three : (i : ℕ) → UnitAt bytes i → RuleThree i
-    -- the plan in force: outside step 3 the designated one; after the second of two failures that of the worse of the two defect
-    -- grades, as long as step 3 stands
+    -- the plan in force: outside step 3 the designated one; after the second of two failures of the designated or of the lower plan that
+    -- of the worse of the two defect grades, which stays until the next such second failure or the end of step 3
     pub designated-plan : (i : ℕ) → course .inStepThree i ≡ false → course .planGrade i ≡ course .designated i
-    pub lower-plan : (i : ℕ) → SecondFails (suc i) → course .planGrade (suc (suc i)) ≡ worse (course .defectGrade i) (course .defectGrade (suc i))
-    pub lower-stays : (i : ℕ) → course .inStepThree i ≡ true → course .inStepThree (suc i) ≡ true → course .planGrade (suc i) ≡ course .planGrade i
-    -- step 3 begins after the second of two failures and nowhere else
+    pub lower-plan : (i : ℕ) → SecondFails (suc i) ⊎ SecondFailsLower (suc i)
+        → course .planGrade (suc (suc i)) ≡ worse (course .defectGrade i) (course .defectGrade (suc i))
+    pub lower-stays : (i : ℕ) → course .inStepThree i ≡ true → course .inStepThree (suc i) ≡ true → (SecondFailsLower i → ⊥)
+        → course .planGrade (suc i) ≡ course .planGrade i
+    -- step 3 begins after the second of two failures of the designated plan and nowhere else
     pub begins : (i : ℕ) → SecondFails i → course .inStepThree (suc i) ≡ true
     pub not-begun : (i : ℕ) → course .inStepThree i ≡ false → (SecondFails i → ⊥) → course .inStepThree (suc i) ≡ false
-    -- a unit ends it if it is the third in a row that qualifies, a break never, a redesignation unless its grade is better than the lower.
-    -- Two failures at the lower plan start nothing further
+    -- a unit ends it if it is the third in a row that qualifies, a break never, a redesignation unless its grade is better than the lower
     pub ends : (i : ℕ) → ThirdQualifies i → course .inStepThree (suc i) ≡ false
     pub unit-stays : (i : ℕ) → UnitAt bytes i → course .inStepThree i ≡ true → (ThirdQualifies i → ⊥) → course .inStepThree (suc i) ≡ true
     pub break-stays : (i : ℕ) → IsBreak bytes i → course .inStepThree i ≡ true → course .inStepThree (suc i) ≡ true
@@ -188,6 +205,20 @@ module _ (bytes : List ℕ) (course : Course) where
     pub unit-goes-on : (i class : ℕ) → UnitAt bytes i → (Restart i → ⊥) → class < length classes → course .cusum (suc i) class ≡ course .newCusum i class
     pub redesignation-goes-on : (i class : ℕ) → IsRedesignation bytes i → (Restart i → ⊥) → class < length classes
         → course .cusum (suc i) class ≡ course .cusum i class
+
+-- what the rules come to, on an accepted sheet, where a lower plan starts again behind record i, the second of two failures of the lower
+-- plan. (Which grade that is, `lower-plan` says; that every class is at its S, `restarts`; where no lower plan starts, `lower-stays`.)
+pub record LowerPlans (bytes : List ℕ) (course : Course) : Type 0 where
+  -- both failures are at the same plan
+  pub same-plan : (i : ℕ) → SecondFailsLower bytes course (suc i) → course .planGrade (suc i) ≡ course .planGrade i
+  -- the new lower grade is worse
+  pub worse-grade : (i : ℕ) → SecondFailsLower bytes course i → course .planGrade i < course .planGrade (suc i)
+  -- step 3 stands on, and the designated grade stays
+  pub step-three-stays : (i : ℕ) → SecondFailsLower bytes course i → course .inStepThree (suc i) ≡ true
+  pub designated-stays : (i : ℕ) → SecondFailsLower bytes course i → course .designated (suc i) ≡ course .designated i
+  -- a unit that fails does not qualify, so that the run of qualifying units is none: no three in a row have it among them
+  pub failing-not-qualifying : (i : ℕ) → UnitFails bytes course i → Qualifies bytes course i → ⊥
+  pub no-run : (i first : ℕ) → SecondFailsLower bytes course i → ThreeQualify bytes course first → first ≤ i → i ≤ first + 2 → ⊥
 
 -- two courses agree before record i; its CuSums count only under a plan
 pub record SameBefore (course other : Course) (i : ℕ) : Type 0 where

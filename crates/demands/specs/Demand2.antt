@@ -19,7 +19,7 @@ use Rattle.tally.specs.Outcome.{recordsIn}
 use Rattle.tally.specs.Accepted.{AcceptedAs, sheetIn, UnitAt, recordedCusum, recordedOvershoot, recordedPortionGrade, recordedCodeGrade, numbersInForce}
 use Rattle.grounds.specs.Tells.{Tells}
 use Rattle.answers.specs.Grounds.{startIn, toleranceIn, limitIn, IsUnit, IsRedesignation}
-use Rattle.demands.specs.Course.{Course, tenTimesCount, prerequisite, ClassFails, UnitFails, SecondFails, Recovered, Restart, Rules, SameBefore, SameAt}
+use Rattle.demands.specs.Course.{Course, tenTimesCount, prerequisite, ClassFails, UnitFails, SecondFails, Recovered, Restart, Rules, LowerPlans, SameBefore, SameAt}
 
 -- ---- what is recorded of a unit
 
@@ -84,7 +84,7 @@ pub record SameRecords (bytes : List ℕ) : Type 0 where
   pub unit : (i : ℕ) → UnitAt bytes i ↔ ((offset bytes i < length bytes) × IsUnit bytes i)
   pub redesignation : (i : ℕ) → (mark bytes i ≡ RedesignationMark) ↔ IsRedesignation bytes i
 
--- words that demand 3 takes from the definitions mean what the course says: a class fails, the second of two failures, a restart, the
+-- words that demand 3 takes from the definitions mean what the course says: a class fails, the second of two failures of the designated plan, a restart, the
 -- grade of the plan in force, its S, T and L; and what the bytes say: the counts of a class from a record on
 pub record SameWords (bytes : List ℕ) (course : Course) : Type 0 where
   pub class-fails : (i class : ℕ) → UnitAt bytes i → class < length classes → Tells (classFailsAt (sheetIn bytes) class i) (ClassFails bytes course i class)
@@ -110,6 +110,7 @@ pub record SameWords (bytes : List ℕ) (course : Course) : Type 0 where
 pub record GradedByRules (bytes results : List ℕ) : Type 0 where
   pub course : Course
   pub rules : Rules bytes course
+  pub lower-plans : LowerPlans bytes course
   pub only-course : (other : Course) → Rules bytes other → (i : ℕ) → UnitAt bytes i → SameAt course other i
   pub only-course-before : (other : Course) → Rules bytes other → (i : ℕ) → i ≤ recordsIn bytes → SameBefore course other i
   pub recorded : (i : ℕ) → UnitAt bytes i → UnitRecorded bytes results course i

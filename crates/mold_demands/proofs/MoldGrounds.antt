@@ -1,7 +1,7 @@
 -- The grounds of mold sheets: the answer is the first row met, and acceptance is that none is. Each row is told by its test; the rows
 -- behind 6 know the mark.
 use Prim.Native.Nat.{ℕ, _+_, _*_, _≤_, _<_}
-use mathlib.Core.Path.{_≡_, refl, ap, subst, subst⁻¹}
+use mathlib.Core.Path.{_≡_, refl, ap, subst⁻¹}
 use mathlib.Core.Bool.{Bool, true, false}
 use mathlib.Core.List.{List}
 use mathlib.Core.Logic.{inl, inr}

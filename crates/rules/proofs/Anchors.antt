@@ -17,6 +17,7 @@ use Rattle.units.specs.Words.{hasPlan, classes, numbersOf, tenthsOf}
 use Rattle.units.specs.Unit.{classCusum}
 use Rattle.rules.specs.Sheet.{Sheet, before, inForceAt}
 use Rattle.rules.specs.Anchor.{tenthsAt, restartAt, classFailsAt, tenthsFrom, Anchor, opening, restart, failure, Latest}
+use Rattle.rules.proofs.FailingUnits.{FailingNeverQualifies}
 use Rattle.rules.proofs.LargestForm.{Trail, fromStart, failedHere, trailWith, trailBefore, trailAt, largest-form}
 
 module _ (sheet : Sheet) (class : ℕ) where
@@ -171,13 +172,13 @@ module _ (sheet : Sheet) (class : ℕ) where
       go earlier false e false r = found-kept i e r earlier
 
 -- THE FIRST HALF OF DEMAND 3, over records, with the anchor told by its place
-pub largest-form-by-place : (sheet : Sheet) (class : ℕ) → class < length classes → (i : ℕ) (unit : SampleUnit) → sheet .entry i ≡ UnitRecord unit
+pub largest-form-by-place : (sheet : Sheet) → FailingNeverQualifies sheet → (class : ℕ) → class < length classes → (i : ℕ) (unit : SampleUnit) → sheet .entry i ≡ UnitRecord unit
     → hasPlan (inForceAt sheet i) ≡ true
     → (from n : ℕ) (failed : Bool) → from + n ≡ suc i → Anchor sheet class i from failed → Latest sheet class i from →
     let numbers = numbersOf (sheet .table) (inForceAt sheet i) class in
     pos (classCusum (sheet .table) (inForceAt sheet i) (before sheet i .cusums) (tenthsOf unit) class)
     ≡ largestForm numbers (anchorValue numbers failed) (tenthsFrom sheet class from n)
-largest-form-by-place sheet class in-range i unit e h from n failed q lies latest =
+largest-form-by-place sheet apart class in-range i unit e h from n failed q lies latest =
     let numbers = numbersOf (sheet .table) (inForceAt sheet i) class in
-    largest-form sheet class in-range i unit e h
+    largest-form sheet apart class in-range i unit e h
     ∙ ap (λ (t : Trail). largestForm numbers (anchorValue numbers (t .failed)) (t .tenths)) (anchored sheet class i from n failed q lies latest)

@@ -10,6 +10,7 @@ use Rattle.units.specs.Words.{Table}
 use Rattle.units.specs.declared.SampleUnit.{SampleUnit}
 use Rattle.units.specs.declared.Entry.{Entry}
 use Rattle.units.specs.declared.Entry.the-variants.{UnitRecord, Redesignation, Break}
+use Rattle.units.proofs.Records.{unit-that}
 use Rattle.rules.specs.declared.Phase.{Phase}
 use Rattle.rules.specs.declared.Phase.the-variants.{Designated, StepThree}
 use Rattle.rules.specs.declared.State.{State}
@@ -125,16 +126,15 @@ module _ (sheet : Sheet) where
   ends-unit : (state : State) (entry : Entry) → recordEndsStepThree (sheet .table) state entry ≡ true
       → (designated : ℕ) × (lower : ℕ) × (run : ℕ) × (2 ≤ run) × Qualifying (sheet .table) state entry designated lower run
   unfolding recordEndsStepThree
-  ends-unit state (UnitRecord unit) ends =
-      let (lower, run, phase, two, qualifies) = ends-after (state .phase) (qualifiesIn (sheet .table) state unit) ends in (
+  ends-unit state entry ends =
+      let (unit, is-unit, ends-here) = unit-that (λ unit. endsStepThree (state .phase) (qualifiesIn (sheet .table) state unit)) entry ends in
+      let (lower, run, phase, two, qualifies) = ends-after (state .phase) (qualifiesIn (sheet .table) state unit) ends-here in (
         state .designated,
         lower,
         run,
         two,
-        record { unit = unit; is-unit = refl; in-step-three = record { same-designated = refl; same-phase = phase }; qualifies = qualifies },
+        record { unit = unit; is-unit = is-unit; in-step-three = record { same-designated = refl; same-phase = phase }; qualifies = qualifies },
       )
-  ends-unit state (Redesignation new) ends = absurd (false≢true ends)
-  ends-unit state Break ends = absurd (false≢true ends)
 
   -- the run never grows beyond two before the unit that ends step 3
   pub run-at-most-two : (i d l n : ℕ) → InStepThree (before sheet i) d l n → n ≤ 2

@@ -51,11 +51,10 @@ unfolding FailureBounded worseOfTwo
 worse-bounded NoFailure grade before here = here
 worse-bounded (Failure earlier) grade before here = omega arith
 
-failure-bounded : (phase : Phase) (fails : Bool) (grade : ℕ) → grade ≤ substandard → FailureBounded (failureAfter phase fails grade)
+failure-bounded : (fails : Bool) (grade : ℕ) → grade ≤ substandard → FailureBounded (failureAfter fails grade)
 unfolding FailureBounded failureAfter
-failure-bounded Designated true grade bounded = bounded
-failure-bounded Designated false grade bounded = tt
-failure-bounded (StepThree lower run) fails grade bounded = tt
+failure-bounded true grade bounded = bounded
+failure-bounded false grade bounded = tt
 
 with-unit-bounded : (phase : Phase) (qualifies : Bool) → PhaseBounded phase → PhaseBounded (withUnit phase qualifies)
 unfolding PhaseBounded withUnit
@@ -90,7 +89,7 @@ module _ (table : Table) (state : State) (bounded : Bounded state) where
       (worse-bounded (state .previous) (grading .grade) (bounded .previous) (grade-bounded unit)))
       (λ ends two. record {
         designated = bounded .designated;
-        previous = failure-bounded (state .phase) (grading .fails) (grading .grade) (grade-bounded unit);
+        previous = failure-bounded (grading .fails) (grading .grade) (grade-bounded unit);
         phase = with-unit-bounded (state .phase) (qualifiesIn table state unit) (bounded .phase);
       })
 

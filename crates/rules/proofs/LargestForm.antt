@@ -1,10 +1,9 @@
 -- Demand 3's first half over records: the CuSum of a class at a unit is the 'largest of' form from where its trail begins.
 -- The trail keeps the anchor's kind and the counts since it; by induction on the records, the CuSum is reached from it by steps that meet.
-use Prim.Native.Nat.{ℕ, zero, suc, _≤_, _<_}
+use Prim.Native.Nat.{ℕ, zero, suc, _<_}
 use mathlib.Core.Path.{_≡_, refl, sym, _∙_, ap, subst⁻¹}
 use mathlib.Core.Bool.{Bool, true, false, cond}
 use mathlib.Core.List.{List, [], _∷_, _++_, append-nil}
-use native.Mathlib.Omega.{arith}
 use lib.ListN.{length}
 use lib.IntN.{pos}
 use Rattle.cusum.specs.declared.Cusum.{Cusum}
@@ -12,18 +11,20 @@ use Rattle.cusum.specs.declared.PlanNumbers.{PlanNumbers}
 use Rattle.cusum.specs.Step.{fails, newCusum}
 use Rattle.cusum.specs.LargestForm.{largestForm, anchorValue}
 use Rattle.cusum.proofs.Laws.{failed-at}
-use Rattle.cusum.proofs.Runs.{after, Meets, after-le-limit, after-snoc, meets-snoc, run-largest}
+use Rattle.cusum.proofs.Runs.{after, Meets, after-snoc, meets-snoc, run-largest}
 use Rattle.units.specs.declared.SampleUnit.{SampleUnit}
 use Rattle.units.specs.declared.Entry.{Entry}
 use Rattle.units.specs.declared.Entry.the-variants.{UnitRecord, Redesignation, Break}
-use Rattle.units.specs.Words.{hasPlan, classes, Table, rowOf, numbersOf, tenthsOf, countTenths, tenthsIn}
-use Rattle.units.specs.Unit.{starting, classFails, classCusum, newCusums}
+use Rattle.units.specs.Words.{hasPlan, classes, Table, numbersOf, tenthsOf, countTenths, tenthsIn}
+use Rattle.units.specs.Unit.{classFails, classCusum, newCusums}
+use Rattle.units.specs.Records.{isUnitThat}
 use Rattle.units.proofs.Classes.{at-class}
 use Rattle.rules.specs.declared.State.{State}
 use Rattle.rules.specs.StepThree.{inForceIn, inForce, restarted, graded}
 use Rattle.rules.specs.Sheet.{Sheet, before, inForceAt}
 use Rattle.rules.specs.Anchor.{failsAt, tenthsAt, restartAt}
 use Rattle.rules.proofs.Restarts.{cusumsBehind, restart-starts, no-restart-keeps}
+use Rattle.rules.proofs.FailingUnits.{FailingNeverQualifies, starts-at}
 
 -- ---- where the anchor lies, as a fold over the records
 
@@ -81,7 +82,7 @@ module _ (table : Table) (class : ℕ) (in-range : class < length classes) where
   at-unit : (state : State) (unit : SampleUnit) (trail : Trail) → hasPlan (inForce state) ≡ true → Held table class (inForce state) (state .cusums) trail
       → Reached (numbersOf table (inForce state) class) (classCusum table (inForce state) (state .cusums) (tenthsOf unit) class)
       (trailWith table class state (UnitRecord unit) trail)
-  unfolding classCusum trailWith failsAt tenthsAt classFails
+  unfolding classCusum trailWith failsAt isUnitThat tenthsAt classFails
   at-unit state unit trail planned held =
       let numbers = numbersOf table (inForce state) class in
       rw planned (one-unit numbers (tenthsIn (state .cusums) class) (countTenths (tenthsOf unit) class) trail (held planned) _ refl)
@@ -89,23 +90,14 @@ module _ (table : Table) (class : ℕ) (in-range : class < length classes) where
   -- after a record that brings no restart
   at-entry : (state : State) (entry : Entry) (trail : Trail) → hasPlan (inForce state) ≡ true → Held table class (inForce state) (state .cusums) trail
       → Reached (numbersOf table (inForce state) class) (tenthsIn (cusumsBehind table state entry) class) (trailWith table class state entry trail)
-  unfolding cusumsBehind graded newCusums trailWith failsAt tenthsAt
+  unfolding cusumsBehind graded newCusums trailWith failsAt isUnitThat tenthsAt
   at-entry state (UnitRecord unit) trail planned held =
       subst⁻¹ (λ (value : ℕ). Reached (numbersOf table (inForce state) class) value (trailWith table class state (UnitRecord unit) trail))
       (at-class (classCusum table (inForce state) (state .cusums) (tenthsOf unit)) class in-range) (at-unit state unit trail planned held)
   at-entry state (Redesignation new) trail planned held = rw append-nil (held planned)
   at-entry state Break trail planned held = rw append-nil (held planned)
 
-  starts-at : (grade : ℕ) → tenthsIn (starting (rowOf table grade)) class ≡ numbersOf table grade class .start
-  unfolding starting
-  starts-at grade = at-class (λ k. numbersOf table grade k .start) class in-range
-
-anchor-within : (numbers : PlanNumbers) → numbers .start ≤ numbers .limit → (failed : Bool) → anchorValue numbers failed ≤ numbers .limit
-unfolding anchorValue
-anchor-within numbers h true = omega arith
-anchor-within numbers h false = h
-
-module _ (sheet : Sheet) (class : ℕ) (in-range : class < length classes) where
+module _ (sheet : Sheet) (apart : FailingNeverQualifies sheet) (class : ℕ) (in-range : class < length classes) where
   -- with the CuSum behind a record, by whether it brings about a restart
   held-next : (i : ℕ) → Held (sheet .table) class (inForceAt sheet i) (before sheet i .cusums) (trailBefore sheet class i)
       → (restarts : Bool) → restartAt sheet i ≡ restarts
@@ -113,12 +105,12 @@ module _ (sheet : Sheet) (class : ℕ) (in-range : class < length classes) where
       (cond restarts fromStart (trailAt sheet class i))
   unfolding after Meets anchorValue
   held-next i held true e planned = (
-    ap (λ (cusums : List Cusum). tenthsIn cusums class) (restart-starts sheet i e)
+    ap (λ (cusums : List Cusum). tenthsIn cusums class) (restart-starts sheet apart i e)
         ∙ starts-at (sheet .table) class in-range (inForceAt sheet (suc i)),
     tt,
   )
   held-next i held false e planned =
-      let (same-plan, same-cusums) = no-restart-keeps sheet i e in
+      let (same-plan, same-cusums) = no-restart-keeps sheet apart i e in
       rw (same-plan, same-cusums)
       (at-entry (sheet .table) class in-range (before sheet i) (sheet .entry i) (trailBefore sheet class i) (rw same-plan at planned) held)
 
@@ -128,15 +120,6 @@ module _ (sheet : Sheet) (class : ℕ) (in-range : class < length classes) where
       unfold before restarted inForceIn after Meets anchorValue in
       (starts-at (sheet .table) class in-range (sheet .designated), tt)
   held-before (suc i) planned = held-next i (held-before i) (restartAt sheet i) refl planned
-
-  -- where S is at most L the CuSum before a record is, too
-  pub within-limit : (i : ℕ) → hasPlan (inForceAt sheet i) ≡ true →
-      let numbers = numbersOf (sheet .table) (inForceAt sheet i) class in
-      numbers .start ≤ numbers .limit → tenthsIn (before sheet i .cusums) class ≤ numbers .limit
-  within-limit i planned start-within =
-      let numbers = numbersOf (sheet .table) (inForceAt sheet i) class in
-      let trail = trailBefore sheet class i in
-      rw (held-before i planned .0) (after-le-limit numbers _ (trail .tenths) (anchor-within numbers start-within (trail .failed)))
 
   -- THE FIRST HALF OF DEMAND 3, over records
   pub largest-form : (i : ℕ) (unit : SampleUnit) → sheet .entry i ≡ UnitRecord unit → hasPlan (inForceAt sheet i) ≡ true →

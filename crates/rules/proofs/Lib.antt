@@ -1,5 +1,6 @@
 pub mod Steps
 pub mod TwoFailures
+pub mod FailingUnits
 pub mod FinishedRun
 pub mod ThreeQualify
 pub mod Restarts

@@ -1,28 +1,27 @@
--- What the restarts, told by their places, are to the grading: behind one every class of the plan then in force is at its S; behind any
--- other record the plan in force is the same, and a unit leaves its new CuSums, any other record those before it.
--- By cases on the record, and on the tests of what it does to the state.
+-- What the restarts, told by their places, are to the grading, on a sheet where no unit that fails qualifies: behind one every class of
+-- the plan then in force is at its S; behind any other record the plan in force is the same, and a unit leaves its new CuSums, any other
+-- record those before it. By cases on the record, and on the tests of what it does to the state.
 use Prim.Native.Nat.{ℕ, suc}
 use mathlib.Core.Path.{_≡_, refl, sym, _∙_, ap}
-use mathlib.Core.Bool.{Bool, true, false, not, _&&_, _||_, true≢false}
+use mathlib.Core.Bool.{Bool, true, false, _||_, true≢false}
 use mathlib.Core.List.{List}
-use lib.Dec.{ltb}
 use Rattle.cusum.specs.declared.Cusum.{Cusum}
 use Rattle.units.specs.Words.{Table, rowOf}
 use Rattle.units.specs.Unit.{starting}
 use Rattle.units.specs.declared.SampleUnit.{SampleUnit}
 use Rattle.units.specs.declared.Entry.{Entry}
 use Rattle.units.specs.declared.Entry.the-variants.{UnitRecord, Redesignation, Break}
-use Rattle.units.proofs.Tests.{or-first, or-second}
-use Rattle.rules.specs.StepThree.{inStepThree, inForceIn, inForce, endsStepThree, withoutRun, keepsStepThree, restarted, graded, qualifiesIn, afterUnit, afterBreak, next, recordEndsStepThree}
+use Rattle.units.specs.Records.{isUnitThat}
+use Rattle.units.proofs.Tests.{or-first, or-second, not-true, not-false}
+use Rattle.rules.specs.StepThree.{inForce, endsStepThree, keepsStepThree, restarted, graded, qualifiesIn, afterUnit, afterBreak, next, recordEndsStepThree}
 use Rattle.rules.specs.Sheet.{Sheet, before, inForceAt, gradedAt, stepThreeEndsAt}
-use Rattle.rules.specs.TwoInARow.{secondInARow}
+use Rattle.rules.specs.TwoInARow.{lowerPlanStartsAt}
 use Rattle.rules.specs.ThreeInARow.{thirdInARow}
 use Rattle.rules.specs.Anchor.{restartBy, restartAt}
-use Rattle.rules.specs.declared.Phase.{Phase}
-use Rattle.rules.specs.declared.Phase.the-variants.{Designated, StepThree}
 use Rattle.rules.specs.declared.State.{State}
-use Rattle.rules.proofs.Steps.{unit-ends, unit-falls, unit-passes, redesignation-keeps, redesignation-restarts, with-unit-in-force}
-use Rattle.rules.proofs.TwoFailures.{second-is}
+use Rattle.rules.proofs.Steps.{unit-ends, unit-falls, unit-passes, redesignation-keeps, redesignation-restarts, with-unit-in-force, keeps-is, kept-in-force}
+use Rattle.rules.proofs.TwoFailures.{starts-is}
+use Rattle.rules.proofs.FailingUnits.{FailingNeverQualifies}
 use Rattle.rules.proofs.ThreeQualify.{ends-at-third}
 
 -- the CuSums behind a record that brings about no restart
@@ -35,29 +34,7 @@ cusumsBehind table state Break = state .cusums
 abbrev AtStart : Table → State → Type 0
 AtStart table state = state .cusums ≡ starting (rowOf table (inForce state))
 
--- ---- a redesignation
-
--- as the state has it, and by its place
-pub keeps-is : (designated : ℕ) (phase : Phase) (new : ℕ) → keepsStepThree phase new ≡ (inStepThree phase && ltb new (inForceIn designated phase))
-unfolding keepsStepThree inStepThree inForceIn
-keeps-is designated Designated new = refl
-keeps-is designated (StepThree lower run) new = refl
-
-not-true : (b : Bool) → not b ≡ true → b ≡ false
-not-true true e = absurd (true≢false (sym e))
-not-true false e = refl
-
-not-false : (b : Bool) → not b ≡ false → b ≡ true
-not-false true e = refl
-not-false false e = absurd (true≢false e)
-
--- one that keeps step 3 keeps its lower grade
-pub kept-in-force : (phase : Phase) (designated new : ℕ) → keepsStepThree phase new ≡ true → inForceIn new (withoutRun phase) ≡ inForceIn designated phase
-unfolding keepsStepThree inForceIn withoutRun
-kept-in-force Designated designated new keeps = absurd (true≢false (sym keeps))
-kept-in-force (StepThree lower run) designated new keeps = refl
-
-module _ (sheet : Sheet) (i : ℕ) where
+module _ (sheet : Sheet) (apart : FailingNeverQualifies sheet) (i : ℕ) where
   abbrev state : State
   state = before sheet i
 
@@ -68,32 +45,32 @@ module _ (sheet : Sheet) (i : ℕ) where
 
   module _ (unit : SampleUnit) (is-unit : sheet .entry i ≡ UnitRecord unit) where
     ends-is : thirdInARow sheet i ≡ endsStepThree (state .phase) (qualifiesIn table state unit)
-    unfolding stepThreeEndsAt recordEndsStepThree
-    ends-is = sym (ends-at-third sheet i) ∙ ap (recordEndsStepThree table state) is-unit
+    unfolding stepThreeEndsAt recordEndsStepThree isUnitThat
+    ends-is = sym (ends-at-third sheet apart i) ∙ ap (recordEndsStepThree table state) is-unit
 
-    unit-starts : (secondInARow sheet i || thirdInARow sheet i) ≡ true → AtStart table (next table state (UnitRecord unit))
+    unit-starts : (lowerPlanStartsAt sheet i || thirdInARow sheet i) ≡ true → AtStart table (next table state (UnitRecord unit))
     unfolding next
-    unit-starts e = go (thirdInARow sheet i) refl (secondInARow sheet i) refl e
+    unit-starts e = go (thirdInARow sheet i) refl (lowerPlanStartsAt sheet i) refl e
       where
-        go : (ends : Bool) → thirdInARow sheet i ≡ ends → (second : Bool) → secondInARow sheet i ≡ second → (second || ends) ≡ true
+        go : (ends : Bool) → thirdInARow sheet i ≡ ends → (second : Bool) → lowerPlanStartsAt sheet i ≡ second → (second || ends) ≡ true
             → AtStart table (afterUnit table state (gradedAt sheet i unit) (qualifiesIn table state unit))
         go true ends second is-second e =
             rw (unit-ends table state (gradedAt sheet i unit) (qualifiesIn table state unit) (sym ends-is ∙ ends))
             (unfold restarted in refl)
         go false ends true second e =
             rw (unit-falls table state (gradedAt sheet i unit) (qualifiesIn table state unit) (sym ends-is ∙ ends)
-            (second-is sheet i unit is-unit ∙ second))
+            (starts-is sheet i unit is-unit ∙ second))
             (unfold restarted in refl)
         go false ends false second e = absurd (true≢false (sym e))
 
-    unit-keeps : (secondInARow sheet i || thirdInARow sheet i) ≡ false →
+    unit-keeps : (lowerPlanStartsAt sheet i || thirdInARow sheet i) ≡ false →
         let behind = next table state (UnitRecord unit) in
         (inForce behind ≡ inForce state) × (behind .cusums ≡ gradedAt sheet i unit .cusums)
     unfolding next
     unit-keeps e =
-        let one = or-first (secondInARow sheet i) (thirdInARow sheet i) e in
-        let going-on = or-second (secondInARow sheet i) (thirdInARow sheet i) e in
-        rw (unit-passes table state (gradedAt sheet i unit) (qualifiesIn table state unit) (sym ends-is ∙ going-on) (second-is sheet i unit is-unit ∙ one))
+        let one = or-first (lowerPlanStartsAt sheet i) (thirdInARow sheet i) e in
+        let going-on = or-second (lowerPlanStartsAt sheet i) (thirdInARow sheet i) e in
+        rw (unit-passes table state (gradedAt sheet i unit) (qualifiesIn table state unit) (sym ends-is ∙ going-on) (starts-is sheet i unit is-unit ∙ one))
         (with-unit-in-force (state .designated) (state .phase) (qualifiesIn table state unit), refl)
 
   -- ---- any record

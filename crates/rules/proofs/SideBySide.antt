@@ -9,7 +9,7 @@ use lib.Dec.{eqb}
 use Rattle.cusum.specs.declared.Cusum.{Cusum}
 use Rattle.units.specs.Words.{substandard, Table, rowOf, tenthsOf}
 use Rattle.units.specs.Unit.{starting, classCusum, classOvershoot, unitFails, gradingOf, portionGradeOf}
-use Rattle.units.specs.Records.{portionGradeWith, worstBefore}
+use Rattle.units.specs.Records.{isUnitThat, portionGradeWith, worstBefore}
 use Rattle.units.specs.declared.SampleUnit.{SampleUnit}
 use Rattle.units.specs.declared.Entry.{Entry}
 use Rattle.units.specs.declared.Entry.the-variants.{UnitRecord, Redesignation, Break}
@@ -23,7 +23,7 @@ use Rattle.rules.specs.declared.Previous.{Previous}
 use Rattle.rules.specs.declared.Phase.{Phase}
 use Rattle.rules.specs.declared.Phase.the-variants.{Designated}
 use Rattle.rules.specs.declared.State.{State}
-use Rattle.rules.proofs.Steps.{stateOf, unit-passes, isFailure, two-in-a-row-is}
+use Rattle.rules.proofs.Steps.{stateOf, unit-passes, isFailure, two-in-a-row-is, failure-is}
 
 -- ---- what is compared
 
@@ -52,13 +52,6 @@ NoRedesignation (UnitRecord u) = Unit {0}
 NoRedesignation (Redesignation new) = ⊥
 NoRedesignation Break = Unit {0}
 
--- ---- a record that is no unit fails nothing
-
-pub not-second : (sheet : Sheet) (j : ℕ) → sheet .entry j ≡ Break → secondInARow sheet j ≡ false
-unfolding secondInARow unitFailsAt failsDesignated
-not-second sheet j e =
-    ap (λ (entry : Entry). unitFailsBefore sheet j && failsDesignated (sheet .table) (before sheet j) entry) e ∙ and-false (unitFailsBefore sheet j)
-
 -- ---- the two gradings side by side, both under the designated plan
 
 -- just-failed: the second's unit just before failed
@@ -82,18 +75,13 @@ no-two previous fails none = two-in-a-row-is previous fails ∙ go (isFailure pr
     go true none = none refl
     go false none = refl
 
-failure-is : (fails : Bool) (grade : ℕ) → isFailure (failureAfter Designated fails grade) ≡ fails
-unfolding isFailure failureAfter
-failure-is true grade = refl
-failure-is false grade = refl
-
 module _ (table : Table) (designated : ℕ) where
   -- under the designated plan, where the unit does not fail behind one that failed
   passes : (previous : Previous) (cusums : List Cusum) (unit : SampleUnit) →
       let state = stateOf designated previous Designated cusums in
       let grading = gradingOf table designated cusums (tenthsOf unit) in
       (isFailure previous ≡ true → grading .fails ≡ false)
-      → next table state (UnitRecord unit) ≡ stateOf designated (failureAfter Designated (grading .fails) (grading .grade)) Designated (grading .cusums)
+      → next table state (UnitRecord unit) ≡ stateOf designated (failureAfter (grading .fails) (grading .grade)) Designated (grading .cusums)
   unfolding next graded inForceIn endsStepThree withUnit
   passes previous cusums unit none =
       let state = stateOf designated previous Designated cusums in
@@ -121,7 +109,7 @@ module _ (table : Table) (designated : ℕ) where
       → (just-failed && failsDesignated table (stateOf designated p' Designated cs') e') ≡ false
       → Both designated (failsDesignated table (stateOf designated p' Designated cs') e')
       (next table (stateOf designated p Designated cs) e) (next table (stateOf designated p' Designated cs') e')
-  unfolding Below NoRedesignation failsDesignated inStepThree
+  unfolding Below NoRedesignation failsDesignated isUnitThat inStepThree
   record-beside p p' cs cs' just-failed (UnitRecord u) (UnitRecord v) new remembered lower below none two =
       let fewer = counts-fewer u v (below .fewer) in
       let fails-too = unit-fails-mono table designated cs cs' (tenthsOf u) (tenthsOf v) lower fewer in
@@ -197,7 +185,7 @@ module _ (table : Table) (designated : ℕ) (es fs : ℕ → Entry) (size : ℕ)
       × (classOvershoot table (inForceAt first i) (before first i .cusums) (tenthsOf u) class
       ≤ classOvershoot table (inForceAt second i) (before second i .cusums) (tenthsOf v) class)
       × (classFailsAt first class i ≡ true → classFailsAt second class i ≡ true)
-  unfolding Below classFailsAt failsAt
+  unfolding Below classFailsAt failsAt isUnitThat
   fewer-cusums i u v eu ev h class =
       let both = together i h in
       let below : Below (UnitRecord u) (UnitRecord v) = subst₂ Below eu ev (fellows i) in
@@ -212,7 +200,7 @@ module _ (table : Table) (designated : ℕ) (es fs : ℕ → Entry) (size : ℕ)
   -- ---- grades, where the second never fails two in a row
 
   no-end : (state : State) (e : Entry) → state .phase ≡ Designated → recordEndsStepThree table state e ≡ false
-  unfolding recordEndsStepThree endsStepThree
+  unfolding recordEndsStepThree isUnitThat endsStepThree
   no-end state (UnitRecord u) outside = ap (λ (phase : Phase). endsStepThree phase (qualifiesIn table state u)) outside
   no-end state (Redesignation g) outside = refl
   no-end state Break outside = refl

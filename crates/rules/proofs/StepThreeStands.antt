@@ -1,34 +1,36 @@
--- Where step 3 stands, by place: a break keeps it, a redesignation keeps it exactly if its new grade is better than the lower one, a
--- unit ends it exactly if it is the third in a row that qualifies; and while it stands the lower grade is the same.
--- By cases on the record, and on the tests of what it does to the state.
-use Prim.Native.Nat.{ℕ, suc}
+-- Where step 3 stands, by place, on a sheet where no unit that fails qualifies: a break keeps it, a redesignation keeps it exactly if
+-- its new grade is better than the lower one, a unit ends it exactly if it is the third in a row that qualifies; and while it stands the
+-- lower grade changes exactly behind the second of two units in a row that fail, to a worse one. By cases on the record, and on the
+-- tests of what it does to the state.
+use Prim.Native.Nat.{ℕ, zero, suc, _<_}
 use mathlib.Core.Path.{_≡_, refl, sym, _∙_, ap, subst⁻¹}
 use mathlib.Core.Bool.{Bool, true, false, not, _&&_, true≢false, false≢true}
+use native.Mathlib.Omega.{arith}
 use lib.Dec.{ltb}
-use Rattle.units.specs.Words.{Table}
+use Rattle.units.specs.Words.{Table, tenthsOf}
+use Rattle.units.specs.Unit.{unitFails}
+use Rattle.units.specs.Records.{isUnitThat}
 use Rattle.units.specs.declared.SampleUnit.{SampleUnit}
 use Rattle.units.specs.declared.Entry.{Entry}
 use Rattle.units.specs.declared.Entry.the-variants.{UnitRecord, Redesignation, Break}
-use Rattle.rules.specs.StepThree.{inStepThree, inForce, endsStepThree, twoInARow, withoutRun, keepsStepThree, restarted, graded, qualifiesIn, afterRedesignation, afterBreak, next, recordEndsStepThree}
-use Rattle.rules.specs.Sheet.{Sheet, before, inForceAt, stepThreeEndsAt}
-use Rattle.rules.specs.TwoInARow.{secondInARow}
+use Rattle.units.proofs.Failing.{failing-worse}
+use Rattle.units.proofs.Records.{unit-that}
+use Rattle.units.proofs.Tests.{not-true, and-both}
+use Rattle.rules.specs.StepThree.{inStepThree, inForce, twoInARow, worseOfTwo, endsStepThree, withoutRun, keepsStepThree, restarted, graded, qualifiesIn, afterRedesignation, afterBreak, next, recordEndsStepThree}
+use Rattle.rules.specs.Sheet.{Sheet, before, inForceAt, gradedAt, qualifiesAt, stepThreeEndsAt}
+use Rattle.rules.specs.TwoInARow.{failsLower, unitFailsLowerAt, secondAtLower}
 use Rattle.rules.specs.ThreeInARow.{thirdInARow}
 use Rattle.rules.specs.declared.Phase.{Phase}
 use Rattle.rules.specs.declared.Phase.the-variants.{Designated, StepThree}
 use Rattle.rules.specs.declared.State.{State}
-use Rattle.rules.proofs.Steps.{unit-by, redesignation-by, with-unit-in-step-three, with-unit-in-force, without-run-in-force}
-use Rattle.rules.proofs.TwoFailures.{second-is}
-use Rattle.rules.proofs.ThreeQualify.{inside-not-second, ends-at-third}
-use Rattle.rules.proofs.Restarts.{keeps-is, kept-in-force}
-
-without-run-in-step-three : (phase : Phase) → inStepThree (withoutRun phase) ≡ inStepThree phase
-unfolding inStepThree withoutRun
-without-run-in-step-three Designated = refl
-without-run-in-step-three (StepThree lower run) = refl
+use Rattle.rules.proofs.Steps.{unit-falls, unit-by, redesignation-by, with-unit-in-step-three, with-unit-in-force, without-run-in-force, without-run-in-step-three, keeps-is, kept-in-force, ends-qualifying}
+use Rattle.rules.proofs.TwoFailures.{starts-is, starts-inside}
+use Rattle.rules.proofs.FailingUnits.{worse-at-least, FailingNeverQualifies}
+use Rattle.rules.proofs.ThreeQualify.{ends-at-third}
 
 -- ---- of one record
 
--- behind a redesignation step 3 stands by this test, and if it does its lower grade is the same
+-- behind a record step 3 stands by this test, and if it does its lower grade is the same
 record Kept (test : Bool) (state behind : State) : Type 0 where
   stands : inStepThree (behind .phase) ≡ test
   same-lower : test ≡ true → inForce behind ≡ inForce state
@@ -48,21 +50,28 @@ redesignation-kept table state new =
     })
     (λ other. record { stands = sym other; same-lower = λ keeps. absurd (true≢false (sym keeps ∙ other)) })
 
-unit-kept : (table : Table) (state : State) (unit : SampleUnit) → inStepThree (state .phase) ≡ true → twoInARow (state .previous) (graded table state unit .fails) ≡ false
-    → Kept (not (endsStepThree (state .phase) (qualifiesIn table state unit))) state (next table state (UnitRecord unit))
+-- behind a unit in step 3 it stands unless it ends there, and where no lower plan starts its lower grade is the same
+record UnitKept (starts ends : Bool) (state behind : State) : Type 0 where
+  stands : inStepThree (behind .phase) ≡ not ends
+  same-lower : starts ≡ false → ends ≡ false → inForce behind ≡ inForce state
+
+unit-kept : (table : Table) (state : State) (unit : SampleUnit) → inStepThree (state .phase) ≡ true
+    → UnitKept (twoInARow (state .previous) (graded table state unit .fails)) (endsStepThree (state .phase) (qualifiesIn table state unit)) state
+    (next table state (UnitRecord unit))
 unfolding next restarted inStepThree
-unit-kept table state unit inside one =
-    unit-by table state (graded table state unit) (qualifiesIn table state unit) (Kept (not (endsStepThree (state .phase) (qualifiesIn table state unit))) state)
-    (λ ends. record { stands = sym (ap not ends); same-lower = λ going-on. absurd (false≢true (sym (ap not ends) ∙ going-on)) })
-    (λ ends two. absurd (true≢false (sym two ∙ one)))
-    (λ ends other. record {
+unit-kept table state unit inside =
+    unit-by table state (graded table state unit) (qualifiesIn table state unit)
+    (UnitKept (twoInARow (state .previous) (graded table state unit .fails)) (endsStepThree (state .phase) (qualifiesIn table state unit)) state)
+    (λ ends. record { stands = sym (ap not ends); same-lower = λ _ going-on. absurd (true≢false (sym ends ∙ going-on)) })
+    (λ ends two. record { stands = sym (ap not ends); same-lower = λ one _. absurd (true≢false (sym two ∙ one)) })
+    (λ ends one. record {
       stands = with-unit-in-step-three (state .phase) (qualifiesIn table state unit) ∙ inside ∙ sym (ap not ends);
-      same-lower = λ _. with-unit-in-force (state .designated) (state .phase) (qualifiesIn table state unit);
+      same-lower = λ _ _. with-unit-in-force (state .designated) (state .phase) (qualifiesIn table state unit);
     })
 
 -- ---- by place
 
-module _ (sheet : Sheet) (i : ℕ) where
+module _ (sheet : Sheet) (apart : FailingNeverQualifies sheet) (i : ℕ) where
   abbrev state : State
   state = before sheet i
 
@@ -84,18 +93,18 @@ module _ (sheet : Sheet) (i : ℕ) where
       (redesignation-kept table state new))
 
   unit-kept-at : (unit : SampleUnit) → sheet .entry i ≡ UnitRecord unit → inStepThree (state .phase) ≡ true
-      → Kept (not (thirdInARow sheet i)) state (before sheet (suc i))
+      → UnitKept (secondAtLower sheet i) (thirdInARow sheet i) state (before sheet (suc i))
   unfolding before
   unit-kept-at unit is-unit inside =
+      let starts : secondAtLower sheet i ≡ twoInARow (state .previous) (graded table state unit .fails)
+      = sym (starts-inside sheet i inside) ∙ sym (starts-is sheet i unit is-unit) in
       let ends : thirdInARow sheet i ≡ endsStepThree (state .phase) (qualifiesIn table state unit)
-      = sym (ends-at-third sheet i) ∙ unfold stepThreeEndsAt recordEndsStepThree in ap (recordEndsStepThree table state) is-unit in
-      subst⁻¹ (λ (test : Bool). Kept (not test) state (next table state (sheet .entry i))) ends
-      (subst⁻¹ (λ (entry : Entry). Kept (not (endsStepThree (state .phase) (qualifiesIn table state unit))) state (next table state entry)) is-unit
-      (unit-kept table state unit inside (not-second (secondInARow sheet i) refl)))
-    where
-      not-second : (second : Bool) → secondInARow sheet i ≡ second → twoInARow (before sheet i .previous) (graded (sheet .table) (before sheet i) unit .fails) ≡ false
-      not-second true e = absurd (inside-not-second sheet i inside e)
-      not-second false e = second-is sheet i unit is-unit ∙ e
+      = sym (ends-at-third sheet apart i) ∙ unfold stepThreeEndsAt recordEndsStepThree isUnitThat in ap (recordEndsStepThree table state) is-unit in
+      subst⁻¹ (λ (test : Bool). UnitKept test (thirdInARow sheet i) state (next table state (sheet .entry i))) starts
+      (subst⁻¹ (λ (test : Bool). UnitKept (twoInARow (state .previous) (graded table state unit .fails)) test state (next table state (sheet .entry i))) ends
+      (subst⁻¹ (λ (entry : Entry). UnitKept (twoInARow (state .previous) (graded table state unit .fails))
+      (endsStepThree (state .phase) (qualifiesIn table state unit)) state (next table state entry)) is-unit
+      (unit-kept table state unit inside)))
 
   -- a break does not end step 3
   pub at-break : sheet .entry i ≡ Break → inStepThree (before sheet (suc i) .phase) ≡ inStepThree (before sheet i .phase)
@@ -111,14 +120,52 @@ module _ (sheet : Sheet) (i : ℕ) where
       → inStepThree (before sheet (suc i) .phase) ≡ not (thirdInARow sheet i)
   at-unit unit is-unit inside = unit-kept-at unit is-unit inside .stands
 
-  -- while step 3 stands, the lower grade is the same
-  pub lower-stays : inStepThree (before sheet i .phase) ≡ true → inStepThree (before sheet (suc i) .phase) ≡ true → inForceAt sheet (suc i) ≡ inForceAt sheet i
-  lower-stays inside still = go (sheet .entry i) refl
+  -- while step 3 stands, the lower grade is the same but behind the second of two units in a row that fail the lower plan
+  pub lower-stays : inStepThree (before sheet i .phase) ≡ true → inStepThree (before sheet (suc i) .phase) ≡ true → secondAtLower sheet i ≡ false
+      → inForceAt sheet (suc i) ≡ inForceAt sheet i
+  lower-stays inside still one = go (sheet .entry i) refl
     where
       kept : {test : Bool} → Kept test (before sheet i) (before sheet (suc i)) → inForceAt sheet (suc i) ≡ inForceAt sheet i
       kept k = k .same-lower (sym (k .stands) ∙ still)
 
       go : (entry : Entry) → sheet .entry i ≡ entry → inForceAt sheet (suc i) ≡ inForceAt sheet i
-      go (UnitRecord unit) is-unit = kept (unit-kept-at unit is-unit inside)
+      go (UnitRecord unit) is-unit =
+          let here = unit-kept-at unit is-unit inside in
+          here .same-lower one (not-true (thirdInARow sheet i) (sym (here .stands) ∙ still))
       go (Redesignation new) is-redesignation = kept (redesignation-kept-at new is-redesignation)
       go Break is-break = kept (break-kept is-break)
+
+  -- ---- where a lower plan starts in step 3
+
+  -- that is at a unit in step 3 that fails
+  failing-second : (j : ℕ) → secondAtLower sheet j ≡ true → unitFailsLowerAt sheet j ≡ true
+  unfolding secondAtLower
+  failing-second zero second = absurd (false≢true second)
+  failing-second (suc j) second = and-both (unitFailsLowerAt sheet j && not (secondAtLower sheet j)) (unitFailsLowerAt sheet (suc j)) second .1
+
+  -- step 3 stands behind it, with no run, under a plan of a worse grade
+  pub lower-plan-worse : secondAtLower sheet i ≡ true
+      → (lower : ℕ) × (before sheet (suc i) .phase ≡ StepThree lower 0) × (inForceAt sheet i < lower)
+  unfolding unitFailsLowerAt failsLower before next restarted
+  lower-plan-worse second =
+      let (unit, is-unit, failing) = unit-that _ (sheet .entry i) (failing-second i second) in
+      let (inside, fails) = and-both (inStepThree (state .phase)) (unitFails table (inForceAt sheet i) (state .cusums) (tenthsOf unit)) failing in
+      behind unit is-unit inside fails
+    where
+      behind : (unit : SampleUnit) → sheet .entry i ≡ UnitRecord unit → inStepThree (before sheet i .phase) ≡ true
+          → unitFails (sheet .table) (inForceAt sheet i) (before sheet i .cusums) (tenthsOf unit) ≡ true
+          → (lower : ℕ) × (before sheet (suc i) .phase ≡ StepThree lower 0) × (inForceAt sheet i < lower)
+      behind unit is-unit inside fails =
+          let state : State = before sheet i in
+          let lower : ℕ = worseOfTwo (state .previous) (gradedAt sheet i unit .grade) in
+          let going-on : endsStepThree (state .phase) (qualifiesAt sheet i unit) ≡ false
+          = ap (endsStepThree (state .phase)) (apart i unit (unfold graded in fails)) ∙ ends-qualifying (state .phase) in
+          let two : twoInARow (state .previous) (gradedAt sheet i unit .fails) ≡ true
+          = starts-is sheet i unit is-unit ∙ starts-inside sheet i inside ∙ second in
+          let worse-grade : inForceAt sheet i < gradedAt sheet i unit .grade
+          = unfold graded in failing-worse (sheet .table) (inForceAt sheet i) (state .cusums) (tenthsOf unit) fails in (
+            lower,
+            ap (λ (entry : Entry). next (sheet .table) state entry .phase) is-unit
+                ∙ ap (λ (behind : State). behind .phase) (unit-falls (sheet .table) state (gradedAt sheet i unit) (qualifiesAt sheet i unit) going-on two),
+            omega (arith, worse-grade, worse-at-least (state .previous) (gradedAt sheet i unit .grade)),
+          )

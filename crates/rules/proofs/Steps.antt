@@ -3,6 +3,7 @@ use Prim.Native.Nat.{ℕ}
 use mathlib.Core.Path.{_≡_, refl, sym, _∙_, ap, subst⁻¹}
 use mathlib.Core.Bool.{Bool, true, false, _&&_, false≢true}
 use mathlib.Core.List.{List}
+use lib.Dec.{ltb}
 use Rattle.cusum.specs.declared.Cusum.{Cusum}
 use Rattle.units.specs.Conditions.{pick}
 use Rattle.units.specs.Words.{Table}
@@ -38,7 +39,7 @@ module _ (table : Table) (state : State) (grading : Grading) (qualifies : Bool) 
 
   pub unit-passes : endsStepThree (state .phase) qualifies ≡ false → twoInARow (state .previous) (grading .fails) ≡ false
       → afterUnit table state grading qualifies
-      ≡ stateOf (state .designated) (failureAfter (state .phase) (grading .fails) (grading .grade)) (withUnit (state .phase) qualifies) (grading .cusums)
+      ≡ stateOf (state .designated) (failureAfter (grading .fails) (grading .grade)) (withUnit (state .phase) qualifies) (grading .cusums)
   unfolding afterUnit pick
   unit-passes going-on one = rw (going-on, one)
 
@@ -48,7 +49,7 @@ module _ (table : Table) (state : State) (grading : Grading) (qualifies : Bool) 
       → (endsStepThree (state .phase) qualifies ≡ false → twoInARow (state .previous) (grading .fails) ≡ true
       → P (restarted table (state .designated) (StepThree (worseOfTwo (state .previous) (grading .grade)) 0)))
       → (endsStepThree (state .phase) qualifies ≡ false → twoInARow (state .previous) (grading .fails) ≡ false
-      → P (stateOf (state .designated) (failureAfter (state .phase) (grading .fails) (grading .grade)) (withUnit (state .phase) qualifies) (grading .cusums)))
+      → P (stateOf (state .designated) (failureAfter (grading .fails) (grading .grade)) (withUnit (state .phase) qualifies) (grading .cusums)))
       → P (afterUnit table state grading qualifies)
   unit-by P ends falls passes = go (endsStepThree (state .phase) qualifies) refl (twoInARow (state .previous) (grading .fails)) refl
     where
@@ -106,6 +107,11 @@ unfolding twoInARow isFailure
 two-in-a-row-is NoFailure fails = refl
 two-in-a-row-is (Failure grade) fails = refl
 
+pub failure-is : (fails : Bool) (grade : ℕ) → isFailure (failureAfter fails grade) ≡ fails
+unfolding isFailure failureAfter
+failure-is true grade = refl
+failure-is false grade = refl
+
 -- the plan in force does not depend on the run, nor the phase being step 3
 pub without-run-in-force : (designated : ℕ) (phase : Phase) → inForceIn designated (withoutRun phase) ≡ inForceIn designated phase
 unfolding inForceIn withoutRun
@@ -122,6 +128,41 @@ pub with-unit-in-step-three : (phase : Phase) (qualifies : Bool) → inStepThree
 unfolding inStepThree withUnit
 with-unit-in-step-three Designated qualifies = refl
 with-unit-in-step-three (StepThree lower run) qualifies = refl
+
+pub without-run-in-step-three : (phase : Phase) → inStepThree (withoutRun phase) ≡ inStepThree phase
+unfolding inStepThree withoutRun
+without-run-in-step-three Designated = refl
+without-run-in-step-three (StepThree lower run) = refl
+
+-- whether a redesignation keeps step 3, as the state has it and by its place
+pub keeps-is : (designated : ℕ) (phase : Phase) (new : ℕ) → keepsStepThree phase new ≡ (inStepThree phase && ltb new (inForceIn designated phase))
+unfolding keepsStepThree inStepThree inForceIn
+keeps-is designated Designated new = refl
+keeps-is designated (StepThree lower run) new = refl
+
+-- one that does keeps its lower grade
+pub kept-in-force : (phase : Phase) (designated new : ℕ) → keepsStepThree phase new ≡ true → inForceIn new (withoutRun phase) ≡ inForceIn designated phase
+unfolding keepsStepThree inForceIn withoutRun
+kept-in-force Designated designated new keeps = absurd (false≢true keeps)
+kept-in-force (StepThree lower run) designated new keeps = refl
+
+-- outside step 3 the plan in force is the designated one
+pub in-force-outside : (designated : ℕ) (phase : Phase) → inStepThree phase ≡ false → inForceIn designated phase ≡ designated
+unfolding inStepThree inForceIn
+in-force-outside designated Designated out = refl
+in-force-outside designated (StepThree lower run) out = absurd (false≢true (sym out))
+
+-- and nothing ends step 3
+pub ends-none : (phase : Phase) (qualifies : Bool) → inStepThree phase ≡ false → endsStepThree phase qualifies ≡ false
+unfolding inStepThree endsStepThree
+ends-none Designated qualifies out = refl
+ends-none (StepThree lower run) qualifies out = absurd (false≢true (sym out))
+
+-- nor does a unit that does not qualify
+pub ends-qualifying : (phase : Phase) → endsStepThree phase false ≡ false
+unfolding endsStepThree
+ends-qualifying Designated = refl
+ends-qualifying (StepThree lower run) = refl
 
 -- ---- the designated grade
 

@@ -1,214 +1,272 @@
--- Step 3 begins behind a unit exactly if it is the second of two in a row that fail the designated plan, told by their places; the
--- lower grade is then the worse of their defect grades. The state remembers the record just before: a failure outside step 3, none in it.
+-- A lower plan starts behind a unit exactly if it is the second of two in a row that fail the plan in force, told by their places: of the
+-- designated plan, and step 3 begins; of the lower plan in step 3, and another one starts, unless step 3 ends there. The lower grade is
+-- then the worse of their defect grades. The state remembers the record just before: a failure that no lower plan has started behind.
 use Prim.Native.Nat.{ℕ, zero, suc}
-use mathlib.Core.Path.{_≡_, refl, sym, _∙_, ap}
-use mathlib.Core.Bool.{Bool, true, false, _&&_, false≢true, true≢false}
+use mathlib.Core.Path.{_≡_, refl, sym, _∙_, ap, subst⁻¹}
+use mathlib.Core.Bool.{Bool, true, false, not, _&&_, _||_, false≢true, true≢false}
 use mathlib.Core.List.{List}
 use Rattle.cusum.specs.declared.Cusum.{Cusum}
-use Rattle.units.proofs.Tests.{and-both, and-false}
+use Rattle.units.proofs.Tests.{and-true, and-false, and-both, or-false}
 use Rattle.units.specs.Words.{worse, Table, tenthsOf}
 use Rattle.units.specs.Unit.{unitFails}
+use Rattle.units.specs.Records.{isUnitThat}
 use Rattle.units.specs.declared.SampleUnit.{SampleUnit}
+use Rattle.units.specs.declared.Grading.{Grading}
 use Rattle.units.specs.declared.Entry.{Entry}
 use Rattle.units.specs.declared.Entry.the-variants.{UnitRecord, Redesignation, Break}
-use Rattle.rules.specs.StepThree.{inStepThree, inForceIn, twoInARow, worseOfTwo, failureAfter, endsStepThree, withUnit, withoutRun, keepsStepThree, restarted, graded, qualifiesIn, afterUnit, afterRedesignation, afterBreak, next}
-use Rattle.rules.specs.Sheet.{Sheet, before, gradedAt}
-use Rattle.rules.specs.TwoInARow.{failsDesignated, unitFailsAt, unitFailsBefore, secondInARow}
+use Rattle.rules.specs.StepThree.{inStepThree, inForceIn, twoInARow, worseOfTwo, failureAfter, endsStepThree, withUnit, withoutRun, restarted, graded, qualifiesIn, afterUnit, afterRedesignation, afterBreak, next}
+use Rattle.rules.specs.Sheet.{Sheet, before, gradedAt, qualifiesAt}
+use Rattle.rules.specs.TwoInARow.{failsDesignated, failsLower, unitFailsAt, unitFailsBefore, secondInARow, unitFailsLowerAt, secondAtLower, lowerPlanStartsAt}
 use Rattle.rules.specs.declared.Previous.{Previous}
 use Rattle.rules.specs.declared.Previous.the-variants.{NoFailure, Failure}
 use Rattle.rules.specs.declared.Phase.{Phase}
 use Rattle.rules.specs.declared.Phase.the-variants.{Designated, StepThree}
 use Rattle.rules.specs.declared.State.{State}
-use Rattle.rules.proofs.Steps.{stateOf, unit-falls, unit-passes, unit-by, redesignation-restarts, redesignation-by, isFailure, two-in-a-row-is, with-unit-in-step-three}
+use Rattle.rules.proofs.Steps.{stateOf, unit-falls, unit-by, redesignation-restarts, redesignation-by, isFailure, two-in-a-row-is, failure-is, with-unit-in-step-three, without-run-in-step-three, keeps-is}
 
--- ---- what the state remembers of the record just before
+-- ---- failing in step 3 and outside it
 
--- outside step 3 a failure is remembered exactly if that record is a unit that failed the designated plan, in step 3 none is
-unfoldable Remembers : Phase → Previous → Bool → Type 0
-Remembers Designated previous failed = isFailure previous ≡ failed
-Remembers (StepThree lower run) previous failed = isFailure previous ≡ false
-
--- in step 3 no unit fails the designated plan
+-- in step 3 no unit fails the designated plan, and outside it none the lower plan
 fails-outside : (table : Table) (state : State) (entry : Entry) → inStepThree (state .phase) ≡ true → failsDesignated table state entry ≡ false
-unfolding failsDesignated
+unfolding failsDesignated isUnitThat
 fails-outside table state (UnitRecord unit) inside = rw inside
 fails-outside table state (Redesignation new) inside = refl
 fails-outside table state Break inside = refl
+
+fails-inside : (table : Table) (state : State) (entry : Entry) → inStepThree (state .phase) ≡ false → failsLower table state entry ≡ false
+unfolding failsLower isUnitThat
+fails-inside table state (UnitRecord unit) out = rw out
+fails-inside table state (Redesignation new) out = refl
+fails-inside table state Break out = refl
 
 ends-inside : (phase : Phase) (qualifies : Bool) → endsStepThree phase qualifies ≡ true → inStepThree phase ≡ true
 unfolding endsStepThree inStepThree
 ends-inside Designated qualifies ends = absurd (false≢true ends)
 ends-inside (StepThree lower run) qualifies ends = refl
 
-none-remembered : (phase : Phase) (failed : Bool) → (inStepThree phase ≡ false → failed ≡ false) → Remembers phase NoFailure failed
-unfolding Remembers isFailure inStepThree
-none-remembered Designated failed none = sym (none refl)
-none-remembered (StepThree lower run) failed none = refl
+-- ---- what the state remembers of the record just before
 
--- behind a unit at which step 3 neither begins nor ends
-failure-remembered : (table : Table) (designated : ℕ) (previous : Previous) (phase : Phase) (cusums : List Cusum) (unit : SampleUnit) →
-    let state = stateOf designated previous phase cusums in
-    Remembers (withUnit phase (qualifiesIn table state unit)) (failureAfter phase (graded table state unit .fails) (graded table state unit .grade))
-    (failsDesignated table state (UnitRecord unit))
-unfolding Remembers withUnit failureAfter failsDesignated inStepThree graded inForceIn isFailure
-failure-remembered table designated previous Designated cusums unit = go (unitFails table designated cusums (tenthsOf unit)) _
-  where
-    go : (fails : Bool) (grade : ℕ) → isFailure (failureAfter Designated fails grade) ≡ fails
-    go true grade = refl
-    go false grade = refl
-failure-remembered table designated previous (StepThree lower run) cusums unit = refl
+-- outside step 3 a failure of the designated plan, in it one of the lower plan that is not the second of two
+unfoldable Remembers : Phase → Previous → Bool → Bool → Type 0
+Remembers Designated previous failed failed-lower = isFailure previous ≡ failed
+Remembers (StepThree lower run) previous failed failed-lower = isFailure previous ≡ failed-lower
 
--- a state remembers whether the record just before failed
-abbrev Recalls : Bool → State → Type 0
-Recalls failed behind = Remembers (behind .phase) (behind .previous) failed
+abbrev Recalls : Bool → Bool → State → Type 0
+Recalls failed failed-lower behind = Remembers (behind .phase) (behind .previous) failed failed-lower
 
-after-unit-remembers : (table : Table) (state : State) (unit : SampleUnit)
-    → Recalls (failsDesignated table state (UnitRecord unit)) (afterUnit table state (graded table state unit) (qualifiesIn table state unit))
-unfolding restarted inStepThree
-after-unit-remembers table state unit =
-    unit-by table state (graded table state unit) (qualifiesIn table state unit) (Recalls (failsDesignated table state (UnitRecord unit)))
-    (λ ends. none-remembered Designated _ (λ e. fails-outside table state (UnitRecord unit) (ends-inside (state .phase) _ ends)))
-    (λ ends two. none-remembered (StepThree _ 0) _ (λ e. absurd (true≢false e)))
-    (λ ends two. failure-remembered table (state .designated) (state .previous) (state .phase) (state .cusums) unit)
+none-remembered : (phase : Phase) → Remembers phase NoFailure false false
+unfolding Remembers isFailure
+none-remembered Designated = refl
+none-remembered (StepThree lower run) = refl
 
-after-redesignation-remembers : (table : Table) (state : State) (new : ℕ) → Recalls false (afterRedesignation table state new)
+-- ---- a unit right behind that record
+
+module _ (table : Table) (designated : ℕ) (previous : Previous) (cusums : List Cusum) (failed failed-lower : Bool) (unit : SampleUnit) where
+  abbrev at : Phase → State
+  at phase = stateOf designated previous phase cusums
+
+  -- it is the second of two failures of the designated plan, or of the lower one
+  abbrev second : Phase → Bool
+  second phase = failed && failsDesignated table (at phase) (UnitRecord unit)
+
+  abbrev second-lower : Phase → Bool
+  second-lower phase = failed-lower && failsLower table (at phase) (UnitRecord unit)
+
+  -- a lower plan starts, as the state has it and by the two
+  starts-by : (phase : Phase) → Remembers phase previous failed failed-lower
+      → twoInARow previous (graded table (at phase) unit .fails) ≡ (second phase || second-lower phase)
+  unfolding Remembers failsDesignated failsLower isUnitThat graded inForceIn inStepThree
+  starts-by Designated remembers =
+      let fails = unitFails table designated cusums (tenthsOf unit) in
+      two-in-a-row-is previous fails
+      ∙ ap (λ (b : Bool). b && fails) remembers
+      ∙ sym (ap (λ (b : Bool). (failed && fails) || b) (and-false failed-lower) ∙ or-false (failed && fails))
+  starts-by (StepThree lower run) remembers =
+      let fails = unitFails table lower cusums (tenthsOf unit) in
+      two-in-a-row-is previous fails
+      ∙ ap (λ (b : Bool). b && fails) remembers
+      ∙ sym (ap (λ (b : Bool). b || (failed-lower && fails)) (and-false failed))
+
+  designated-fails : graded table (at Designated) unit .fails ≡ failsDesignated table (at Designated) (UnitRecord unit)
+  unfolding failsDesignated isUnitThat graded inForceIn inStepThree
+  designated-fails = refl
+
+  lower-fails : (lower run : ℕ) → graded table (at (StepThree lower run)) unit .fails ≡ failsLower table (at (StepThree lower run)) (UnitRecord unit)
+  unfolding failsLower isUnitThat graded inForceIn inStepThree
+  lower-fails lower run = refl
+
+  -- what is remembered of it
+  after-unit-by : (phase : Phase) → Remembers phase previous failed failed-lower
+      → Recalls (failsDesignated table (at phase) (UnitRecord unit)) (failsLower table (at phase) (UnitRecord unit) && not (second-lower phase))
+      (afterUnit table (at phase) (graded table (at phase) unit) (qualifiesIn table (at phase) unit))
+  after-unit-by Designated remembers =
+      unit-by table (at Designated) (graded table (at Designated) unit) (qualifiesIn table (at Designated) unit)
+      (Recalls (failsDesignated table (at Designated) (UnitRecord unit)) (failsLower table (at Designated) (UnitRecord unit) && not (second-lower Designated)))
+      (λ ends. absurd (false≢true (unfold endsStepThree in ends)))
+      (λ ends two. unfold restarted Remembers isFailure failsLower isUnitThat inStepThree in refl)
+      (λ ends one. unfold Remembers withUnit in failure-is (graded table (at Designated) unit .fails) (graded table (at Designated) unit .grade) ∙ designated-fails)
+  after-unit-by (StepThree lower run) remembers =
+      unit-by table inside (graded table inside unit) (qualifiesIn table inside unit)
+      (Recalls (failsDesignated table inside (UnitRecord unit)) (failsLower table inside (UnitRecord unit) && not (second-lower (StepThree lower run))))
+      (λ ends. unfold restarted Remembers isFailure failsDesignated isUnitThat inStepThree in refl)
+      (λ ends two. unfold restarted Remembers isFailure in
+      sym (ap (λ (b : Bool). failsLower table inside (UnitRecord unit) && not b) (sym by-second ∙ two) ∙ and-false (failsLower table inside (UnitRecord unit))))
+      (λ ends one. unfold Remembers withUnit in
+      failure-is (graded table inside unit .fails) (graded table inside unit .grade)
+      ∙ lower-fails lower run
+      ∙ sym (ap (λ (b : Bool). failsLower table inside (UnitRecord unit) && not b) (sym by-second ∙ one) ∙ and-true (failsLower table inside (UnitRecord unit))))
+    where
+      inside : State
+      inside = stateOf designated previous (StepThree lower run) cusums
+
+      by-second : twoInARow previous (graded table inside unit .fails) ≡ second-lower (StepThree lower run)
+      by-second =
+          starts-by (StepThree lower run) remembers
+          ∙ ap (λ (b : Bool). b || second-lower (StepThree lower run))
+          (ap (λ (b : Bool). failed && b) (fails-outside table inside (UnitRecord unit) (unfold inStepThree in refl)) ∙ and-false failed)
+
+after-redesignation-remembers : (table : Table) (state : State) (new : ℕ) → Recalls false false (afterRedesignation table state new)
 unfolding restarted
 after-redesignation-remembers table state new =
-    redesignation-by table state new (Recalls false) (λ keeps. none-remembered _ false (λ e. refl)) (λ other. none-remembered Designated false (λ e. refl))
+    redesignation-by table state new (Recalls false false) (λ keeps. none-remembered _) (λ other. none-remembered Designated)
 
-after-record : (table : Table) (state : State) (entry : Entry) → Recalls (failsDesignated table state entry) (next table state entry)
-unfolding next failsDesignated afterBreak restarted
-after-record table state (UnitRecord unit) = after-unit-remembers table state unit
-after-record table state (Redesignation new) = after-redesignation-remembers table state new
-after-record table state Break = none-remembered (withoutRun (state .phase)) false (λ e. refl)
+after-record : (table : Table) (state : State) (failed failed-lower : Bool) (entry : Entry) → Recalls failed failed-lower state
+    → Recalls (failsDesignated table state entry) (failsLower table state entry && not (failed-lower && failsLower table state entry)) (next table state entry)
+unfolding next afterBreak
+after-record table state failed failed-lower (UnitRecord unit) remembers =
+    after-unit-by table (state .designated) (state .previous) (state .cusums) failed failed-lower unit (state .phase) remembers
+after-record table state failed failed-lower (Redesignation new) remembers =
+    unfold failsDesignated failsLower isUnitThat in after-redesignation-remembers table state new
+after-record table state failed failed-lower Break remembers =
+    unfold failsDesignated failsLower isUnitThat restarted in none-remembered (withoutRun (state .phase))
 
--- the second unit, right behind one that failed or did not
-second-by : (table : Table) (designated : ℕ) (previous : Previous) (phase : Phase) (cusums : List Cusum) (failed : Bool) (unit : SampleUnit) →
-    let state = stateOf designated previous phase cusums in
-    Remembers phase previous failed
-    → twoInARow previous (graded table state unit .fails) ≡ (failed && failsDesignated table state (UnitRecord unit))
-unfolding Remembers failsDesignated graded inForceIn inStepThree
-second-by table designated previous Designated cusums failed unit remembers =
-    two-in-a-row-is previous _ ∙ ap (λ (b : Bool). b && unitFails table designated cusums (tenthsOf unit)) remembers
-second-by table designated previous (StepThree lower run) cusums failed unit remembers =
-    two-in-a-row-is previous _ ∙ ap (λ (b : Bool). b && unitFails table lower cusums (tenthsOf unit)) remembers ∙ sym (and-false failed)
-
--- outside step 3 nothing ends it
-ends-none : (phase : Phase) (qualifies : Bool) → inStepThree phase ≡ false → endsStepThree phase qualifies ≡ false
-unfolding inStepThree endsStepThree
-ends-none Designated qualifies out = refl
-ends-none (StepThree lower run) qualifies out = absurd (true≢false out)
-
-keeps-none : (phase : Phase) (new : ℕ) → inStepThree phase ≡ false → keepsStepThree phase new ≡ false
-unfolding inStepThree keepsStepThree
-keeps-none Designated new out = refl
-keeps-none (StepThree lower run) new out = absurd (true≢false out)
-
-out-without-run : (phase : Phase) → inStepThree phase ≡ false → inStepThree (withoutRun phase) ≡ false
-unfolding inStepThree withoutRun
-out-without-run Designated out = refl
-out-without-run (StepThree lower run) out = out
+-- what a unit leaves to be remembered is its own failure
+behind-failure : (table : Table) (state : State) (grading : Grading) (qualifies : Bool) → isFailure (afterUnit table state grading qualifies .previous) ≡ true
+    → afterUnit table state grading qualifies .previous ≡ Failure (grading .grade)
+unfolding restarted isFailure failureAfter
+behind-failure table state grading qualifies =
+    unit-by table state grading qualifies (λ (behind : State). isFailure (behind .previous) ≡ true → behind .previous ≡ Failure (grading .grade))
+    (λ ends none. absurd (false≢true none))
+    (λ ends two none. absurd (false≢true none))
+    (λ ends one failed. go (grading .fails) failed)
+  where
+    go : (fails : Bool) → isFailure (failureAfter fails (grading .grade)) ≡ true → failureAfter fails (grading .grade) ≡ Failure (grading .grade)
+    go true failed = refl
+    go false failed = absurd (false≢true failed)
 
 module _ (sheet : Sheet) where
-  remembered : (i : ℕ) → Remembers (before sheet i .phase) (before sheet i .previous) (unitFailsBefore sheet i)
-  unfolding before restarted unitFailsBefore unitFailsAt Remembers isFailure
-  remembered zero = refl
-  remembered (suc i) = after-record (sheet .table) (before sheet i) (sheet .entry i)
+  -- the record right before record i is a unit that fails the lower plan, and not the second of two
+  unfoldable failsLowerBefore : ℕ → Bool
+  failsLowerBefore zero = false
+  failsLowerBefore (suc i) = unitFailsLowerAt sheet i && not (secondAtLower sheet i)
+
+  second-lower-is : (i : ℕ) → secondAtLower sheet i ≡ (failsLowerBefore i && unitFailsLowerAt sheet i)
+  unfolding secondAtLower failsLowerBefore
+  second-lower-is zero = refl
+  second-lower-is (suc i) = refl
+
+  remembered : (i : ℕ) → Remembers (before sheet i .phase) (before sheet i .previous) (unitFailsBefore sheet i) (failsLowerBefore i)
+  unfolding before unitFailsBefore unitFailsAt failsLowerBefore unitFailsLowerAt
+  remembered zero = unfold restarted in none-remembered Designated
+  remembered (suc i) =
+      let state : State = before sheet i in
+      let lower : Bool = failsLower (sheet .table) state (sheet .entry i) in
+      subst⁻¹ (λ (second : Bool). Recalls (unitFailsAt sheet i) (lower && not second) (next (sheet .table) state (sheet .entry i)))
+      (second-lower-is i)
+      (after-record (sheet .table) state (unitFailsBefore sheet i) (failsLowerBefore i) (sheet .entry i) (remembered i))
+
+  -- ---- where a lower plan starts
+
+  -- two in a row, as the state has it and by their places
+  pub starts-is : (i : ℕ) (unit : SampleUnit) → sheet .entry i ≡ UnitRecord unit
+      → twoInARow (before sheet i .previous) (gradedAt sheet i unit .fails) ≡ lowerPlanStartsAt sheet i
+  unfolding lowerPlanStartsAt secondInARow unitFailsAt unitFailsLowerAt
+  starts-is i unit is-unit =
+      let state : State = before sheet i in
+      starts-by (sheet .table) (state .designated) (state .previous) (state .cusums) (unitFailsBefore sheet i) (failsLowerBefore i) unit (state .phase) (remembered i)
+      ∙ ap (λ (entry : Entry). (unitFailsBefore sheet i && failsDesignated (sheet .table) state entry)
+      || (failsLowerBefore i && failsLower (sheet .table) state entry)) (sym is-unit)
+      ∙ ap (λ (b : Bool). secondInARow sheet i || b) (sym (second-lower-is i))
+
+  -- outside step 3 that is the second failure of the designated plan, in it of the lower one
+  pub starts-outside : (i : ℕ) → inStepThree (before sheet i .phase) ≡ false → lowerPlanStartsAt sheet i ≡ secondInARow sheet i
+  unfolding lowerPlanStartsAt unitFailsLowerAt
+  starts-outside i out =
+      ap (λ (b : Bool). secondInARow sheet i || b)
+      (second-lower-is i
+      ∙ ap (λ (b : Bool). failsLowerBefore i && b) (fails-inside (sheet .table) (before sheet i) (sheet .entry i) out)
+      ∙ and-false (failsLowerBefore i))
+      ∙ or-false (secondInARow sheet i)
+
+  pub starts-inside : (i : ℕ) → inStepThree (before sheet i .phase) ≡ true → lowerPlanStartsAt sheet i ≡ secondAtLower sheet i
+  unfolding lowerPlanStartsAt secondInARow unitFailsAt
+  starts-inside i inside =
+      ap (λ (b : Bool). b || secondAtLower sheet i)
+      (ap (λ (b : Bool). unitFailsBefore sheet i && b) (fails-outside (sheet .table) (before sheet i) (sheet .entry i) inside)
+      ∙ and-false (unitFailsBefore sheet i))
+
+  -- a record that is no unit is no second
+  pub not-second : (i : ℕ) (entry : Entry) → sheet .entry i ≡ entry → failsDesignated (sheet .table) (before sheet i) entry ≡ false → secondInARow sheet i ≡ false
+  unfolding secondInARow unitFailsAt
+  not-second i entry is-entry none =
+      ap (λ (b : Bool). unitFailsBefore sheet i && b) (ap (failsDesignated (sheet .table) (before sheet i)) is-entry ∙ none) ∙ and-false (unitFailsBefore sheet i)
 
   -- ---- where step 3 begins
 
-  -- two in a row, as the state has it and by their places
-  pub second-is : (i : ℕ) (unit : SampleUnit) → sheet .entry i ≡ UnitRecord unit
-      → twoInARow (before sheet i .previous) (gradedAt sheet i unit .fails) ≡ secondInARow sheet i
-  unfolding secondInARow unitFailsAt
-  second-is i unit is-unit =
-      let state : State = before sheet i in
-      second-by (sheet .table) (state .designated) (state .previous) (state .phase) (state .cusums) (unitFailsBefore sheet i) unit (remembered i)
-      ∙ ap (λ (entry : Entry). unitFailsBefore sheet i && failsDesignated (sheet .table) state entry) (sym is-unit)
-
   begins-by : (i : ℕ) (entry : Entry) → sheet .entry i ≡ entry → inStepThree (before sheet i .phase) ≡ false
-      → inStepThree (next (sheet .table) (before sheet i) entry .phase) ≡ (unitFailsBefore sheet i && failsDesignated (sheet .table) (before sheet i) entry)
-  unfolding next afterBreak restarted failsDesignated inStepThree secondInARow unitFailsAt
-  begins-by i (UnitRecord unit) is-entry out = go (secondInARow sheet i) refl
+      → inStepThree (next (sheet .table) (before sheet i) entry .phase) ≡ secondInARow sheet i
+  unfolding next afterBreak restarted inStepThree failsDesignated isUnitThat
+  begins-by i (UnitRecord unit) is-entry out =
+      let state : State = before sheet i in
+      unit-by (sheet .table) state (graded (sheet .table) state unit) (qualifiesIn (sheet .table) state unit)
+      (λ (behind : State). inStepThree (behind .phase) ≡ secondInARow sheet i)
+      (λ ends. absurd (true≢false (sym (ends-inside (state .phase) _ ends) ∙ out)))
+      (λ ends two. sym (sym (by-place unit is-entry) ∙ two))
+      (λ ends one. with-unit-in-step-three (state .phase) _ ∙ out ∙ sym (sym (by-place unit is-entry) ∙ one))
     where
-      state : State
-      state = before sheet i
-
-      going-on : endsStepThree (state .phase) (qualifiesIn (sheet .table) state unit) ≡ false
-      going-on = ends-none (state .phase) (qualifiesIn (sheet .table) state unit) out
-
-      by-place : secondInARow sheet i ≡ (unitFailsBefore sheet i && failsDesignated (sheet .table) state (UnitRecord unit))
-      by-place = ap (λ (entry : Entry). unitFailsBefore sheet i && failsDesignated (sheet .table) state entry) is-entry
-
-      go : (second : Bool) → secondInARow sheet i ≡ second
-          → inStepThree (afterUnit (sheet .table) state (graded (sheet .table) state unit) (qualifiesIn (sheet .table) state unit) .phase)
-          ≡ (unitFailsBefore sheet i && failsDesignated (sheet .table) state (UnitRecord unit))
-      go true second =
-          rw (unit-falls (sheet .table) state (graded (sheet .table) state unit) (qualifiesIn (sheet .table) state unit) going-on
-          (second-is i unit is-entry ∙ second))
-          (sym second ∙ by-place)
-      go false second =
-          rw (unit-passes (sheet .table) state (graded (sheet .table) state unit) (qualifiesIn (sheet .table) state unit) going-on
-          (second-is i unit is-entry ∙ second))
-          (with-unit-in-step-three (state .phase) _ ∙ out ∙ sym second ∙ by-place)
+      by-place : (unit : SampleUnit) → sheet .entry i ≡ UnitRecord unit
+          → twoInARow (before sheet i .previous) (gradedAt sheet i unit .fails) ≡ secondInARow sheet i
+      by-place unit is-unit = starts-is i unit is-unit ∙ starts-outside i out
   begins-by i (Redesignation new) is-entry out =
-      rw (redesignation-restarts (sheet .table) (before sheet i) new (keeps-none (before sheet i .phase) new out)) (sym (and-false (unitFailsBefore sheet i)))
-  begins-by i Break is-entry out = out-without-run (before sheet i .phase) out ∙ sym (and-false (unitFailsBefore sheet i))
+      rw (redesignation-restarts (sheet .table) (before sheet i) new (keeps-is (before sheet i .designated) (before sheet i .phase) new ∙ rw out))
+      (sym (not-second i (Redesignation new) is-entry refl))
+  begins-by i Break is-entry out =
+      without-run-in-step-three (before sheet i .phase) ∙ out ∙ sym (not-second i Break is-entry refl)
 
   -- outside step 3 it begins behind a record exactly if that is the second of two units in a row that fail the designated plan
   pub begins-at-second : (i : ℕ) → inStepThree (before sheet i .phase) ≡ false
       → inStepThree (before sheet (suc i) .phase) ≡ secondInARow sheet i
-  unfolding before secondInARow unitFailsAt
+  unfolding before
   begins-at-second i out = begins-by i (sheet .entry i) refl out
 
   -- ---- the lower grade
 
-  -- a unit that fails the designated plan is outside step 3
-  pub outside-if-fails : (i : ℕ) → unitFailsAt sheet i ≡ true → inStepThree (before sheet i .phase) ≡ false
-  unfolding unitFailsAt
-  outside-if-fails i fails = go (inStepThree (before sheet i .phase)) refl
-    where
-      go : (inside : Bool) → inStepThree (before sheet i .phase) ≡ inside → inside ≡ false
-      go false e = refl
-      go true e = absurd (false≢true (sym (fails-outside (sheet .table) (before sheet i) (sheet .entry i) e) ∙ fails))
-
-  failure-kept : (designated : ℕ) (previous : Previous) (phase : Phase) (cusums : List Cusum) (unit : SampleUnit) →
-      let state = stateOf designated previous phase cusums in
-      failsDesignated (sheet .table) state (UnitRecord unit) ≡ true
-      → failureAfter phase (graded (sheet .table) state unit .fails) (graded (sheet .table) state unit .grade)
-      ≡ Failure (graded (sheet .table) state unit .grade)
-  unfolding failureAfter failsDesignated graded inForceIn inStepThree
-  failure-kept designated previous Designated cusums unit fails = rw fails
-  failure-kept designated previous (StepThree lower run) cusums unit fails = absurd (false≢true fails)
-
-  -- right behind a unit that fails, still outside step 3, its defect grade is remembered
-  first-remembered : (i : ℕ) (unit : SampleUnit) → sheet .entry i ≡ UnitRecord unit → unitFailsAt sheet i ≡ true
-      → inStepThree (before sheet (suc i) .phase) ≡ false → before sheet (suc i) .previous ≡ Failure (gradedAt sheet i unit .grade)
-  unfolding before next unitFailsAt
-  first-remembered i unit is-unit fails out =
+  -- right behind a unit, where a lower plan starts behind the next one, that unit's defect grade is remembered
+  first-remembered : (i : ℕ) (first second : SampleUnit) → sheet .entry i ≡ UnitRecord first → sheet .entry (suc i) ≡ UnitRecord second
+      → lowerPlanStartsAt sheet (suc i) ≡ true → before sheet (suc i) .previous ≡ Failure (gradedAt sheet i first .grade)
+  unfolding before next
+  first-remembered i first second is-first is-second starts =
       let state : State = before sheet i in
-      let outside = outside-if-fails i fails in
-      let one : twoInARow (state .previous) (gradedAt sheet i unit .fails) ≡ false
-      = second-is i unit is-unit ∙ sym (begins-at-second i outside) ∙ out in
-      let passes = unit-passes (sheet .table) state (gradedAt sheet i unit) (qualifiesIn (sheet .table) state unit)
-      (ends-none (state .phase) (qualifiesIn (sheet .table) state unit) outside) one in
-      ap (λ (entry : Entry). next (sheet .table) state entry .previous) is-unit
-      ∙ ap (λ (behind : State). behind .previous) passes
-      ∙ failure-kept (state .designated) (state .previous) (state .phase) (state .cusums) unit
-      (sym (ap (failsDesignated (sheet .table) state) is-unit) ∙ fails)
+      let behind : State = before sheet (suc i) in
+      let two : (isFailure (behind .previous) && gradedAt sheet (suc i) second .fails) ≡ true
+      = sym (two-in-a-row-is (behind .previous) _) ∙ starts-is (suc i) second is-second ∙ starts in
+      let failed : isFailure (behind .previous) ≡ true = and-both (isFailure (behind .previous)) _ two .0 in
+      let same : before sheet (suc i) ≡ afterUnit (sheet .table) state (gradedAt sheet i first) (qualifiesAt sheet i first)
+      = ap (next (sheet .table) state) is-first in
+      ap (λ (behind : State). behind .previous) same
+      ∙ behind-failure (sheet .table) state (gradedAt sheet i first) (qualifiesAt sheet i first)
+      (sym (ap (λ (behind : State). isFailure (behind .previous)) same) ∙ failed)
 
-  -- behind such a second unit the phase is step 3 at the worse of the two defect grades, with no run
+  -- where a lower plan starts, and step 3 does not end, the phase is step 3 at the worse of the two defect grades, with no run
   pub lower-is-worse : (i : ℕ) (first second : SampleUnit) → sheet .entry i ≡ UnitRecord first → sheet .entry (suc i) ≡ UnitRecord second
-      → secondInARow sheet (suc i) ≡ true
+      → lowerPlanStartsAt sheet (suc i) ≡ true → endsStepThree (before sheet (suc i) .phase) (qualifiesAt sheet (suc i) second) ≡ false
       → before sheet (suc (suc i)) .phase ≡ StepThree (worse (gradedAt sheet i first .grade) (gradedAt sheet (suc i) second .grade)) 0
-  unfolding secondInARow unitFailsBefore before next restarted worseOfTwo
-  lower-is-worse i first second is-first is-second in-a-row =
-      let (one, two) = and-both (unitFailsAt sheet i) (unitFailsAt sheet (suc i)) in-a-row in
+  unfolding before next restarted worseOfTwo
+  lower-is-worse i first second is-first is-second starts going-on =
       let state : State = before sheet (suc i) in
-      let outside : inStepThree (state .phase) ≡ false = outside-if-fails (suc i) two in
-      let falls = unit-falls (sheet .table) state (gradedAt sheet (suc i) second) (qualifiesIn (sheet .table) state second)
-      (ends-none (state .phase) (qualifiesIn (sheet .table) state second) outside) (second-is (suc i) second is-second ∙ in-a-row) in
+      let falls = unit-falls (sheet .table) state (gradedAt sheet (suc i) second) (qualifiesAt sheet (suc i) second) going-on
+      (starts-is (suc i) second is-second ∙ starts) in
       ap (λ (entry : Entry). next (sheet .table) state entry .phase) is-second
       ∙ ap (λ (behind : State). behind .phase) falls
       ∙ ap (λ (previous : Previous). StepThree (worseOfTwo previous (gradedAt sheet (suc i) second .grade)) 0)
-      (first-remembered i first is-first one outside)
+      (first-remembered i first second is-first is-second starts)

@@ -6,19 +6,18 @@ use mathlib.Core.List.{List, [], _∷_, _++_}
 use lib.Dec.{ltb}
 use Rattle.units.specs.Words.{Table, tenthsOf, countTenths}
 use Rattle.units.specs.Unit.{classFails}
+use Rattle.units.specs.Records.{isUnitThat}
 use Rattle.units.specs.declared.Entry.{Entry}
 use Rattle.units.specs.declared.Entry.the-variants.{UnitRecord, Redesignation, Break}
 use Rattle.rules.specs.StepThree.{inStepThree, inForce}
 use Rattle.rules.specs.Sheet.{Sheet, before, inForceAt}
-use Rattle.rules.specs.TwoInARow.{secondInARow}
+use Rattle.rules.specs.TwoInARow.{lowerPlanStartsAt}
 use Rattle.rules.specs.ThreeInARow.{thirdInARow}
 use Rattle.rules.specs.declared.State.{State}
 
 -- a class fails at a record by rule 2
 unfoldable pub failsAt : Table → ℕ → State → Entry → Bool
-failsAt table class state (UnitRecord unit) = classFails table (inForce state) (state .cusums) (tenthsOf unit) class
-failsAt table class state (Redesignation new) = false
-failsAt table class state Break = false
+failsAt table class state = isUnitThat (λ unit. classFails table (inForce state) (state .cusums) (tenthsOf unit) class)
 
 -- the count of a class at a record, in tenths, if that is a unit
 unfoldable pub tenthsAt : ℕ → Entry → List ℕ
@@ -27,11 +26,12 @@ tenthsAt class (Redesignation new) = []
 tenthsAt class Break = []
 
 module _ (sheet : Sheet) where
-  -- the restarts are a break, the start of step 3, its end, and every redesignation but one that keeps the CuSums, by their places:
-  -- step 3 starts behind the second of two units in a row that fail the designated plan, it ends at the third of three in a row that
-  -- qualify, and a redesignation keeps the CuSums in step 3 if its new grade is better than the lower one
+  -- the restarts are a break, the start of step 3, that of another lower plan, the end of step 3, and every redesignation but one that
+  -- keeps the CuSums, by their places: a lower plan starts behind the second of two units in a row that fail the plan in force, step 3
+  -- ends at the third of three in a row that qualify, and a redesignation keeps the CuSums in step 3 if its new grade is better than
+  -- the lower one
   unfoldable pub restartBy : ℕ → Entry → Bool
-  restartBy j (UnitRecord unit) = secondInARow sheet j || thirdInARow sheet j
+  restartBy j (UnitRecord unit) = lowerPlanStartsAt sheet j || thirdInARow sheet j
   restartBy j (Redesignation new) = not (inStepThree (before sheet j .phase) && ltb new (inForceAt sheet j))
   restartBy j Break = true
 

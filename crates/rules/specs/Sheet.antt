@@ -48,13 +48,13 @@ module _ (sheet : Sheet) where
   abbrev pub qualifiesAt : ℕ → SampleUnit → Bool
   qualifiesAt i unit = qualifiesIn (sheet .table) (before i) unit
 
-  -- step 3 ends at record i
+  -- record i is the unit that ends step 3
   unfoldable pub stepThreeEndsAt : ℕ → Bool
   stepThreeEndsAt i = recordEndsStepThree (sheet .table) (before i) (sheet .entry i)
 
   -- record i is one of the three qualifying units in a row at whose last step 3 ends: that last one is record i, i + 1 or i + 2, as
-  -- the three stand side by side, since a break, a redesignation and a unit that does not qualify set the run to none (laws
-  -- `finished-run`, `in-run` and `run-in`)
+  -- the three stand side by side, since a break, a redesignation, a unit that does not qualify and the start of a lower plan set the
+  -- run to none (laws `finished-run`, `in-run` and `run-in`)
   unfoldable pub inFinishedRun : ℕ → Bool
   inFinishedRun i = stepThreeEndsAt i || (stepThreeEndsAt (i + 1) || stepThreeEndsAt (i + 2))
 

@@ -5,6 +5,7 @@ use lib.Dec.{ltb, leb}
 use Rattle.units.specs.Conditions.{pick}
 use Rattle.units.specs.Words.{worse, Table, rowOf, tenthsOf}
 use Rattle.units.specs.Unit.{starting, gradingOf, qualifies}
+use Rattle.units.specs.Records.{isUnitThat}
 use Rattle.units.specs.declared.SampleUnit.{SampleUnit}
 use Rattle.units.specs.declared.Grading.{Grading}
 use Rattle.units.specs.declared.Entry.{Entry}
@@ -41,11 +42,10 @@ unfoldable pub worseOfTwo : Previous → ℕ → ℕ
 worseOfTwo NoFailure grade = grade
 worseOfTwo (Failure earlier) grade = worse earlier grade
 
--- what the next unit finds just before it: a unit that failed the designated plan, and its defect grade
-unfoldable pub failureAfter : Phase → Bool → ℕ → Previous
-failureAfter Designated true grade = Failure grade
-failureAfter Designated false grade = NoFailure
-failureAfter (StepThree lower run) fails grade = NoFailure
+-- what the next unit finds just before it: a unit that failed the plan in force, and its defect grade; one that meets leaves no failure
+unfoldable pub failureAfter : Bool → ℕ → Previous
+failureAfter true grade = Failure grade
+failureAfter false grade = NoFailure
 
 -- ---- the run of qualifying units
 
@@ -96,15 +96,16 @@ module _ (table : Table) where
   qualifiesIn state unit = qualifiesWith state unit (graded state unit)
 
   -- a unit, by its grading and whether it qualifies: at the third qualifying one in a row step 3 ends, and the next unit starts the
-  -- designated plan at S; behind the second of two in a row that fail the designated plan, the plan in force is that of the worse of
-  -- the two defect grades, every class at its S
+  -- designated plan at S; behind the second of two in a row that fail the plan in force, be it the designated or a lower one, that of
+  -- the worse of the two defect grades is in force, every class at its S and the run of qualifying units none. A restart forgets a
+  -- failure, so that both come after the latest start of a lower plan
   unfoldable pub afterUnit : State → Grading → Bool → State
   afterUnit state grading qualifies =
       pick (endsStepThree (state .phase) qualifies) (restarted (state .designated) Designated)
       (pick (twoInARow (state .previous) (grading .fails)) (restarted (state .designated) (StepThree (worseOfTwo (state .previous) (grading .grade)) 0))
       (record {
         designated = state .designated;
-        previous = failureAfter (state .phase) (grading .fails) (grading .grade);
+        previous = failureAfter (grading .fails) (grading .grade);
         phase = withUnit (state .phase) qualifies;
         cusums = grading .cusums;
       }))
@@ -126,8 +127,6 @@ module _ (table : Table) where
   next state (Redesignation new) = afterRedesignation state new
   next state Break = afterBreak state
 
-  -- step 3 ends at this record
+  -- this record is a unit that ends step 3, the third in a row that qualifies
   unfoldable pub recordEndsStepThree : State → Entry → Bool
-  recordEndsStepThree state (UnitRecord unit) = endsStepThree (state .phase) (qualifiesIn state unit)
-  recordEndsStepThree state (Redesignation new) = false
-  recordEndsStepThree state Break = false
+  recordEndsStepThree state = isUnitThat (λ unit. endsStepThree (state .phase) (qualifiesIn state unit))

@@ -2,17 +2,15 @@
 use Prim.Native.Nat.{ℕ, zero, suc}
 use mathlib.Core.Bool.{Bool, false, _&&_}
 use Rattle.units.specs.Words.{Table}
+use Rattle.units.specs.Records.{isUnitThat}
 use Rattle.units.specs.declared.Entry.{Entry}
-use Rattle.units.specs.declared.Entry.the-variants.{UnitRecord, Redesignation, Break}
 use Rattle.rules.specs.StepThree.{qualifiesIn}
 use Rattle.rules.specs.Sheet.{Sheet, before}
 use Rattle.rules.specs.declared.State.{State}
 
 -- a record is a unit in step 3 that qualifies
 unfoldable pub recordQualifies : Table → State → Entry → Bool
-recordQualifies table state (UnitRecord unit) = qualifiesIn table state unit
-recordQualifies table state (Redesignation new) = false
-recordQualifies table state Break = false
+recordQualifies table state = isUnitThat (qualifiesIn table state)
 
 module _ (sheet : Sheet) where
   -- record i is such a unit

@@ -13,7 +13,7 @@ use units::worse_of;
 // The standing of a recovered portion.
 pub const RECOVERED: u8 = 3;
 
-// Whether the unit just before failed the designated plan, with its defect grade; a unit that meets, a break, a redesignation and a
+// Whether the unit just before failed the plan in force, with its defect grade; a unit that meets, a break, a redesignation and a
 // restart forget it.
 pub enum Previous {
     NoFailure,
@@ -35,6 +35,16 @@ pub struct State {
 }
 
 impl Previous {
+    // What the next unit finds just before it.
+    fn failure_after(fails: bool, grade: u8) -> Previous
+        ensures { λ r. ⌜ r ≡ failureAfter fails grade ⌝ }
+    {
+        if fails {
+            return Previous::Failure(grade);
+        }
+        Previous::NoFailure
+    }
+
     // Whether a unit is the second of two in a row that fail.
     fn two_in_a_row(self, fails: bool) -> bool
         ensures { λ r. ⌜ r ≡ twoInARow self fails ⌝ }
@@ -67,21 +77,6 @@ impl Phase {
         }
     }
 
-    // What the next unit finds just before it.
-    fn failure_after(self, fails: bool, grade: u8) -> Previous
-        ensures { λ r. ⌜ r ≡ failureAfter self fails grade ⌝ }
-    {
-        match self {
-            Phase::Designated => {
-                if fails {
-                    return Previous::Failure(grade);
-                }
-                Previous::NoFailure
-            }
-            Phase::StepThree { lower: _, run: _ } => Previous::NoFailure,
-        }
-    }
-
     // Whether step 3 ends at a unit.
     pub fn ends_step_three(self, qualifies: bool) -> bool
         ensures { λ r. ⌜ r ≡ endsStepThree self qualifies ⌝ }
@@ -92,7 +87,7 @@ impl Phase {
         }
     }
 
-    // Behind a unit at which step 3 neither begins nor ends.
+    // Behind a unit at which no lower plan starts and step 3 does not end.
     fn with_unit(self, qualifies: bool) -> Phase
         requires { ⌜ endsStepThree self qualifies ≡ false ⌝ }
         ensures { λ r. ⌜ r ≡ withUnit self qualifies ⌝ }
@@ -208,7 +203,7 @@ impl State {
         let cusums = grading.cusums;
         State {
             designated: self.designated,
-            previous: phase.failure_after(grading.fails, grading.grade),
+            previous: Previous::failure_after(grading.fails, grading.grade),
             phase: phase.with_unit(qualifies),
             cusums: cusums,
         }

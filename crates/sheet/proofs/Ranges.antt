@@ -1,9 +1,9 @@
--- The ranges of an accepted sheet: S and L, designated and prerequisite grades, counts, the number of units.
+-- The ranges of an accepted sheet: S, T and L, designated and prerequisite grades, counts, the number of units.
 -- From the grounds that are not met, one by one; the number of units by induction on the records.
 use Prim.Native.Nat.{ℕ, zero, suc, _+_, _*_, _≤_, _<_}
 use mathlib.Core.Path.{_≡_, _∙_, subst}
 use mathlib.Core.Logic.{⊎-elim}
-use mathlib.Core.Bool.{false}
+use mathlib.Core.Bool.{false, _||_}
 use mathlib.Core.List.{List}
 use native.Mathlib.Omega.{arith}
 use lib.Dec.{ltb, lit<}
@@ -12,6 +12,7 @@ use borrow.Author.Tests.{ltb-false, leb-false}
 use Rattle.cusum.specs.Counts.{tenTimes}
 use Rattle.cusum.specs.declared.PlanNumbers.{PlanNumbers}
 use Rattle.encoding.specs.Bytes.{byte}
+use Rattle.units.specs.Conditions.{any}
 use Rattle.units.specs.Words.{substandard, classes, cellOf, numbersOf, tableOf, tenthsOf, countTenths}
 use Rattle.units.specs.declared.Plan.{Plan}
 use Rattle.units.specs.declared.SampleUnit.{SampleUnit}
@@ -21,7 +22,7 @@ use Rattle.layout.specs.declared.Mark.{Mark}
 use Rattle.layout.specs.declared.Mark.the-variants.{UnitMark, RedesignationMark}
 use Rattle.layout.proofs.Offsets.{inside-unit, inside-redesignation}
 use Rattle.layout.proofs.Units.{unit-or-not, entry-unit, unit-mark, redesignation-mark, next-units, same-units}
-use Rattle.sheet.specs.Refusals.{largestPlanNumber, largestCount, mostUnits, tooLarge, startAboveLimit, anyNumbers, tableRefusal, planRefusal, countTooLarge, unitRefusal, redesignationRefusal, refusalBy, designatedBefore, recordRefusal}
+use Rattle.sheet.specs.Refusals.{largestPlanNumber, largestCount, mostUnits, tooLarge, startAboveLimit, smaller, smallerInClass, anyNumbers, tableRefusal, planRefusal, countTooLarge, unitRefusal, redesignationRefusal, refusalBy, designatedBefore, recordRefusal}
 use Rattle.units.proofs.Lists.{in-none}
 use Rattle.units.proofs.Bounds.{count-le-all}
 use Rattle.units.proofs.Classes.{every-numbers}
@@ -40,6 +41,21 @@ cell-passed plan e cell h =
     let small = or-second (ltb largestPlanNumber (cellOf plan cell .start)) _ (in-none tableSize _ large cell h) in (
       ltb-false largestPlanNumber (cellOf plan cell .limit) (or-second (ltb largestPlanNumber (cellOf plan cell .tolerance)) _ small),
       ltb-false (cellOf plan cell .limit) (cellOf plan cell .start) (in-none tableSize _ above cell h),
+    )
+
+-- in a class T is not smaller at B than at A, nor at C than at B
+tolerances-passed : (plan : Plan) → tableRefusal plan ≡ 0 → (class : ℕ) → class < length classes →
+    let tolerance : ℕ → ℕ = λ grade. numbersOf (tableOf plan) grade class .tolerance in
+    (tolerance 0 ≤ tolerance 1) × (tolerance 1 ≤ tolerance 2)
+unfolding tableRefusal smallerInClass smaller
+tolerances-passed plan e class known =
+    let numbers : ℕ → PlanNumbers = λ grade. numbersOf (tableOf plan) grade class in
+    let (large, rest) = ground-passed (anyNumbers tooLarge plan) 3 _ (lit< tt) e in
+    let (above, rest2) = ground-passed (anyNumbers startAboveLimit plan) 4 _ (lit< tt) rest in
+    let (falls, rest3) = ground-passed (any (smallerInClass plan) classes) 5 _ (lit< tt) rest2 in
+    let here : (smaller (numbers 0) (numbers 1) || smaller (numbers 1) (numbers 2)) ≡ false = in-none (length classes) _ falls class known in (
+      ltb-false (numbers 1 .tolerance) (numbers 0 .tolerance) (or-first _ _ (or-first (smaller (numbers 0) (numbers 1)) _ here)),
+      ltb-false (numbers 2 .tolerance) (numbers 1 .tolerance) (or-first _ _ (or-second (smaller (numbers 0) (numbers 1)) _ here)),
     )
 
 -- no count is too large
@@ -111,6 +127,26 @@ module _ (bytes : List ℕ) (n : ℕ) (facts : Facts bytes n) where
   start-le-limit =
       every-numbers (planOf bytes) (λ (numbers : PlanNumbers). numbers .start ≤ numbers .limit) (omega arith)
       (λ grade class g k. cell-passed (planOf bytes) (plan-passed .1) (length classes * grade + class) (omega arith) .1)
+
+  -- T is not smaller at a lower grade
+  pub tolerance-rises : (better lower class : ℕ) → better ≤ lower → lower < substandard → class < length classes
+      → numbersOf (tableOf (planOf bytes)) better class .tolerance ≤ numbersOf (tableOf (planOf bytes)) lower class .tolerance
+  tolerance-rises better lower class order planned known = go better lower order planned (tolerances-passed (planOf bytes) (plan-passed .1) class known)
+    where
+      tolerance : ℕ → ℕ
+      tolerance grade = numbersOf (tableOf (planOf bytes)) grade class .tolerance
+
+      go : (better lower : ℕ) → better ≤ lower → lower < substandard → (tolerance 0 ≤ tolerance 1) × (tolerance 1 ≤ tolerance 2) → tolerance better ≤ tolerance lower
+      go zero zero order planned (ab, bc) = omega arith
+      go zero (suc zero) order planned (ab, bc) = ab
+      go zero (suc (suc zero)) order planned (ab, bc) = omega (arith, ab, bc)
+      go (suc zero) (suc zero) order planned (ab, bc) = omega arith
+      go (suc zero) (suc (suc zero)) order planned (ab, bc) = bc
+      go (suc (suc zero)) (suc (suc zero)) order planned (ab, bc) = omega arith
+      go (suc better) zero order planned (ab, bc) = absurd (omega arith)
+      go (suc (suc better)) (suc zero) order planned (ab, bc) = absurd (omega arith)
+      go (suc (suc (suc better))) (suc (suc zero)) order planned (ab, bc) = absurd (omega arith)
+      go better (suc (suc (suc lower))) order planned (ab, bc) = absurd (omega arith)
 
   -- the grounds of a record with this mark, none of which is met
   passed-as : (m : Mark) (i : ℕ) → i < n → mark bytes i ≡ m

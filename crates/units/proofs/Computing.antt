@@ -3,11 +3,11 @@ use Prim.Native.Nat.{ℕ}
 use Rattle.units.specs.Conditions.{any, all, pick}
 use Rattle.units.specs.Words.{hasPlan}
 use Rattle.units.specs.Unit.{starting, classFails, classCusum, newCusums, classOvershoot, newOvershoots, unitFails, noneAbove, admits, bestLower, defectGrade, portionGradeOf, allZero, withinTolerance, qualifies, steppedIn}
-use Rattle.units.specs.Records.{unitsOf, unitsAmong, designatedBy, portionGradeWith, worstBefore}
+use Rattle.units.specs.Records.{isUnitThat, unitsOf, unitsAmong, designatedBy, portionGradeWith, worstBefore}
 use Rattle.cusum.proofs.Computing as cusum
 
 unfoldable pub computing : ℕ
 unfolding cusum.computing any all pick hasPlan starting classFails classCusum newCusums classOvershoot newOvershoots unitFails noneAbove
-    admits bestLower defectGrade portionGradeOf allZero withinTolerance qualifies steppedIn unitsOf unitsAmong designatedBy portionGradeWith
-    worstBefore
+    admits bestLower defectGrade portionGradeOf allZero withinTolerance qualifies steppedIn isUnitThat unitsOf unitsAmong designatedBy
+    portionGradeWith worstBefore
 computing = 0

@@ -4,6 +4,7 @@ pub mod Classes
 pub mod Monotone
 pub mod Bounds
 pub mod BestLower
+pub mod Failing
 pub mod Records
 pub mod Planned
 pub mod Computing

@@ -1,9 +1,9 @@
--- Laws of the records of a sheet by number: how many units are among them with one record more, and which record a unit is that has so
+-- Laws of the records of a sheet: which are units of which something holds; and by number: how many units are among them with one record more, and which record a unit is that has so
 -- many before it. By induction on the records.
 use Prim.Native.Nat.{ℕ, zero, suc, _+_, _≤_, _<_}
 use mathlib.Core.Path.{_≡_, refl, ap}
 use mathlib.Core.Logic.{_⊎_, inl, inr}
-use mathlib.Core.Bool.{Bool, true, false}
+use mathlib.Core.Bool.{Bool, true, false, false≢true}
 use native.Mathlib.Nat.{eq-or-lt-of-le}
 use native.Mathlib.Omega.{arith}
 use lib.Dec.{ltb}
@@ -11,7 +11,15 @@ use borrow.Author.Tests.{ltb-true, ltb-false}
 use Rattle.units.specs.declared.SampleUnit.{SampleUnit}
 use Rattle.units.specs.declared.Entry.{Entry}
 use Rattle.units.specs.declared.Entry.the-variants.{UnitRecord, Redesignation, Break}
-use Rattle.units.specs.Records.{unitsOf, unitsAmong}
+use Rattle.units.specs.Records.{isUnitThat, unitsOf, unitsAmong}
+
+-- a record that is such a unit
+pub unit-that : (holds : SampleUnit → Bool) (entry : Entry) → isUnitThat holds entry ≡ true
+    → (unit : SampleUnit) × (entry ≡ UnitRecord unit) × (holds unit ≡ true)
+unfolding isUnitThat
+unit-that holds (UnitRecord unit) here = (unit, refl, here)
+unit-that holds (Redesignation new) here = absurd (false≢true here)
+unit-that holds Break here = absurd (false≢true here)
 
 module _ (entry : ℕ → Entry) where
   pub units-next : (n : ℕ) (unit : SampleUnit) → entry n ≡ UnitRecord unit → unitsAmong entry (suc n) ≡ unitsAmong entry n + 1

@@ -1,12 +1,18 @@
 -- The records of a sheet behind its plan, by their number: the units among them, the grade designated behind a record, and the code
 -- grade, where the portion grade of each unit is given.
 use Prim.Native.Nat.{ℕ, zero, suc, _+_}
-use mathlib.Core.Bool.{cond}
+use mathlib.Core.Bool.{Bool, false, cond}
 use lib.Dec.{eqb}
 use Rattle.units.specs.Words.{worse}
 use Rattle.units.specs.declared.SampleUnit.{SampleUnit}
 use Rattle.units.specs.declared.Entry.{Entry}
 use Rattle.units.specs.declared.Entry.the-variants.{UnitRecord, Redesignation, Break}
+
+-- a record is a sample unit of which this holds
+unfoldable pub isUnitThat : (SampleUnit → Bool) → Entry → Bool
+isUnitThat holds (UnitRecord unit) = holds unit
+isUnitThat holds (Redesignation new) = false
+isUnitThat holds Break = false
 
 -- how many sample units a record is: one or none
 unfoldable pub unitsOf : Entry → ℕ

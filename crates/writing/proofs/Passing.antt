@@ -8,7 +8,7 @@ use native.Mathlib.Numerals.{add-one}
 use native.Mathlib.Omega.{arith}
 use lib.ListN.{length, drop}
 use Rattle.units.specs.Words.{Table, tableOf}
-use Rattle.units.specs.Records.{unitsOf, unitsAmong}
+use Rattle.units.specs.Records.{isUnitThat, unitsOf, unitsAmong}
 use Rattle.units.specs.declared.SampleUnit.{SampleUnit}
 use Rattle.units.specs.declared.Entry.{Entry}
 use Rattle.units.specs.declared.Entry.the-variants.{UnitRecord, Redesignation, Break}
@@ -46,7 +46,7 @@ same-past place bytes at BreakMark = refl
 same-past place bytes at NoMark = refl
 
 no-unit-ends : (table : Table) (state : State) (entry : Entry) → unitsOf entry ≡ 0 → recordEndsStepThree table state entry ≡ false
-unfolding recordEndsStepThree unitsOf
+unfolding recordEndsStepThree isUnitThat unitsOf
 no-unit-ends table state (UnitRecord unit) none = absurd (omega arith)
 no-unit-ends table state (Redesignation new) none = refl
 no-unit-ends table state Break none = refl
@@ -227,7 +227,7 @@ module _ {bytes : List ℕ} {n : ℕ} {table : Table} {designated size : ℕ} (w
 
   -- behind the last record nothing ends
   no-end : (j : ℕ) → n ≤ j → stepThreeEndsAt (sheetOf bytes n) j ≡ false
-  unfolding stepThreeEndsAt recordEndsStepThree sheetOf
+  unfolding stepThreeEndsAt recordEndsStepThree isUnitThat sheetOf
   no-end j behind = ap (recordEndsStepThree (tableOf (planOf bytes)) (before (sheetOf bytes n) j)) (writable .breaks-behind j behind)
 
   pub all-done : {old : List ℕ} {position : Position} {results : List ℕ} → Further bytes n 0 old position results → n ≤ position .place .index

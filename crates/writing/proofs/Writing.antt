@@ -10,7 +10,7 @@ use lib.Seq.{sets}
 use Rattle.cusum.specs.declared.PlanNumbers.{PlanNumbers}
 use Rattle.units.specs.Words.{hasPlan, Table, rowOf, tenthsOf}
 use Rattle.units.specs.Unit.{bestLower, defectGrade, qualifies, steppedUnder, steppedIn}
-use Rattle.units.specs.Records.{unitsAmong}
+use Rattle.units.specs.Records.{isUnitThat, unitsAmong}
 use Rattle.units.specs.declared.SampleUnit.{SampleUnit}
 use Rattle.units.specs.declared.SteppedClasses.{SteppedClasses}
 use Rattle.units.specs.declared.Grading.{Grading}
@@ -118,7 +118,7 @@ module _ {bytes : List ℕ} {n : ℕ} {table : Table} {place : Place} {state : S
       ∙ ap₂ (λ (t : Table) (s : State). resultWith s unit (graded t s unit) false) (here .stands .same-table) (here .stands .same-state)
 
   ends-is : stepThreeEndsAt sheet i ≡ endsStepThree (state .phase) (qualifiesIn table state unit)
-  unfolding stepThreeEndsAt recordEndsStepThree sheetOf
+  unfolding stepThreeEndsAt recordEndsStepThree isUnitThat sheetOf
   ends-is =
       ap (recordEndsStepThree (sheet .table) (before sheet i)) unit-in-sheet
       ∙ sym (ap₂ (λ (t : Table) (s : State). endsStepThree (s .phase) (qualifiesIn t s unit)) (here .stands .same-table) (here .stands .same-state))

@@ -5,6 +5,7 @@
 //! high byte first) and FOLDER/stdout (for each a line "case NUMBER" and then what is printed).
 //! `cases --sheet NUMBER` writes one sheet to standard output and says on standard error which it is.
 
+mod lower_plans;
 mod manual;
 mod mold;
 mod refusals;
@@ -18,6 +19,7 @@ use std::io::Write;
 /// Seeds of the random sheets.
 const FIRST_SEED: u64 = 19_780_801;
 const RANDOM: u64 = 340;
+const RANDOM_LOWER_PLANS: u64 = 40;
 const RANDOM_MOLD: u64 = 60;
 /// The bytes of all sheets with their kinds and lengths stay below this.
 const MOST_BYTES: usize = 700_000;
@@ -122,25 +124,29 @@ impl Cases {
 
     /// The random sheet of this seed; returns the group to which it belongs.
     fn random(&mut self, seed: u64) -> &'static str {
-        let made = self.kind.random(seed);
+        let name = match self.kind {
+            Kind::Tally => format!("random sheet, seed {seed}"),
+            Kind::Mold => format!("random mold sheet, seed {seed}"),
+        };
+        let [valid, damaged, messy] = self.kind.groups();
+        match self.made(&name, self.kind.random(seed)) {
+            Some((0 | 13, _)) => valid,
+            Some(_) => damaged,
+            None => messy,
+        }
+    }
+
+    /// A random sheet; returns what is expected of it.
+    fn made(&mut self, name: &str, made: generate::Case) -> Option<(u32, usize)> {
         let printed = self.kind.print(&made.sheet);
         // Number 13 is about a short result buffer, which printing does not have.
         if let Some((number, offset)) =
             made.expected.filter(|(number, _)| ![0, 13].contains(number))
         {
-            assert_eq!(printed, format!("refused {number} {offset}\n"), "seed {seed}");
+            assert_eq!(printed, format!("refused {number} {offset}\n"), "{name}");
         }
-        let name = match self.kind {
-            Kind::Tally => format!("random sheet, seed {seed}"),
-            Kind::Mold => format!("random mold sheet, seed {seed}"),
-        };
-        self.push(&name, made.sheet);
-        let [valid, damaged, messy] = self.kind.groups();
-        match made.expected {
-            Some((0 | 13, _)) => valid,
-            Some(_) => damaged,
-            None => messy,
-        }
+        self.push(name, made.sheet);
+        made.expected
     }
 }
 
@@ -157,6 +163,8 @@ fn all() -> (Cases, Vec<(&'static str, usize)>) {
     };
     small::add(&mut cases);
     count("small sheets by hand", &cases);
+    lower_plans::add(&mut cases);
+    count("falls by hand", &cases);
     small::add_demands(&mut cases);
     count("sheets of the demands", &cases);
     for (name, text) in manual::EXAMPLES {
@@ -170,6 +178,11 @@ fn all() -> (Cases, Vec<(&'static str, usize)>) {
     for seed in FIRST_SEED..FIRST_SEED + RANDOM {
         let group = cases.random(seed);
         count(group, &cases);
+    }
+    for seed in FIRST_SEED..FIRST_SEED + RANDOM_LOWER_PLANS {
+        let name = format!("random sheet made for falls, seed {seed}");
+        cases.made(&name, generate::case_with_lower_plans(seed));
+        count("random sheets made for falls", &cases);
     }
     cases.kind = Kind::Mold;
     mold::add(&mut cases);

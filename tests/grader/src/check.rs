@@ -1,10 +1,13 @@
-//! Both halves of demand 3, over whole graded sheets, and overshoots computed a second time.
+//! Both halves of demand 3, over whole graded sheets; overshoots, and the starts of lower plans, found
+//! a second time.
 
 use crate::rules::{Graded, What, FAILED};
-use crate::sheet::SUBSTANDARD;
+use crate::sheet::{Grade, SUBSTANDARD};
+use std::collections::BTreeSet;
+use std::ops::Range;
 
 /// "An anchor S lies at the last restart before the unit, or at the opening of the sheet if there is
-/// none." Here: the number of units before it.
+/// none." Here: the number of units before it. A fall is one of them (paper 02, A.4).
 fn last_restart(graded: &Graded, unit: usize) -> usize {
     let mut restarts = graded.events.iter().rev().filter(|event| event.is_restart());
     restarts.find(|event| event.units_before <= unit).map_or(0, |event| event.units_before)
@@ -78,6 +81,44 @@ pub fn overshoots_twice(graded: &Graded) {
             assert_eq!(overshoot, (raw - numbers.l).max(0), "overshoot by sums at {place}");
         }
     }
+}
+
+/// The longest stretches of units that fail the plan in force, each the next unit after the one
+/// before it, with neither a break nor a redesignation between.
+pub fn stretches_of_failures(graded: &Graded) -> Vec<Range<usize>> {
+    let parting =
+        graded.events.iter().filter(|e| matches!(e.what, What::Break | What::Redesignation { .. }));
+    let parted: BTreeSet<usize> = parting.map(|event| event.units_before).collect();
+    let mut stretches: Vec<Range<usize>> = Vec::new();
+    for unit in (0..graded.rows.len()).filter(|&unit| graded.rows[unit].fails()) {
+        match stretches.last_mut() {
+            Some(last) if last.end == unit && !parted.contains(&unit) => last.end = unit + 1,
+            _ => stretches.push(unit..unit + 1),
+        }
+    }
+    stretches
+}
+
+/// Finds every start of a lower plan a second time, and panics if one differs from the first. "Both
+/// failures must come after the latest start of a lower plan" (paper 02, A.4), in step 3 as outside
+/// it: so in a stretch of failures the 2nd, 4th and every further even one start a lower plan, each
+/// with the one before it, and nothing else does.
+pub fn lower_plans_twice(graded: &Graded) {
+    let rows = &graded.rows;
+    // The number of units before the start, the new lower grade, and whether it is a fall.
+    let mut by_stretches: Vec<(usize, Grade, bool)> = Vec::new();
+    for stretch in stretches_of_failures(graded) {
+        for second in stretch.skip(1).step_by(2) {
+            let lower = rows[second - 1].defect_grade.max(rows[second].defect_grade);
+            by_stretches.push((second + 1, lower, rows[second].standing != FAILED));
+        }
+    }
+    let by_events = graded.events.iter().filter_map(|event| match event.what {
+        What::StepThreeBegins { lower } => Some((event.units_before, lower, false)),
+        What::LowerPlanStarts { lower } => Some((event.units_before, lower, true)),
+        _ => None,
+    });
+    assert_eq!(by_events.collect::<Vec<_>>(), by_stretches, "starts of lower plans");
 }
 
 /// The first unit that ends two failures in a row: "both fail the designated plan, the second is the

@@ -1,10 +1,12 @@
 //! Seeded random sheets: valid ones that go in and out of step 3, damaged ones for every refusal
-//! number from 1 to 13, messy ones, ones for overshoots, and monotone pairs; and counts of what
-//! happened in them.
+//! number from 1 to 13, messy ones, ones for overshoots, ones for falls, and monotone pairs; and
+//! counts of what happened in them.
 
-use crate::check::first_two_in_a_row;
-use crate::rules::{self, Event, Graded, Row, Stage, What, IN_STEP_3, RECOVERED, RESULT_SIZE};
+use crate::check::{first_two_in_a_row, stretches_of_failures};
+use crate::rules::{self, Event, Graded, Row, Stage, What};
+use crate::rules::{FAILED, IN_STEP_3, RECOVERED, RESULT_SIZE};
 use crate::sheet::{Numbers, Record, Sheet, Table, Unit, MOST_UNITS, SUBSTANDARD};
+use std::ops::Range;
 
 /// Room for the result records of any sheet.
 pub const MOST_ROOM: usize = RESULT_SIZE * MOST_UNITS;
@@ -298,6 +300,90 @@ fn draft_over(dice: &mut Dice, redesignations: bool, calm: bool) -> Sheet {
     draft
 }
 
+/// A plan whose grades lie apart in every class: some count fails a grade and is admitted by the next
+/// lower one, and some is not. S is mostly within T, so that a unit without defects qualifies right
+/// after a start.
+fn plan_in_steps(dice: &mut Dice) -> Table {
+    let mut tenths = PEACH;
+    // The total of what one class has is admitted where that class is.
+    let steps = [(15, 20, 30), (20, 20, 40), (25, 20, 50), (60, 60, 120)];
+    for (class, (most_t, least_gap, most_gap)) in steps.into_iter().enumerate() {
+        let (mut t, mut limit) = (0, 0);
+        for grade in &mut tenths {
+            t += dice.between(5, most_t);
+            limit = (limit + dice.between(least_gap, most_gap)).max(t);
+            let l = limit - t;
+            let most_s = if dice.chance(85) { l.min(t) } else { l };
+            grade[class] = [dice.between(0, most_s), t, l];
+        }
+    }
+    table(tenths)
+}
+
+/// A unit that fails the plan in force in one class (without a plan it goes by C): from any CuSums and
+/// to some lower grade, or by as little as it can from the CuSums that there are.
+fn failure_in_force(dice: &mut Dice, draft: &mut Sheet) {
+    let graded = rules::grade_portions(draft);
+    let (plan, class) = (graded.next_plan.min(2), dice.below(4));
+    let numbers = draft.table.map(|grade| grade[class]);
+    let limit = numbers.map(|Numbers { t, l, .. }| (t + l) / 10);
+    let mut counts = [0; 4];
+    counts[class] = if dice.chance(25) {
+        let Numbers { t, l, .. } = numbers[usize::from(plan)];
+        (t + l - graded.next_cusums[class]) / 10 + 1
+    } else {
+        // The next lower grade comes more often, as the worse of two decides.
+        let grade = (plan + dice.pick(&[1, 1, 1, 1, 1, 1, 2, 3])).min(SUBSTANDARD);
+        let least = limit[usize::from(grade) - 1] + 1;
+        let most = limit.get(usize::from(grade)).map_or(least + 2, |&limit| limit);
+        dice.between(least, most)
+    };
+    push_unit(dice, draft, counts);
+}
+
+/// A unit without defects: in step 3 it qualifies if it takes the CuSums to zero.
+fn spotless(dice: &mut Dice, draft: &mut Sheet) {
+    push_unit(dice, draft, [0; 4]);
+}
+
+/// A valid sheet on which step 3 begins, and then one to four units in a row fail the plan in force,
+/// time and again, behind runs of none to two qualifying units, with breaks, redesignations and units
+/// that meet between them and right behind them, until there is no plan; and ways out of step 3.
+fn draft_lower_plans(dice: &mut Dice) -> Sheet {
+    let (table, designated) = (plan_in_steps(dice), dice.pick(&[0, 0, 0, 0, 1, 1, 2]));
+    let mut draft = Sheet { designated, table, records: Vec::new() };
+    for _ in 0..dice.between(1, 3) {
+        failure_in_force(dice, &mut draft);
+        failure_in_force(dice, &mut draft);
+        perhaps_parted(dice, &mut draft, 6, true);
+        for _ in 0..dice.between(1, 4) {
+            for _ in 0..dice.pick(&[0, 0, 0, 1, 2]) {
+                spotless(dice, &mut draft);
+            }
+            for _ in 0..dice.pick(&[1, 2, 2, 2, 3, 4]) {
+                failure_in_force(dice, &mut draft);
+                match dice.below(14) {
+                    0 => draft.records.push(Record::Break),
+                    1 | 2 => {
+                        let designated = draft.designated_before(draft.records.len());
+                        let new = (designated + dice.pick(&[1, 2])) % 3;
+                        draft.records.push(Record::Redesignation(new));
+                    }
+                    3 => spotless(dice, &mut draft),
+                    _ => {}
+                }
+            }
+            if rules::grade_portions(&draft).next_plan == SUBSTANDARD {
+                break;
+            }
+        }
+        for _ in 0..dice.pick(&[0, 1, 3, 4, 6]) {
+            unit(dice, &mut draft, Mood::Clean);
+        }
+    }
+    draft
+}
+
 /// Damages the bytes of a draft (with a unit; with 1,000 for number 12), so that they are refused
 /// with this number, 1 to 12, if nothing else is wrong; returns the offset.
 fn damage(dice: &mut Dice, draft: &Sheet, sheet: &mut Vec<u8>, number: u32) -> usize {
@@ -376,12 +462,17 @@ pub fn expecting(dice: &mut Dice, number: u32) -> Case {
     let mut draft = draft(dice, true, false);
     let full = number == 12 || dice.chance(1);
     draft.fill(if full { 1_000 } else { number.min(1) as usize });
+    expecting_of(dice, &draft, number)
+}
+
+/// As [`expecting`], of this draft (with a unit if the number is not 0; with 1,000 for number 12).
+fn expecting_of(dice: &mut Dice, draft: &Sheet, number: u32) -> Case {
     let (mut sheet, needed) = (draft.bytes(), RESULT_SIZE * draft.units());
     let (room, offset) = match number {
         0 => (needed + dice.pick(&[0, 0, 1, RESULT_SIZE - 1, RESULT_SIZE, 100]), sheet.len()),
         13 => (dice.pick(&[0, needed / 2, needed - RESULT_SIZE, needed - 1]), sheet.len()),
         // 13 is checked last, so that the buffer may be short for the others.
-        _ => (dice.pick(&[0, RESULT_SIZE, MOST_ROOM]), damage(dice, &draft, &mut sheet, number)),
+        _ => (dice.pick(&[0, RESULT_SIZE, MOST_ROOM]), damage(dice, draft, &mut sheet, number)),
     };
     Case { sheet, room, expected: Some((number, offset)) }
 }
@@ -431,10 +522,25 @@ pub fn case_with_overshoots(seed: u64) -> Case {
         return case(seed);
     }
     let draft = draft_over(dice, true, false);
-    let (sheet, needed) = (draft.bytes(), RESULT_SIZE * draft.units());
-    let room = needed + dice.pick(&[0, 0, 1, RESULT_SIZE - 1, RESULT_SIZE, 100]);
-    let expected = Some((0, sheet.len()));
-    Case { sheet, room, expected }
+    expecting_of(dice, &draft, 0)
+}
+
+/// A sheet made for falls, by dice of its own: nine in ten valid, else damaged.
+pub fn case_with_lower_plans(seed: u64) -> Case {
+    let dice = &mut Dice(seed ^ 0x4641_4C4C);
+    let draft = draft_lower_plans(dice);
+    let number = if dice.chance(90) { 0 } else { dice.pick(&[1, 3, 5, 6, 7, 8, 9, 10, 11, 13]) };
+    expecting_of(dice, &draft, number)
+}
+
+/// The case of this seed, of every kind: one in six made for falls, the others as in
+/// [`case_with_overshoots`], so that one in six is made for overshoots.
+pub fn any_case(seed: u64) -> Case {
+    // The number by which that one goes: at 0 the sheet is made for overshoots.
+    match Dice(!seed).below(6) {
+        1 => case_with_lower_plans(seed),
+        _ => case_with_overshoots(seed),
+    }
 }
 
 /// A monotone pair: two valid sheets "alike except that no count in the first exceeds its fellow in
@@ -443,8 +549,8 @@ pub fn case_with_overshoots(seed: u64) -> Case {
 pub fn pair(seed: u64) -> (Vec<u8>, Vec<u8>) {
     let dice = &mut Dice(seed);
     let (calm, percent) = (dice.chance(50), dice.pick(&[10, 30, 80]));
-    let make = if dice.below(3) > 0 { draft } else { draft_over };
-    let second = make(dice, false, calm);
+    let second =
+        if dice.below(3) > 0 { draft(dice, false, calm) } else { draft_over(dice, false, calm) };
     let mut first = second.clone();
     for record in &mut first.records {
         if let Record::Unit(unit) = record {
@@ -530,7 +636,139 @@ impl Counts {
         for (name, what, test) in kinds {
             count_events(name, &|event| event.what == what && test(event.stage));
         }
+        self.note_lower_plans(graded);
     }
+
+    /// Falls (paper 02, A.4), and failures in step 3 that would be a fall but for one thing.
+    fn note_lower_plans(&mut self, graded: Option<&Graded>) {
+        let rows: &[Row] = graded.map_or(&[], |graded| &graded.rows);
+        let events: &[Event] = graded.map_or(&[], |graded| &graded.events);
+        let (starts, recoveries) = lower_plan_starts(rows, events);
+        let mut count = |name: &str, test: &dyn Fn(&LowerPlanStart) -> bool| {
+            self.add(&format!("fall{name}"), starts.iter().filter(|start| test(start)).count());
+        };
+        count(" from B to C", &|start| (start.from, start.to) == (1, 2));
+        count(" from B to S", &|start| (start.from, start.to) == (1, 3));
+        count(" from C to S", &|start| (start.from, start.to) == (2, 3));
+        count(", the second in one step 3", &|start| start.again);
+        count(" behind a run of 1", &|start| start.run == 1);
+        count(" behind a run of 2", &|start| start.run == 2);
+        count(
+            ", the first failure graded lower",
+            &|LowerPlanStart { failures: [first, second], .. }| {
+                first.defect_grade > second.defect_grade
+            },
+        );
+        count(
+            ", the second failure graded lower",
+            &|LowerPlanStart { failures: [first, second], .. }| {
+                first.defect_grade < second.defect_grade
+            },
+        );
+        count(", no class fails twice", &|LowerPlanStart { failures: [first, second], .. }| {
+            (0..4).all(|class| !first.class_fails[class] || !second.class_fails[class])
+        });
+        let [kept, ended] = [true, false].map(|keeps| Some(What::Redesignation { keeps }));
+        let what = |next: Option<Event>| next.map(|event| event.what);
+        count(", then a break", &|start| what(start.next) == Some(What::Break));
+        count(", then a redesignation ends step 3", &|start| what(start.next) == ended);
+        count(", then a redesignation keeps step 3", &|start| what(start.next) == kept);
+        count(", then one keeps step 3 by the new lower grade alone", &|start| {
+            let not_better = start.next.is_some_and(|next| next.designated >= start.from);
+            what(start.next) == kept && not_better
+        });
+        self.add("fall, then a unit recovered", recoveries);
+
+        let stretches = graded.map_or(Vec::new(), stretches_of_failures);
+        let mut count = |name: &str, test: &dyn Fn(&Range<usize>) -> bool| {
+            self.add(name, stretches.iter().filter(|stretch| test(stretch)).count());
+        };
+        let begins = |stretch: &Range<usize>| rows[stretch.start].standing == FAILED;
+        // So many fail a lower plan; the last of an odd number is of no pair.
+        let lower = |stretch: &Range<usize>| {
+            stretch.len().saturating_sub(if begins(stretch) { 2 } else { 0 })
+        };
+        // With a unit behind it, that shows what is in force.
+        let shown = |stretch: &Range<usize>| stretch.end < rows.len();
+        count("no fall: one failure behind the two that begin step 3", &|stretch| {
+            begins(stretch) && lower(stretch) == 1 && shown(stretch)
+        });
+        count("one fall: three failures in a row in step 3", &|stretch| {
+            lower(stretch) == 3 && shown(stretch)
+        });
+        count("two falls: four failures in a row in step 3", &|stretch| {
+            lower(stretch) == 4 && shown(stretch)
+        });
+        // What lies before a unit.
+        let before = |unit: usize| {
+            let from = events.partition_point(|event| event.units_before < unit);
+            let to = events.partition_point(|event| event.units_before <= unit);
+            &events[from..to]
+        };
+        let parted_by = |stretch: &Range<usize>, what: What| {
+            let parting = before(stretch.end);
+            let only = !parting.is_empty() && parting.iter().all(|event| event.what == what);
+            lower(stretch) % 2 == 1 && only && rows.get(stretch.end).is_some_and(Row::fails)
+        };
+        for (name, what) in [
+            ("a break", What::Break),
+            ("a redesignation that keeps step 3", What::Redesignation { keeps: true }),
+            ("a redesignation that ends step 3", What::Redesignation { keeps: false }),
+        ] {
+            let name = format!("no fall: {name} between two failures");
+            count(&name, &|stretch| parted_by(stretch, what));
+        }
+        count("no fall: a unit that meets between two failures", &|stretch| {
+            let (meets, next) = (stretch.end, stretch.end + 1);
+            let fails = |unit: usize| rows.get(unit).is_some_and(Row::fails);
+            let quiet = before(meets).is_empty() && before(next).is_empty();
+            lower(stretch) % 2 == 1 && !fails(meets) && fails(next) && quiet
+        });
+    }
+}
+
+/// A fall, with what lies before it and right behind it.
+struct LowerPlanStart {
+    from: u8,
+    to: u8,
+    failures: [Row; 2],
+    /// There was one before in the same step 3.
+    again: bool,
+    /// The qualifying units in a row before the two failures.
+    run: usize,
+    /// What comes before the next unit.
+    next: Option<Event>,
+}
+
+/// The falls of a sheet, and the number of units recovered after one in the same step 3.
+fn lower_plan_starts(rows: &[Row], events: &[Event]) -> (Vec<LowerPlanStart>, usize) {
+    let (mut starts, mut recoveries) = (Vec::new(), 0);
+    let mut again = false;
+    for (place, event) in events.iter().enumerate() {
+        let units = event.units_before;
+        match (event.what, event.stage) {
+            (What::LowerPlanStarts { lower: to }, Stage::StepThree { lower: from, .. }) => {
+                let since = place.checked_sub(1).map_or(0, |last| events[last].units_before);
+                let quiet = rows[since.min(units - 2)..units - 2].iter().rev();
+                starts.push(LowerPlanStart {
+                    from,
+                    to,
+                    failures: [rows[units - 2], rows[units - 1]],
+                    again: again,
+                    run: quiet.take_while(|row| row.qualifies).count(),
+                    next: events.get(place + 1).filter(|next| next.units_before == units).copied(),
+                });
+                again = true;
+            }
+            (What::StepThreeEnds, _) if again => {
+                let last = rows[units - 3..units].iter();
+                recoveries += last.filter(|row| row.standing == RECOVERED).count();
+            }
+            (What::StepThreeBegins { .. }, _) => again = false,
+            _ => {}
+        }
+    }
+    (starts, recoveries)
 }
 
 /// What is counted of overshoots, apart from the rest: the stored cases are of what is printed, and

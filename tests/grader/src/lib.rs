@@ -1,5 +1,5 @@
 //! An independent grader of tally sheets and mold sheets, written from paper 01 (`01-scope.md`) and
-//! A.1 and A.2 of paper 02 (`02-change-requests.md`) alone. It is plain on purpose: the whole sheet
+//! A.1, A.2 and A.4 of paper 02 (`02-change-requests.md`) alone. It is plain on purpose: the whole sheet
 //! is read, then graded, then written. The papers' sentences stand in quotation marks at the code
 //! that follows them; they are those of paper 01 where no paper is named. Mold sheets have a module
 //! of their own, [`mold`]; all else is about tally sheets.
@@ -40,8 +40,8 @@ pub fn grade_but_codes(sheet: &[u8], results: &mut [u8]) -> Answer {
 }
 
 /// As [`grade`], and hands out the trace of an accepted sheet. With `check`, every CuSum is also
-/// computed by the 'largest of' formula of demand 3 and every overshoot by sums like those, and a
-/// difference panics.
+/// computed by the 'largest of' formula of demand 3 and every overshoot by sums like those, every
+/// start of a lower plan is found by the failures in a row, and a difference panics.
 pub fn grade_traced(
     sheet: &[u8],
     results: &mut [u8],
@@ -66,6 +66,7 @@ fn grade_by(
     if check {
         check::cusums_twice(&graded);
         check::overshoots_twice(&graded);
+        check::lower_plans_twice(&graded);
     }
     let units = graded.rows.len();
     // "Number 13 counts 32 bytes a unit" (paper 02, A.1).

@@ -1,6 +1,7 @@
 //! Reads a sheet from standard input and prints its lines. `grader --check` also computes every
-//! CuSum by the formula of demand 3, every overshoot by sums like those, and panics if one differs.
-//! `grader --mold` takes a mold sheet, also with `--check`.
+//! CuSum by the formula of demand 3, every overshoot by sums like those, finds every start of a lower
+//! plan by the failures in a row, and panics if one differs. `grader --mold` takes a mold sheet, also
+//! with `--check`.
 
 use std::io::{Read, Write};
 

@@ -1,4 +1,4 @@
-//! "Grading a unit", step 3, recovery, redesignation, break and code grades.
+//! "Grading a unit", step 3 with its falls, recovery, redesignation, break and code grades.
 
 use crate::sheet::{Grade, Numbers, Record, Sheet, Table, Unit, SUBSTANDARD};
 
@@ -53,21 +53,24 @@ impl Row {
     }
 }
 
-/// Where the line stands between two records.
+/// Where the line stands between two records. `failure` is the defect grade of the unit just before,
+/// if that failed the plan in force and did not start a lower plan.
 #[derive(Clone, Copy, Debug, PartialEq, Eq)]
 pub enum Stage {
-    /// At the designated plan; with the defect grade of the unit just before, if that failed.
+    /// At the designated plan.
     Designated { failure: Option<Grade> },
     /// In step 3 at the plan of `lower` (none if Substandard), after `run` qualifying units.
-    StepThree { lower: Grade, run: usize },
+    StepThree { lower: Grade, run: usize, failure: Option<Grade> },
 }
 
-/// What happens between two units. Step 3 ends as such at its third qualifying unit.
+/// What happens between two units. Step 3 ends as such at its third qualifying unit; a fall is the
+/// start of a further lower plan in step 3.
 #[derive(Clone, Copy, Debug, PartialEq, Eq)]
 pub enum What {
     Break,
     Redesignation { keeps: bool },
     StepThreeBegins { lower: Grade },
+    LowerPlanStarts { lower: Grade },
     StepThreeEnds,
 }
 
@@ -78,11 +81,13 @@ pub struct Event {
     pub what: What,
     /// The stage just before it (before the unit that brings it about, if one does).
     pub stage: Stage,
+    /// The grade designated behind it.
+    pub designated: Grade,
 }
 
 impl Event {
     /// "The restarts are a break, the start of step 3, its end, and every redesignation but one that
-    /// keeps the CuSums."
+    /// keeps the CuSums." Of a fall: "this start counts as a restart for the anchor" (paper 02, A.4).
     pub fn is_restart(&self) -> bool {
         self.what != What::Redesignation { keeps: true }
     }
@@ -137,7 +142,8 @@ pub fn grade_portions(sheet: &Sheet) -> Graded {
             // "A redesignation outside step 3 starts the new plan at S and forgets a failure just
             // before. In step 3, a new grade better than the lower one keeps step 3 and its CuSums
             // and sets the run of qualifying units to none; any other new grade ends step 3 and
-            // starts at S."
+            // starts at S." "A break or a redesignation forgets a failure just before, here too"
+            // (paper 02, A.4): also one that keeps step 3. The lower grade is that of the latest fall.
             Record::Redesignation(new) => {
                 designated = new;
                 let keeps = matches!(stage, Stage::StepThree { lower, .. } if new < lower);
@@ -153,7 +159,7 @@ pub fn grade_portions(sheet: &Sheet) -> Graded {
         };
         // "A restart that a unit brings about comes after that unit's record."
         if let Some(what) = what {
-            let event = Event { units_before: rows.len(), what, stage: before };
+            let event = Event { units_before: rows.len(), what, stage: before, designated };
             if event.is_restart() {
                 cusums = starts(table, plan_in_force(stage, designated));
             }
@@ -193,33 +199,43 @@ fn starts(table: &Table, plan: Grade) -> [i64; 4] {
 fn forget(stage: Stage) -> Stage {
     match stage {
         Stage::Designated { .. } => FRESH,
-        Stage::StepThree { lower, .. } => Stage::StepThree { lower, run: 0 },
+        Stage::StepThree { lower, .. } => Stage::StepThree { lower, run: 0, failure: None },
     }
 }
 
 /// The stage after a unit, and the restart that the unit brings about, if any.
 fn after_unit(stage: Stage, row: &Row) -> (Stage, Option<What>) {
-    match stage {
-        Stage::Designated { .. } if !row.fails() => (FRESH, None),
-        Stage::Designated { failure: None } => {
-            (Stage::Designated { failure: Some(row.defect_grade) }, None)
-        }
+    // "At the third qualifying unit in a row step 3 ends. [...] The next unit starts the designated
+    // plan at S." It cannot fail as well: a class that fails exceeds the T of the plan in force, which
+    // is no smaller than the designated T.
+    if matches!(stage, Stage::StepThree { run: 2, .. }) && row.qualifies {
+        return (FRESH, Some(What::StepThreeEnds));
+    }
+    let (Stage::Designated { failure } | Stage::StepThree { failure, .. }) = stage;
+    if let (Some(first), true) = (failure, row.fails()) {
         // "Step 3 begins when two units in a row fail the designated plan, in the same class or not.
         // From the next unit on, the plan in force is that of the worse of the two defect grades,
-        // every class at its S."
-        Stage::Designated { failure: Some(first) } => {
-            let lower = first.max(row.defect_grade);
-            (Stage::StepThree { lower, run: 0 }, Some(What::StepThreeBegins { lower }))
-        }
-        // "Two failures at the lower plan start nothing further."
-        Stage::StepThree { .. } if !row.qualifies => (forget(stage), None),
-        Stage::StepThree { lower, run } if run < 2 => {
-            (Stage::StepThree { lower, run: run + 1 }, None)
-        }
-        // "At the third qualifying unit in a row step 3 ends. [...] The next unit starts the
-        // designated plan at S."
-        Stage::StepThree { .. } => (FRESH, Some(What::StepThreeEnds)),
+        // every class at its S." "Two units in a row that fail the lower plan in step 3 now make the
+        // worse of their two defect grades the new lower grade, each class at its S and the
+        // qualifying run none. Both failures must come after the latest start of a lower plan"
+        // (paper 02, A.4): this one, which brings about the start, does not.
+        let lower = first.max(row.defect_grade);
+        let what = match stage {
+            Stage::Designated { .. } => What::StepThreeBegins { lower },
+            Stage::StepThree { .. } => What::LowerPlanStarts { lower },
+        };
+        return (Stage::StepThree { lower, run: 0, failure: None }, Some(what));
     }
+    // A unit that meets forgets a failure, one that does not qualify the run. Without a plan no unit
+    // fails, so that nothing lower can start.
+    let failure = row.fails().then_some(row.defect_grade);
+    let stage = match stage {
+        Stage::Designated { .. } => Stage::Designated { failure },
+        Stage::StepThree { lower, run, .. } => {
+            Stage::StepThree { lower, run: if row.qualifies { run + 1 } else { 0 }, failure }
+        }
+    };
+    (stage, None)
 }
 
 /// Rules 1 to 4 of "Grading a unit". `old` holds the CuSums before this unit; the code grade is set

@@ -1,7 +1,9 @@
-//! The sheets of paper 01 by hand, every refusal, overshoots, the wrong readings, and random sheets.
+//! The sheets of paper 01 by hand, falls, every refusal, overshoots, the wrong readings, and random
+//! sheets.
 
-use crate::generate::{case_with_overshoots, counted, pair, table, Counts, MOST_ROOM};
+use crate::generate::{any_case, counted, pair, table, Counts, MOST_ROOM};
 use crate::peach::{p10, peach, peaches, P10_LINES};
+use crate::rules::{Event, Graded, What};
 use crate::sheet::{Record, Sheet};
 use crate::{check, grade, grade_traced, print, print_checked, Answer, RESULT_SIZE};
 
@@ -306,6 +308,152 @@ fn in_step_3() {
     assert_eq!(graded, format!("CCfA 1.0, SSfA 1.0, SSuS 0.0, {recovered}, CCmC 0.0"));
 }
 
+/// S/T/L at A, B, C for falls: T+L is 2, 6 and 10, and a CuSum differs after a start at B, at C, from L
+/// of B and from L of C.
+const STEPS: [[i64; 3]; 3] = [[0, 10, 10], [10, 30, 30], [20, 50, 50]];
+
+/// What comes after two 4s, which fail A within T+L of B and begin step 3 at B.
+fn at_b(script: &str) -> String {
+    let graded = majors(0, STEPS, &format!("4 4 {script}"));
+    graded.strip_prefix("BBfA 1.0, BBfA 1.0, ").expect("step 3 at B").to_string()
+}
+
+/// What comes after two 9s, which fail A within T+L of C and begin step 3 at C.
+fn at_c(script: &str) -> String {
+    let graded = majors(0, STEPS, &format!("9 9 {script}"));
+    graded.strip_prefix("CCfA 1.0, CCfA 1.0, ").expect("step 3 at C").to_string()
+}
+
+#[test]
+fn lower_plans_in_step_3() {
+    // "Two units in a row that fail the lower plan in step 3 now make the worse of their two defect
+    // grades the new lower grade, each class at its S" (paper 02, A.4). The last unit starts from the
+    // 2 of C: 2+4-5 = 1; from the L of B it would be 2, from that of C 4, and under B 3+4-3 fails.
+    assert_eq!(at_b("8 8 4"), "CCuB 3.0, CCuB 3.0, CCuC 1.0");
+    // A failure by the CuSum alone, within T+L of B, is one as well, and grades C.
+    assert_eq!(at_b("5 4 4 4"), "BBuB 3.0, CCuB 3.0, CCuB 3.0, CCuC 1.0");
+    // B to C to no plan, and C to no plan. Without a plan no unit fails, and nothing starts.
+    assert_eq!(at_b("8 8 11 11 0"), "CCuB 3.0, CCuB 3.0, SSuC 5.0, SSuC 5.0, SSuS 0.0");
+    assert_eq!(at_c("9 11 99 99 99"), "SSuC 5.0, SSuC 5.0, SSuS 0.0, SSuS 0.0, SSuS 0.0");
+    // The worse of the two defect grades, whichever is first: from B to no plan.
+    assert_eq!(at_b("8 11 0"), "CCuB 3.0, SSuB 3.0, SSuS 0.0");
+    assert_eq!(at_b("11 8 0"), "SSuB 3.0, CCuB 3.0, SSuS 0.0");
+    // "Both failures must come after the latest start of a lower plan": the second failure that began
+    // step 3 does not pair with the 8, nor the one that brought about the fall with the 9. The last
+    // units stay at L of their plan.
+    assert_eq!(at_b("8 3"), "CCuB 3.0, BBuB 3.0");
+    assert_eq!(at_b("8 8 9 5"), "CCuB 3.0, CCuB 3.0, SSuC 5.0, CCuC 5.0");
+    // Of four failures in a row the last two fall again.
+    assert_eq!(at_b("8 8 9 9 0"), "CCuB 3.0, CCuB 3.0, SSuC 5.0, SSuC 5.0, SSuS 0.0");
+    // "in the same class or not": at B severe, then major, fall to C; and the prerequisite S of both
+    // does not count, as "the worse of their two defect grades" does.
+    #[rustfmt::skip]
+    let sheet = peaches([
+        (1, [0, 5, 0, 0], 0, 0), (2, [0, 5, 0, 0], 0, 0), (3, [0, 7, 0, 0], 3, 0),
+        (4, [0, 0, 9, 0], 3, 0), (5, [0, 5, 0, 0], 0, 0),
+    ]);
+    let expected = "3 3 S S u B 0.0 3.0 0.0 0.0\n4 4 S S u B 0.0 0.0 3.0 0.0\n\
+        5 5 C C u C 0.0 1.0 0.0 0.0\n";
+    assert!(print_checked(&sheet, true).ends_with(expected));
+    // With B designated step 3 begins at C and falls to no plan; 3 is the T of B.
+    let expected = "CCfB 3.0, CCfB 3.0, SSuC 5.0, SSuC 5.0, BBrS 0.0, BBrS 0.0, BBrS 0.0, BBmB 1.0";
+    assert_eq!(majors(1, STEPS, "8 8 11 11 3 3 3 3"), expected);
+}
+
+#[test]
+fn failures_in_step_3_forgotten() {
+    // "A break or a redesignation forgets a failure just before, here too" (paper 02, A.4). A break:
+    // under C the last 3 would be 0; behind the break two failures pair as ever.
+    assert_eq!(at_b("8 | 8 3"), "CCuB 3.0, CCuB 3.0, BBuB 3.0");
+    assert_eq!(at_b("8 | 8 8 3"), "CCuB 3.0, CCuB 3.0, CCuB 3.0, CCuC 0.0");
+    // A redesignation that keeps step 3, and its CuSums: after a fall the 5 would have no plan.
+    assert_eq!(at_c("9 B 9 5"), "SSuC 5.0, SSuC 5.0, CCuC 5.0");
+    assert_eq!(at_c("9 B 9 9 5"), "SSuC 5.0, SSuC 5.0, SSuC 5.0, SSuS 0.0");
+    // One that ends step 3: the 8 behind it is a first failure of the designated plan, now B.
+    assert_eq!(at_b("8 B 8 3"), "CCuB 3.0, CCfB 3.0, BBmB 3.0");
+    assert_eq!(at_b("8 B 8 8 3"), "CCuB 3.0, CCfB 3.0, CCfB 3.0, CCuC 0.0");
+    // Units that meet are no failures in a row: one that does not qualify, and one that does.
+    assert_eq!(at_b("8 3 8 3"), "CCuB 3.0, BBuB 3.0, CCuB 3.0, BBuB 3.0");
+    assert_eq!(at_b("8 0 8 3"), "CCuB 3.0, BBuB 0.0, CCuB 3.0, BBuB 3.0");
+}
+
+#[test]
+fn after_a_lower_plan_starts() {
+    // "the qualifying run none": two units qualify before the failures, and two behind them do not end
+    // step 3; the 5 takes the CuSum to zero, but is above the T of A.
+    let before = "BBuB 0.0, BBuB 0.0, CCuB 3.0, CCuB 3.0";
+    let expected = format!("{before}, CCuC 0.0, CCuC 0.0, CCuC 0.0");
+    assert_eq!(at_b("0 0 8 8 0 0 5"), expected);
+    // One failure does that to a run as well.
+    let expected = "BBuB 0.0, BBuB 0.0, CCuB 3.0, BBuB 0.0, BBuB 0.0";
+    assert_eq!(at_b("0 0 8 0 0"), expected);
+    // "The designated grade stays": A is what portions recover to, and what is in force then, from
+    // its S. 1 is the T of A; with a 2, which is within the T of C, none would qualify.
+    let recovered = "AArC 0.0, AArC 0.0, AArC 0.0";
+    assert_eq!(at_b("0 8 8 1 1 1 2"), format!("{}, {recovered}, AAmA 1.0", &before[10..]));
+    // A redesignation goes by the new lower grade: B is better than C and keeps step 3 (2+5-5 = 2),
+    // though it is not better than the old one, B; C is not better, and ends it.
+    assert_eq!(at_b("8 8 B 5"), "CCuB 3.0, CCuB 3.0, CCuC 2.0");
+    assert_eq!(at_b("8 8 C 5"), "CCuB 3.0, CCuB 3.0, CCmC 2.0");
+    assert_eq!(at_b("8 11 C 5"), "CCuB 3.0, SSuB 3.0, SSuS 0.0");
+    assert_eq!(at_c("11 11 C 5"), "SSuC 5.0, SSuC 5.0, SSuS 0.0");
+    // A break right after it changes nothing, and a later one takes the CuSum to the S of C.
+    assert_eq!(at_b("8 8 | 4"), "CCuB 3.0, CCuB 3.0, CCuC 1.0");
+    assert_eq!(at_b("8 8 6 | 4"), "CCuB 3.0, CCuB 3.0, CCuC 3.0, CCuC 1.0");
+    // Overshoots: 1+8-3-3 = 3 and 3+8-3-3 = 5 at B, then from the S of C 2+9-5-5 = 1 and from its L
+    // 5+9-5-5 = 4, and none without a plan.
+    let sheet = majors_sheet(0, STEPS, "4 4 8 8 9 9 99");
+    assert_eq!(overshoots_in(2, &sheet), [20, 30, 30, 50, 10, 40, 0]);
+}
+
+#[test]
+fn failures_of_a_lower_plan_are_not_two_in_a_row() {
+    // Of the monotone half two in a row fail the designated plan: the claim ends at the second 4, and
+    // not at the fall. Behind it the first sheet is under B, where the 9 is over by 6, and the second
+    // has again to C, where it is over by 1.
+    let [first, second] = ["4 4 3 8 9", "4 4 8 8 9"].map(|script| {
+        let sheet = majors_sheet(0, STEPS, script);
+        grade_traced(&sheet, &mut [0; MOST_ROOM], true).1.unwrap()
+    });
+    assert_eq!([first.rows[4].overshoots[2], second.rows[4].overshoots[2]], [60, 10]);
+    assert_eq!(check::first_two_in_a_row(&second), Some(1));
+    assert_eq!(check::monotone(&first, &second), Ok(false));
+}
+
+#[test]
+fn wrong_lower_plans_are_noticed() {
+    // The start of step 3 and a fall, which is changed: none, one a unit later, one to another grade,
+    // one more at the next unit.
+    let none = |graded: &mut Graded| graded.events.truncate(1);
+    let later = |graded: &mut Graded| graded.events[1].units_before += 1;
+    let lower = |graded: &mut Graded| graded.events[1].what = What::LowerPlanStarts { lower: 3 };
+    let again = |graded: &mut Graded| {
+        graded.events.push(Event { units_before: 5, ..graded.events[1] });
+    };
+    let noticed = |script: &str, check: fn(&Graded), change: &dyn Fn(&mut Graded)| {
+        let sheet = majors_sheet(0, STEPS, script);
+        let mut graded = grade_traced(&sheet, &mut [0; MOST_ROOM], true).1.unwrap();
+        let [_, Event { what: What::LowerPlanStarts { lower: 2 }, units_before: 4, .. }] =
+            graded.events[..]
+        else {
+            panic!("{script}: {:?}", graded.events);
+        };
+        change(&mut graded);
+        std::panic::catch_unwind(|| check(&graded)).is_err()
+    };
+    for change in [&none as &dyn Fn(&mut Graded), &later, &lower, &again] {
+        assert!(noticed("4 4 8 8 9 5", check::lower_plans_twice, change));
+    }
+    // "this start counts as a restart for the anchor" (paper 02, A.4). Unit 5, of 4: 1 from the S of C,
+    // 4 from its L at unit 4. Unit 5, of 9: over by 1 from the S of C, by 2 from the CuSum of unit 4.
+    for change in [&none as &dyn Fn(&mut Graded), &later] {
+        assert!(noticed("4 4 8 8 4", check::cusums_twice, change));
+        assert!(noticed("4 4 8 8 9", check::overshoots_twice, change));
+    }
+    // Unit 6, of 5: 5 from the L of unit 5, and 2 from an S there.
+    assert!(noticed("4 4 8 8 9 5", check::cusums_twice, &again));
+}
+
 #[test]
 fn every_refusal_with_its_offset() {
     let base = peach(vec![
@@ -366,7 +514,7 @@ fn wrong_readings_are_not_taken() {
 fn random_sheets() {
     let mut counts = Counts::default();
     for seed in 0..20_000 {
-        let case = case_with_overshoots(seed);
+        let case = any_case(seed);
         let mut results = vec![0xA5; case.room];
         let (answer, graded) = grade_traced(&case.sheet, &mut results, true);
         if let Some(expected) = case.expected {

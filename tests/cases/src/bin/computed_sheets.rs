@@ -117,7 +117,8 @@ fn fails(code: u16) -> Record {
     minor(code, 12)
 }
 
-/// Fails A and grades C, in total alone: by 9.0 from S, by 12.0 from L.
+/// Fails A and grades C, in total alone: by 9.0 from S, by 12.0 from L. Fails B and grades C, in total
+/// alone: by 2+18-12-5 = 3.0 from S, by 5+18-12-5 = 6.0 from L.
 fn fails_to_c(code: u16) -> Record {
     minor(code, 18)
 }
@@ -125,6 +126,21 @@ fn fails_to_c(code: u16) -> Record {
 /// Fails A and grades Substandard, in critical alone: by 4.0 from S, by 4.5 from L.
 fn fails_to_s(code: u16) -> Record {
     unit(code, [5, 0, 0, 0])
+}
+
+/// Fails C, in total alone: by 2+23-17-7 = 1.0 from S, by 7+23-17-7 = 6.0 from L.
+fn fails_c(code: u16) -> Record {
+    minor(code, 23)
+}
+
+/// At the T of B in total, where it keeps a CuSum at L and meets. Under C it makes that of S zero.
+fn stays_at_b(code: u16) -> Record {
+    minor(code, 12)
+}
+
+/// At the T of C in total, where it keeps a CuSum at L and meets.
+fn stays_at_c(code: u16) -> Record {
+    minor(code, 17)
 }
 
 /// Within every designated T; from S it makes each CuSum of every plan zero.
@@ -224,6 +240,12 @@ fn groups() -> Vec<Group> {
             field: "step-three",
             title: "units in step 3, its end and recovery",
             cases: step_three(),
+        },
+        Group {
+            name: "LowerPlanSheets",
+            field: "lower-plans",
+            title: "two units in a row that fail the lower plan, and failures that are not two in a row",
+            cases: lower_plans(),
         },
         Group {
             name: "OvershootSheets",
@@ -592,20 +614,6 @@ fn step_three() -> Vec<Case> {
             &[(1, TOTAL, 30), (2, TOTAL, 60), (4, SEVERE, 20)],
         ),
         accepted(
-            "two failures in step three",
-            "Two failures at the lower plan start nothing further: unit 5 is under B, from its CuSums.",
-            plan(),
-            &[
-                fails(1),
-                fails(2),
-                unit(3, [0, 7, 0, 0]),
-                unit(4, [0, 7, 0, 0]),
-                unit(5, [0, 3, 0, 0]),
-            ],
-            "BBfA BBfA CCuB CCuB BBuB",
-            &[(1, TOTAL, 30), (2, TOTAL, 60), (3, SEVERE, 20), (4, SEVERE, 40)],
-        ),
-        accepted(
             "above the tolerance",
             "Unit 4 has two severe defects, within the T of B and above that of A: it does not qualify, else\n\
              units 3 to 5 would be recovered and unit 6 be under A.",
@@ -691,6 +699,167 @@ fn step_three() -> Vec<Case> {
             ],
             "AAmA BBfA BBfA BBuB BBuB AArB AArB AArB",
             &[(2, TOTAL, 5), (3, TOTAL, 15)],
+        ),
+    ]
+}
+
+/// Step 3 begins with units 1 and 2, mostly at B. The last unit shows which plan is in force, by its
+/// CuSums too: at L of a plan that goes on, from S of one that starts.
+fn lower_plans() -> Vec<Case> {
+    vec![
+        accepted(
+            "every lower plan",
+            "Units 3 and 4 fail B and grade C, the new lower grade. Unit 5 starts from S of C: in total,\n\
+             2+25-17-7 = 3.0, it would be over by 6.0 from the L of B, and from that of C by 8.0, as unit 6\n\
+             is; in critical, 1+4-2-2 = 1.0, it would meet from the S of B. Both fail C: unit 7 has no plan\n\
+             and is not over.",
+            plan(),
+            &[
+                fails(1),
+                fails(2),
+                fails_to_c(3),
+                fails_to_c(4),
+                unit(5, [4, 0, 0, 21]),
+                minor(6, 25),
+                minor(7, 25),
+            ],
+            "BBfA BBfA CCuB CCuB SSuC SSuC SSuS",
+            &[
+                (1, TOTAL, 30),
+                (2, TOTAL, 60),
+                (3, TOTAL, 30),
+                (4, TOTAL, 60),
+                (5, CRITICAL, 10),
+                (5, TOTAL, 30),
+                (6, TOTAL, 80),
+            ],
+        ),
+        accepted(
+            "one failure behind the start of step three",
+            "Unit 2 began step 3 and does not pair with unit 3: unit 4 is under B, at its L.",
+            plan(),
+            &[fails(1), fails(2), fails_to_c(3), stays_at_b(4)],
+            "BBfA BBfA CCuB BBuB",
+            &[(1, TOTAL, 30), (2, TOTAL, 60), (3, TOTAL, 30)],
+        ),
+        accepted(
+            "three failures in step three",
+            "Units 3 and 4 fall to C. Unit 4 brought that about and does not pair with unit 5, which fails C:\n\
+             unit 6 is under C, at its L.",
+            plan(),
+            &[fails(1), fails(2), fails_to_c(3), fails_to_c(4), fails_c(5), stays_at_c(6)],
+            "BBfA BBfA CCuB CCuB SSuC CCuC",
+            &[(1, TOTAL, 30), (2, TOTAL, 60), (3, TOTAL, 30), (4, TOTAL, 60), (5, TOTAL, 10)],
+        ),
+        accepted(
+            "the worse failure first in step three",
+            "Unit 3 is above T+L of C, 24, and grades Substandard, unit 4 grades C: no plan, and not that of C.",
+            plan(),
+            &[fails(1), fails(2), minor(3, 25), fails_to_c(4), clean(5)],
+            "BBfA BBfA SSuB CCuB SSuS",
+            &[(1, TOTAL, 30), (2, TOTAL, 60), (3, TOTAL, 100), (4, TOTAL, 60)],
+        ),
+        accepted(
+            "the worse failure second in step three",
+            "Unit 3 grades C, unit 4 Substandard: no plan. Unit 3 fails in total alone, unit 4 in severe\n\
+             alone, 0+9-3-3 = 3.0.",
+            plan(),
+            &[fails(1), fails(2), fails_to_c(3), unit(4, [0, 9, 0, 0]), clean(5)],
+            "BBfA BBfA CCuB SSuB SSuS",
+            &[(1, TOTAL, 30), (2, TOTAL, 60), (3, TOTAL, 30), (4, SEVERE, 30)],
+        ),
+        accepted(
+            "a unit that meets between failures in step three",
+            "Units 3 and 5 are not in a row: unit 6 is under B, at its L.",
+            plan(),
+            &[
+                fails(1),
+                fails(2),
+                fails_to_c(3),
+                stays_at_b(4),
+                fails_to_c(5),
+                stays_at_b(6),
+            ],
+            "BBfA BBfA CCuB BBuB CCuB BBuB",
+            &[(1, TOTAL, 30), (2, TOTAL, 60), (3, TOTAL, 30), (5, TOTAL, 60)],
+        ),
+        accepted(
+            "a break between failures in step three",
+            "A break forgets the failure just before, in step 3 too: unit 5 is under B, at its L.",
+            plan(),
+            &[fails(1), fails(2), fails_to_c(3), BREAK, fails_to_c(4), stays_at_b(5)],
+            "BBfA BBfA CCuB CCuB BBuB",
+            &[(1, TOTAL, 30), (2, TOTAL, 60), (3, TOTAL, 30), (4, TOTAL, 30)],
+        ),
+        accepted(
+            "a redesignation between failures in step three",
+            "B is better than C, so that step 3 goes on at C with its CuSums: unit 4 is over from L. But the\n\
+             failure just before is forgotten: unit 5 is under C, at its L, and not without a plan.",
+            plan(),
+            &[fails_to_c(1), fails(2), fails_c(3), to(B), fails_c(4), stays_at_c(5)],
+            "CCfA BBfA SSuC SSuC CCuC",
+            &[(1, TOTAL, 90), (2, TOTAL, 60), (3, TOTAL, 10), (4, TOTAL, 60)],
+        ),
+        accepted(
+            "the end of step three between failures",
+            "B is not better than B and ends step 3. Unit 3 is forgotten, and unit 4 a first failure of the\n\
+             designated plan: unit 5 is under B, at its L, outside step 3.",
+            plan(),
+            &[fails(1), fails(2), fails_to_c(3), to(B), fails_to_c(4), stays_at_b(5)],
+            "BBfA BBfA CCuB CCfB BBmB",
+            &[(1, TOTAL, 30), (2, TOTAL, 60), (3, TOTAL, 30), (4, TOTAL, 30)],
+        ),
+        accepted(
+            "run before another lower plan",
+            "Units 3 and 4 qualify, the failures set that run to none: units 7 and 8 qualify and do not end\n\
+             step 3, else unit 7 or 8 would be recovered.",
+            plan(),
+            &[
+                fails(1),
+                fails(2),
+                clean(3),
+                clean(4),
+                fails_to_c(5),
+                fails_to_c(6),
+                clean(7),
+                clean(8),
+            ],
+            "BBfA BBfA BBuB BBuB CCuB CCuB CCuC CCuC",
+            &[(1, TOTAL, 30), (2, TOTAL, 60), (5, TOTAL, 10), (6, TOTAL, 60)],
+        ),
+        accepted(
+            "recovery under another lower plan",
+            "Step 3 falls to C, the worse of the two defect grades: prerequisite Substandard does not count.\n\
+             The designated grade stays A: units 5 to 7 recover to it, and unit 8 starts it at S.",
+            plan(),
+            &[
+                fails(1),
+                fails(2),
+                unit_as(3, [0, 0, 0, 18], SUBSTANDARD, true),
+                unit_as(4, [0, 0, 0, 18], SUBSTANDARD, true),
+                clean(5),
+                clean(6),
+                clean(7),
+                unit(8, [0, 1, 3, 3]),
+            ],
+            "BBfA BBfA SSuB SSuB AArC AArC AArC AAmA",
+            &[(1, TOTAL, 30), (2, TOTAL, 60), (3, TOTAL, 30), (4, TOTAL, 60)],
+        ),
+        accepted(
+            "redesignation after another lower plan",
+            "B is better than C, the new lower grade, and keeps step 3, though not better than the old one:\n\
+             unit 5, at the T of C in every class, stays at its S. As a unit of B it would fail.",
+            plan(),
+            &[
+                fails(1),
+                fails(2),
+                fails_to_c(3),
+                fails_to_c(4),
+                to(B),
+                unit(5, [2, 5, 6, 4]),
+            ],
+            "BBfA BBfA CCuB CCuB CCuC",
+            &[(1, TOTAL, 30), (2, TOTAL, 60), (3, TOTAL, 30), (4, TOTAL, 60)],
         ),
     ]
 }
