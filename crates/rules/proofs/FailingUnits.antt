@@ -56,7 +56,7 @@ module _ (table : Table) (class : ℕ) (known : class < length classes) where
       )
 
   next-within : (state : State) (entry : Entry) → Within state → Within (next table state entry)
-  unfolding next afterBreak
+  unfolding next afterBreak restarted withoutRun
   next-within state (UnitRecord unit) within =
       unit-by table state (graded table state unit) (qualifiesIn table state unit) Within
       (λ ends. restarted-within (state .designated) Designated)

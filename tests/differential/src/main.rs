@@ -201,7 +201,7 @@ fn main() {
     for case in 0..cases {
         let seed = seed_of(seed, case);
         let long = case % 500 == 0;
-        let make = if long { generate::case } else { generate::case_with_overshoots };
+        let make = if long { generate::case } else { generate::any_case };
         let mut made = make(seed);
         if long && made.sheet.len() > 75 {
             // Breaks behind the plan take the records beyond 65,536 bytes.
