@@ -104,7 +104,7 @@ const RANDOM_SHEETS: u64 = 4000;
 /// answer and on every byte of the buffer.
 fn compare(tuned: &mut Tuned) {
     for seed in 0..RANDOM_SHEETS {
-        let case = generate::case(seed);
+        let case = generate::any_case(seed);
         let outcome = |contender: Contender| {
             let mut buffer = vec![seed as u8; case.room];
             (contender(&case.sheet, &mut buffer), buffer)
@@ -206,9 +206,10 @@ fn unit(code: usize, counts: [i64; 4]) -> Record {
     Record::Unit(Unit { code: code as u16, counts, prerequisite: 0, recoverable: true })
 }
 
-/// A unit that meets the peach plan, and one that fails it.
+/// A unit that meets the peach plan, one that fails A and grades B, and one that fails B and grades C.
 const MEETS: [i64; 4] = [0, 1, 1, 2];
 const FAILS: [i64; 4] = [0, 2, 5, 6];
+const FAILS_B: [i64; 4] = [0, 2, 5, 13];
 
 /// A sheet of units that meet, with so many codes.
 fn plain(units: usize, codes: usize) -> Vec<Record> {
@@ -218,6 +219,12 @@ fn plain(units: usize, codes: usize) -> Vec<Record> {
 /// Two units fail and three qualify, again and again.
 fn in_and_out() -> Vec<Record> {
     (0..1000).map(|i| unit(1, if i % 5 < 2 { FAILS } else { MEETS })).collect()
+}
+
+/// Two units fail A, two fail B in step 3 and three qualify under C, again and again.
+fn down_to_c() -> Vec<Record> {
+    let counts = [FAILS, FAILS, FAILS_B, FAILS_B, MEETS, MEETS, MEETS].into_iter().cycle();
+    counts.take(1000).map(|counts| unit(1, counts)).collect()
 }
 
 /// Every second unit fails, so that step 3 never begins.
@@ -308,6 +315,7 @@ fn main() {
         ("1,000 units, 1,000 codes; a map, a table by code", 1000, plain(1000, 1000), 0, 0, 0),
         ("1,000 units, every second fails", 1000, every_second_fails(), 0, 0, 500),
         ("1,000 units in and out of step 3, 600 recovered", 1000, in_and_out(), 0, 600, 400),
+        ("1,000 units, down to C in step 3, 426 recovered", 1000, down_to_c(), 0, 426, 572),
         ("1,000 units, refused at the last record", 1000, refused_last(), 11, 0, 0),
         ("1,000 units, 20,000 breaks", 1000, with_breaks(), 0, 0, 0),
     ] {

@@ -198,7 +198,8 @@ struct State {
     lower: Option<u8>,
     /// In step 3: qualifying units in a row.
     run: usize,
-    /// The defect grade of the unit just before, if it failed the designated plan.
+    /// The defect grade of the unit just before, if it failed the plan in force and none started
+    /// behind it.
     previous: Option<u8>,
     cusums: Tenths,
 }
@@ -217,7 +218,7 @@ impl State {
     fn redesignate(&mut self, table: &Table, new: u8) {
         self.designated = new;
         if self.lower.is_some_and(|lower| new < lower) {
-            self.run = 0;
+            (self.previous, self.run) = (None, 0);
         } else {
             self.lower = None;
             self.restart(table);
@@ -238,6 +239,17 @@ impl State {
         (any != 0, overshoots)
     }
 
+    /// Behind a unit that failed with this defect grade: the second of two in a row starts a lower plan.
+    fn failed(&mut self, table: &Table, grade: u8) {
+        match self.previous {
+            Some(earlier) => {
+                self.lower = Some(earlier.max(grade));
+                self.restart(table);
+            }
+            None => self.previous = Some(grade),
+        }
+    }
+
     /// Whether a unit of step 3 qualifies, the CuSums being those after it.
     fn qualifies(&self, table: &Table, tenths: Tenths) -> bool {
         let designated = &table[usize::from(self.designated)];
@@ -256,13 +268,7 @@ impl State {
         }
         let grade = best_lower(table, plan, tenths);
         write(record, unit, grade, plan, FAILED, self.cusums, overshoots);
-        match self.previous {
-            Some(earlier) => {
-                self.lower = Some(earlier.max(grade));
-                self.restart(table);
-            }
-            None => self.previous = Some(grade),
-        }
+        self.failed(table, grade);
     }
 
     /// Grades a unit in step 3, under the plan of a lower grade, into its result record, not
@@ -281,6 +287,13 @@ impl State {
         };
         let grade = if fails { best_lower(table, lower, tenths) } else { lower };
         write(record, unit, grade, lower, IN_STEP_THREE, self.cusums, overshoots);
+        if fails {
+            // Such a unit does not qualify.
+            self.run = 0;
+            self.failed(table, grade);
+            return false;
+        }
+        self.previous = None;
         self.run = if self.qualifies(table, tenths) { self.run + 1 } else { 0 };
         let ends = self.run == QUALIFYING;
         if ends {
