@@ -20,9 +20,9 @@ extern "C" {
  * and of the functions and types in C or Rust. A program, the header and the archive of one version
  * belong together. The archive does not carry its version, so that nothing notices another one.
  */
-#define HATMUYON_VERSION "0.4.0"
+#define HATMUYON_VERSION "0.5.0"
 #define HATMUYON_VERSION_MAJOR 0
-#define HATMUYON_VERSION_MINOR 4
+#define HATMUYON_VERSION_MINOR 5
 #define HATMUYON_VERSION_PATCH 0
 
 /*

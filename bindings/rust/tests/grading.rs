@@ -149,6 +149,20 @@ fn no_plan_in_force() {
 }
 
 #[test]
+fn another_lower_plan() {
+    // S, T and L of the peach plan in total. Two units fail A and grade B, two fail B and grade C, two
+    // fail C; each plan starts at its S.
+    let plan = plan_of_total([[10, 60, 40], [20, 120, 50], [20, 170, 70]]);
+    let counts = [12, 12, 18, 18, 25, 25, 25].map(|minor| unit(1, [0, 0, 0, minor]));
+    let units = records(&[plan, counts.concat()].concat());
+    let plans: Vec<_> = units.iter().map(|unit| unit.plan_grade).collect();
+    let [a, b, c] = [Grade::A, Grade::B, Grade::C].map(Some);
+    assert_eq!(plans, [a, a, b, b, c, c, None]);
+    let totals: Vec<_> = units.iter().map(|unit| (unit.cusums[3], unit.overshoots[3])).collect();
+    assert_eq!(totals, [(40, 30), (40, 60), (50, 30), (50, 60), (70, 30), (70, 80), (0, 0)]);
+}
+
+#[test]
 fn overshoots_of_worked_cases() {
     use Standing::{Failed, InStepThree, Met};
     // P1: 1/3/3, counts 8,3,2,1,12; T+L at B and C are those of P2.

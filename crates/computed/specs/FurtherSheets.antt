@@ -919,8 +919,8 @@ pub record StepThreeSheets : Type 0 where
 
 -- Units 3 and 4 fail B and grade C, the new lower grade. Unit 5 starts from S of C: in total,
 -- 2+25-17-7 = 3.0, it would be over by 6.0 from the L of B, and from that of C by 8.0, as unit 6
--- is; in critical, 1+4-2-2 = 1.0, it would meet from the S of B. Both fail C: unit 7 has no plan
--- and is not over.
+-- is; in critical, 1+4-2-2 = 1.0, it would meet from the S of B; in major, 1+7-6 = 2.0, it would be
+-- 1.0 from zero. Both fail C: unit 7 has no plan and is not over.
 unfoldable pub everyLowerPlan : List ℕ
 everyLowerPlan =
     peachPlan
@@ -928,7 +928,7 @@ everyLowerPlan =
     ∷ 0x53 ∷ 0x55 ∷ 0 ∷ 2 ∷ 0 ∷ 0 ∷ 0 ∷ 0 ∷ 0 ∷ 0 ∷ 0 ∷ 12 ∷ 0 ∷ 1  -- 2: 0,0,0,12;A;1
     ∷ 0x53 ∷ 0x55 ∷ 0 ∷ 3 ∷ 0 ∷ 0 ∷ 0 ∷ 0 ∷ 0 ∷ 0 ∷ 0 ∷ 18 ∷ 0 ∷ 1  -- 3: 0,0,0,18;A;1
     ∷ 0x53 ∷ 0x55 ∷ 0 ∷ 4 ∷ 0 ∷ 0 ∷ 0 ∷ 0 ∷ 0 ∷ 0 ∷ 0 ∷ 18 ∷ 0 ∷ 1  -- 4: 0,0,0,18;A;1
-    ∷ 0x53 ∷ 0x55 ∷ 0 ∷ 5 ∷ 0 ∷ 4 ∷ 0 ∷ 0 ∷ 0 ∷ 0 ∷ 0 ∷ 21 ∷ 0 ∷ 1  -- 5: 4,0,0,21;A;1
+    ∷ 0x53 ∷ 0x55 ∷ 0 ∷ 5 ∷ 0 ∷ 4 ∷ 0 ∷ 0 ∷ 0 ∷ 7 ∷ 0 ∷ 14 ∷ 0 ∷ 1  -- 5: 4,0,7,14;A;1
     ∷ 0x53 ∷ 0x55 ∷ 0 ∷ 6 ∷ 0 ∷ 0 ∷ 0 ∷ 0 ∷ 0 ∷ 0 ∷ 0 ∷ 25 ∷ 0 ∷ 1  -- 6: 0,0,0,25;A;1
     ∷ 0x53 ∷ 0x55 ∷ 0 ∷ 7 ∷ 0 ∷ 0 ∷ 0 ∷ 0 ∷ 0 ∷ 0 ∷ 0 ∷ 25 ∷ 0 ∷ 1  -- 7: 0,0,0,25;A;1
     ∷ [])
@@ -943,7 +943,7 @@ everyLowerPlanResults =
     ∷ 0 ∷ 0 ∷ 0 ∷ 0 ∷ 0 ∷ 0 ∷ 0 ∷ 0 ∷ 0 ∷ 0 ∷ 0 ∷ 0 ∷ 0 ∷ 0 ∷ 0 ∷ 30
     ∷ 0x47 ∷ 0x52 ∷ 0 ∷ 4 ∷ 2 ∷ 2 ∷ 1 ∷ 2 ∷ 0 ∷ 0 ∷ 0 ∷ 0 ∷ 0 ∷ 0 ∷ 0 ∷ 50  -- 4 4 C C u B 0.0 0.0 0.0 5.0
     ∷ 0 ∷ 0 ∷ 0 ∷ 0 ∷ 0 ∷ 0 ∷ 0 ∷ 0 ∷ 0 ∷ 0 ∷ 0 ∷ 0 ∷ 0 ∷ 0 ∷ 0 ∷ 60
-    ∷ 0x47 ∷ 0x52 ∷ 0 ∷ 5 ∷ 3 ∷ 3 ∷ 2 ∷ 2 ∷ 0 ∷ 20 ∷ 0 ∷ 0 ∷ 0 ∷ 0 ∷ 0 ∷ 70  -- 5 5 S S u C 2.0 0.0 0.0 7.0
+    ∷ 0x47 ∷ 0x52 ∷ 0 ∷ 5 ∷ 3 ∷ 3 ∷ 2 ∷ 2 ∷ 0 ∷ 20 ∷ 0 ∷ 0 ∷ 0 ∷ 20 ∷ 0 ∷ 70  -- 5 5 S S u C 2.0 0.0 2.0 7.0
     ∷ 0 ∷ 0 ∷ 0 ∷ 10 ∷ 0 ∷ 0 ∷ 0 ∷ 0 ∷ 0 ∷ 0 ∷ 0 ∷ 0 ∷ 0 ∷ 0 ∷ 0 ∷ 30
     ∷ 0x47 ∷ 0x52 ∷ 0 ∷ 6 ∷ 3 ∷ 3 ∷ 2 ∷ 2 ∷ 0 ∷ 0 ∷ 0 ∷ 0 ∷ 0 ∷ 0 ∷ 0 ∷ 70  -- 6 6 S S u C 0.0 0.0 0.0 7.0
     ∷ 0 ∷ 0 ∷ 0 ∷ 0 ∷ 0 ∷ 0 ∷ 0 ∷ 0 ∷ 0 ∷ 0 ∷ 0 ∷ 0 ∷ 0 ∷ 0 ∷ 0 ∷ 80

@@ -15,7 +15,7 @@ use Rattle.encoding.specs.Bytes.{byte}
 use Rattle.units.specs.Conditions.{all}
 use Rattle.units.specs.Words.{classes, hasPlan, worse, upFrom}
 use Rattle.units.proofs.Lists.{all-each}
-use Rattle.units.proofs.Tests.{and-both}
+use Rattle.units.proofs.Tests.{and-both, not-true}
 use Rattle.rules.specs.Sheet.{inForceAt}
 use Rattle.rules.specs.TwoInARow.{secondInARow}
 use Rattle.rules.specs.Anchor.{tenthsFrom, Anchor, Latest}
@@ -26,12 +26,29 @@ use Rattle.results.specs.Record.{resultSize}
 use Rattle.outcome.specs.declared.Answer.{Answer}
 use Rattle.tally.specs.Outcome.{recordsIn}
 use Rattle.tally.specs.Accepted.{AcceptedAs, sheetIn, UnitAt, recordedPortionGrade, recordedCodeGrade, numbersInForce}
-use Rattle.demands.specs.Course.{Course, prerequisite, ClassFails, RuleTwo}
-use Rattle.demands.specs.Demand2.{GradedByRules, UnitRecorded, recordedStanding, codeOf}
+use Rattle.demands.specs.Course.{Course, prerequisite, ClassFails, SecondFailsLower, RuleTwo}
+use Rattle.demands.specs.Demand2.{GradedByRules, UnitRecorded, recordedPlanGrade, recordedStanding, codeOf}
 use Rattle.demands.specs.Demand3.{LargestOf, NoHigherAt, NeverWorse}
-use Rattle.demands.specs.Instances.{left, Each, Standing, met, failed, notRecovered, recovered, standingByte, StandingSays, gradeBy, UnitInstance, CourseInstance, CodeInstance, LargestInstance, LargestNumber, NoHigherInstance, NoLowerInstance}
+use Rattle.demands.specs.Instances.{left, Each, Standing, met, failed, notRecovered, recovered, standingByte, StandingSays, gradeBy, UnitInstance, CourseInstance, LowerPlanInstance, LowerPlansInstance, CodeInstance, LargestInstance, LargestNumber, NoHigherInstance, NoLowerInstance}
+use Rattle.demands.proofs.CourseWords.{second-lower-fails}
 use Rattle.demands.proofs.Graded.{demand2-records}
 use Rattle.demands.proofs.LargestOf.{demand3-largest-form}
+
+-- ---- numbers that are not other than so
+
+equal-unless : (x y : ℕ) → ((x ≡ y → ⊥) → ⊥) → x ≡ y
+equal-unless x y = go (eqb x y) refl
+  where
+    go : (test : Bool) → eqb x y ≡ test → ((x ≡ y → ⊥) → ⊥) → x ≡ y
+    go true same other = eqb-true x y same
+    go false same other = absurd (other (eqb-false x y same))
+
+less-unless : (x y : ℕ) → ((x < y → ⊥) → ⊥) → x < y
+less-unless x y = go (ltb x y) refl
+  where
+    go : (test : Bool) → ltb x y ≡ test → ((x < y → ⊥) → ⊥) → x < y
+    go true less other = ltb-true x y less
+    go false less other = absurd (other (λ below. omega (arith, below, ltb-false x y less)))
 
 -- ---- what is computed of each member of a list
 
@@ -102,14 +119,7 @@ module _ (bytes results : List ℕ) (course : Course) (i : ℕ) (unit : UnitReco
   portion-by met e = unit .portion (λ yes. omega (arith, unit .standing-recovered yes))
   portion-by failed e = unit .portion (λ yes. omega (arith, unit .standing-recovered yes))
   portion-by notRecovered e = unit .portion (λ yes. omega (arith, unit .standing-recovered yes))
-  portion-by recovered e =
-      let grade = recordedPortionGrade bytes results i in
-      let designated = worse (course .designated i) (prerequisite bytes i) in
-      go grade designated (eqb grade designated) refl (λ other. standing-says recovered e (λ yes. other (unit .recovered-portion yes)))
-    where
-      go : (x y : ℕ) (test : Bool) → eqb x y ≡ test → ((x ≡ y → ⊥) → ⊥) → x ≡ y
-      go x y true same other = eqb-true x y same
-      go x y false same other = absurd (other (eqb-false x y same))
+  portion-by recovered e = equal-unless _ _ (λ other. standing-says recovered e (λ yes. other (unit .recovered-portion yes)))
 
 module _ (bytes buffer : List ℕ) (answer : Answer) (results : List ℕ) (accepted : AcceptedAs bytes buffer answer results)
     (records : ℕ) (counted : recordsIn bytes ≡ records) where
@@ -156,6 +166,39 @@ module _ (bytes buffer : List ℕ) (answer : Answer) (results : List ℕ) (accep
         recorded-by : (i : ℕ) (given : Standing) → UnitAt bytes i × (eqb (recordedStanding bytes results i) (standingByte given) ≡ true)
             → UnitInstance bytes results (by-rules .course) i given
         recorded-by i given (at, same) = unit-recorded i given at (eqb-true _ _ same)
+
+  -- behind a unit in step 3 another lower plan is recorded, in step 3 too
+  abbrev startTest : ℕ → Bool
+  startTest i =
+      (unitTest bytes records i && unitTest bytes records (suc i))
+      && ((leb 2 (recordedStanding bytes results i) && leb 2 (recordedStanding bytes results (suc i)))
+      && not (eqb (recordedPlanGrade bytes results (suc i)) (recordedPlanGrade bytes results i)))
+
+  lower-plan-started : (i : ℕ) → startTest i ≡ true → LowerPlanInstance bytes results (by-rules .course) i
+  lower-plan-started i e =
+      let course = by-rules .course in
+      let lower = by-rules .lower-plans in
+      let (units, rest) = and-both (unitTest bytes records i && unitTest bytes records (suc i)) _ e in
+      let (unit, unit-next) = and-both (unitTest bytes records i) (unitTest bytes records (suc i)) units in
+      let (standings, other) = and-both (leb 2 (recordedStanding bytes results i) && leb 2 (recordedStanding bytes results (suc i))) _ rest in
+      let (standing, standing-next) = and-both (leb 2 (recordedStanding bytes results i)) (leb 2 (recordedStanding bytes results (suc i))) standings in
+      let here = by-rules .recorded i (unit-at bytes records counted i unit) in
+      let next = by-rules .recorded (suc i) (unit-at bytes records counted (suc i) unit-next) in
+      let stands = inside bytes results course i here (leb-true 2 _ standing) in
+      let still = inside bytes results course (suc i) next (leb-true 2 _ standing-next) in
+      let second : (SecondFailsLower bytes course i → ⊥) → ⊥ =
+      λ none. eqb-false _ _ (not-true _ other) (next .plan-grade ∙ by-rules .rules .lower-stays i stands still none ∙ sym (here .plan-grade)) in
+      record {
+        second-fails = second;
+        not-qualifying = λ qualifies. second (λ fails. lower .failing-not-qualifying i (second-lower-fails bytes course i fails .fails) qualifies);
+        no-run = λ first row from to. second (λ fails. lower .no-run i first fails row from to);
+        designated-stays = equal-unless _ _ (λ other-grade. second (λ fails. other-grade (lower .designated-stays i fails)));
+        worse-grade = less-unless _ _ (λ not-worse. second (λ fails. not-worse (omega (arith, lower .worse-grade i fails, here .plan-grade, next .plan-grade))));
+      }
+
+  pub lower-plans-recorded : (starts : List ℕ) → all startTest starts ≡ true → LowerPlansInstance bytes results starts
+  lower-plans-recorded starts so =
+      record { course = by-rules .course; rules = by-rules .rules; lower-plans = each startTest lower-plan-started starts so }
 
   -- a code that records i and j have and no other record has
   module _ (code i j : ℕ) (unit-i : unitTest bytes records i ≡ true) (unit-j : unitTest bytes records j ≡ true)

@@ -74,6 +74,12 @@ courseOf bytes =
       defectGrade = λ i. gradedAt (sheetIn bytes) i (unitIn bytes i) .grade;
     }
 
+-- the second of two failures fails
+pub second-lower-fails : (bytes : List ℕ) (course : Course) (i : ℕ) → SecondFailsLower bytes course i → FailsLower bytes course i
+unfolding SecondFailsLower
+second-lower-fails bytes course zero here = absurd here
+second-lower-fails bytes course (suc i) (one, none, two) = two
+
 -- ---- records by their marks
 
 module _ (bytes : List ℕ) (i : ℕ) where
@@ -248,12 +254,6 @@ module _ (bytes : List ℕ) (facts : Facts bytes (recordsIn bytes)) where
       tells-as (λ ((one, none), two). (one, none, two)) (λ (one, none, two). ((one, none), two))
       (tells-and (tells-and (tells-lower i) (tells-not (tells-second-lower i))) (tells-lower (suc i)))
 
-  -- the second of two failures fails
-  pub failing-second-lower : (i : ℕ) → SecondFailsLower bytes course i → FailsLower bytes course i
-  unfolding SecondFailsLower
-  failing-second-lower zero here = absurd here
-  failing-second-lower (suc i) (one, none, two) = two
-
   pub tells-starts : (i : ℕ) → Tells (lowerPlanStartsAt sheet i) (SecondFails bytes course i ⊎ SecondFailsLower bytes course i)
   unfolding lowerPlanStartsAt
   tells-starts i = tells-or (tells-second i) (tells-second-lower i)
@@ -350,7 +350,7 @@ module _ (bytes : List ℕ) (facts : Facts bytes (recordsIn bytes)) where
       from : Restart bytes course i → KeepsStepThree bytes course i → ⊥
       from (at-break is-break) keeps = omega (arith, is-break, is-redesignation)
       from (step-three-begins second) keeps = unit-no-redesignation i (second .second-fails .unit) is-redesignation
-      from (lower-plan-again second) keeps = unit-no-redesignation i (failing-second-lower i second .unit) is-redesignation
+      from (lower-plan-again second) keeps = unit-no-redesignation i (second-lower-fails bytes course i second .unit) is-redesignation
       from (step-three-ends third) keeps = unit-no-redesignation i (unit-third i third) is-redesignation
       from (at-redesignation _ other) keeps = other keeps
 
@@ -364,7 +364,7 @@ module _ (bytes : List ℕ) (facts : Facts bytes (recordsIn bytes)) where
   pub restart-told : (i : ℕ) → Restart bytes course i → restartAt sheet i ≡ true
   restart-told i (at-break is-break) = told (tells-restart-break i is-break) (at-break is-break)
   restart-told i (step-three-begins second) = told (tells-restart-unit i (second .second-fails .unit)) (step-three-begins second)
-  restart-told i (lower-plan-again second) = told (tells-restart-unit i (failing-second-lower i second .unit)) (lower-plan-again second)
+  restart-told i (lower-plan-again second) = told (tells-restart-unit i (second-lower-fails bytes course i second .unit)) (lower-plan-again second)
   restart-told i (step-three-ends third) = told (tells-restart-unit i (unit-third i third)) (step-three-ends third)
   restart-told i (at-redesignation is-redesignation other) =
       told (tells-restart-redesignation i is-redesignation) (at-redesignation is-redesignation other)

@@ -314,7 +314,8 @@ module _ (bytes : List ℕ) (facts : Facts bytes (recordsIn bytes)) where
       → ((i : ℕ) → i ≤ recordsIn bytes → SameBefore course other i) × ((i : ℕ) → UnitAt bytes i → i < recordsIn bytes → SameAt course other i)
   same-course other others =
       one-course bytes (recordsIn bytes) course other rules others bounded
-      (λ j. settled (words.tells-unit bytes facts j)) (λ j. settled (words.tells-second bytes facts j)) (λ j. settled (words.tells-second-lower bytes facts j)) (λ j. settled (words.tells-third bytes facts j))
+      (λ j. settled (words.tells-unit bytes facts j)) (λ j. settled (words.tells-second bytes facts j))
+      (λ j. settled (words.tells-second-lower bytes facts j)) (λ j. settled (words.tells-third bytes facts j))
       (λ j. settled (words.tells-keeps bytes facts j)) (λ j inside. settled (words.tells-restart bytes facts j inside)) (words.kind bytes facts)
 
   pub only-course : (other : Course) → Rules bytes other → (i : ℕ) → UnitAt bytes i → SameAt course other i
@@ -413,10 +414,10 @@ module _ (bytes : List ℕ) (facts : Facts bytes (recordsIn bytes)) where
         same-plan = same-plan;
         worse-grade = λ i second. starts-worse i second .0;
         step-three-stays = λ i second. starts-worse i second .1;
-        designated-stays = λ i second. designated-kept i (words.failing-second-lower bytes facts i second .unit);
+        designated-stays = λ i second. designated-kept i (words.second-lower-fails bytes course i second .unit);
         failing-not-qualifying = not-qualifying;
         no-run = λ i first second row from to.
-            not-qualifying i (words.failing-second-lower bytes facts i second .fails)
+            not-qualifying i (words.second-lower-fails bytes course i second .fails)
             (three-qualify i (record { first = first; from = from; to = to; in-a-row = row }));
       }
 

@@ -16,14 +16,14 @@ use Rattle.outcome.specs.declared.Answer.{Answer}
 use Rattle.tally.specs.Accepted.{AcceptedAs, sheetIn}
 use Rattle.demands.specs.Demand3.{NeverWorse}
 use Rattle.computed.specs.WorkedCases.{peachPlan, peachUnits, peach, peachResults}
-use Rattle.computed.specs.FurtherSheets.{breakBetweenFailures, breakBetweenFailuresResults, everyKindOfRecord, everyKindOfRecordResults, oneMinorDefectFewer, oneMinorDefectFewerResults, oneSevereDefectFewer, oneSevereDefectFewerResults, rawValueAtLimit, rawValueAtLimitResults, noDefectInPlaceOfOne, noDefectInPlaceOfOneResults}
-use Rattle.demands.specs.Instances.{left, peachLeft, everyKindLeft, peachStandings, everyKindStandings, peachPlanned, everyKindPlanned, standingByte, CourseInstance, CodeInstance, LargestInstance, LargestNumber, FewerInstance, FewerTwiceInstance, FewerMeetsInstance, Instances}
+use Rattle.computed.specs.FurtherSheets.{breakBetweenFailures, breakBetweenFailuresResults, everyKindOfRecord, everyKindOfRecordResults, everyLowerPlan, everyLowerPlanResults, oneMinorDefectFewer, oneMinorDefectFewerResults, oneSevereDefectFewer, oneSevereDefectFewerResults, rawValueAtLimit, rawValueAtLimitResults, noDefectInPlaceOfOne, noDefectInPlaceOfOneResults}
+use Rattle.demands.specs.Instances.{left, peachLeft, everyKindLeft, lowerPlansLeft, peachStandings, everyKindStandings, peachPlanned, lowerPlansPlanned, everyKindPlanned, standingByte, CourseInstance, LowerPlansInstance, CodeInstance, LargestInstance, LargestNumber, FewerInstance, FewerTwiceInstance, FewerMeetsInstance, Instances}
 use Rattle.demands.proofs.Computing.{computing}
 use Rattle.answers.proofs.AnswerInstances.{answer-instances}
 use Rattle.computed.proofs.WorkedCases.{worked-cases}
 use Rattle.computed.proofs.FurtherSheets.{further-sheets}
 use Rattle.demands.proofs.OneFewer.{one-fewer-compared}
-use Rattle.demands.proofs.AtUnits.{course-recorded, code-graded, largest-recorded, number-recorded, none-higher, none-lower}
+use Rattle.demands.proofs.AtUnits.{course-recorded, lower-plans-recorded, code-graded, largest-recorded, number-recorded, none-higher, none-lower}
 
 -- ---- the accepted sheets
 
@@ -40,6 +40,9 @@ every-kind-accepted : (buffer : List ℕ) → resultSize * 6 ≤ length buffer
     → AcceptedAs everyKindOfRecord buffer everyKindAnswer (everyKindLeft buffer)
 every-kind-accepted buffer holds = record { promise = sym (further-sheets .redesignations .every-kind-of-record buffer holds); accepted = refl }
 
+lower-plans-accepted : (buffer : List ℕ) → resultSize * 7 ≤ length buffer → AcceptedAs everyLowerPlan buffer peachAnswer (lowerPlansLeft buffer)
+lower-plans-accepted buffer holds = record { promise = sym (further-sheets .lower-plans .every-lower-plan buffer holds); accepted = refl }
+
 -- ---- demand 2
 
 peach-course : (buffer : List ℕ) → resultSize * 7 ≤ length buffer → CourseInstance peach (peachLeft buffer) peachStandings
@@ -52,6 +55,11 @@ every-kind-course : (buffer : List ℕ) → resultSize * 6 ≤ length buffer
 unfolding computing peachPlan everyKindOfRecord everyKindOfRecordResults standingByte
 every-kind-course buffer holds =
     course-recorded everyKindOfRecord buffer everyKindAnswer (everyKindLeft buffer) (every-kind-accepted buffer holds) 9 refl refl everyKindStandings refl
+
+lower-plans : (buffer : List ℕ) → resultSize * 7 ≤ length buffer → LowerPlansInstance everyLowerPlan (lowerPlansLeft buffer) (3 ∷ 5 ∷ [])
+unfolding computing peachPlan everyLowerPlan everyLowerPlanResults
+lower-plans buffer holds =
+    lower-plans-recorded everyLowerPlan buffer peachAnswer (lowerPlansLeft buffer) (lower-plans-accepted buffer holds) 7 refl (3 ∷ 5 ∷ []) refl
 
 code-five : (buffer : List ℕ) → resultSize * 7 ≤ length buffer → CodeInstance peach (peachLeft buffer) 4 5
 unfolding computing peachPlan peachUnits peach
@@ -73,6 +81,18 @@ peach-largest = largest-recorded peach peachResults 7 peachAnswer peach-accepted
 every-kind-largest : LargestInstance everyKindOfRecord everyKindOfRecordResults 6 everyKindPlanned
 unfolding computing peachPlan everyKindOfRecord
 every-kind-largest = largest-recorded everyKindOfRecord everyKindOfRecordResults 6 everyKindAnswer every-kind-accepted 9 refl everyKindPlanned refl
+
+lower-plans-largest : LargestInstance everyLowerPlan everyLowerPlanResults 7 lowerPlansPlanned
+unfolding computing peachPlan everyLowerPlan
+lower-plans-largest = largest-recorded everyLowerPlan everyLowerPlanResults 7 peachAnswer lower-plans-accepted 7 refl lowerPlansPlanned refl
+
+largest-started : (buffer : List ℕ) → resultSize * 7 ≤ length buffer
+    → LargestNumber everyLowerPlan (lowerPlansLeft buffer) 4 2 4 false (70 ∷ []) 20
+unfolding computing peachPlan everyLowerPlan
+largest-started =
+    number-recorded everyLowerPlan everyLowerPlanResults 7 peachAnswer lower-plans-accepted 7 refl 4 2 4 false (70 ∷ []) 20
+    refl (lit< tt) refl (restart 3 (lit< tt) refl)
+    (record { no-failure = λ j from to. let here : j ≡ 4 = omega arith in rw here; no-restart = λ j from before. absurd (omega arith) }) refl refl
 
 run-latest : Latest (sheetIn everyKindOfRecord) 2 6 5
 unfolding computing peachPlan everyKindOfRecord
@@ -189,10 +209,13 @@ instances =
       answers = answer-instances;
       course = peach-course;
       every-kind-course = every-kind-course;
+      lower-plans = lower-plans;
       code-grades = code-five;
       code-met-again = code-met-again;
       largest-form = peach-largest;
       every-kind-largest = every-kind-largest;
+      lower-plans-largest = lower-plans-largest;
+      largest-started = largest-started;
       largest-run = largest-run;
       largest-anchored = largest-anchored;
       fewer-defects = fewer-defects;

@@ -45,6 +45,7 @@ demand3-largest-form bytes buffer answer results accepted i at planned class in-
       an-anchor = an-anchor-at bytes i class;
       largest-of = λ anchor.
           ap pos (recorded-cusum bytes buffer answer results accepted i at class (omega arith))
-          ∙ largest-form-by-place (sheetIn bytes) (apart bytes (accepted-sheet bytes buffer answer results accepted .facts)) class (omega arith) i (sampleUnitAt bytes (offset bytes i)) (entry-unit bytes i (at .is-unit)) planned
+          ∙ largest-form-by-place (sheetIn bytes) (apart bytes (accepted-sheet bytes buffer answer results accepted .facts)) class (omega arith) i
+          (sampleUnitAt bytes (offset bytes i)) (entry-unit bytes i (at .is-unit)) planned
           (anchor .from) (anchor .records) (anchor .at-failure) (anchor .to-this-unit) (anchor .is-anchor) (anchor .latest);
     }

@@ -15,11 +15,11 @@ use Rattle.results.specs.Record.{resultSize}
 use Rattle.tally.specs.Accepted.{sheetIn, recordedCusum, recordedOvershoot, recordedPortionGrade, recordedCodeGrade, numbersInForce}
 use Rattle.answers.specs.Grounds.{toleranceIn, limitIn}
 use Rattle.answers.specs.AnswerInstances.{AnswerInstances}
-use Rattle.demands.specs.Course.{Course, tenTimesCount, prerequisite, ClassFails, UnitFails, Recovered, Rules}
+use Rattle.demands.specs.Course.{Course, tenTimesCount, prerequisite, ClassFails, UnitFails, SecondFailsLower, Qualifies, ThreeQualify, Recovered, Rules}
 use Rattle.demands.specs.Demand2.{recordedMark, recordedCode, recordedPlanGrade, recordedStanding, codeOf}
 use Rattle.demands.specs.Demand3.{AnchorAt}
 use Rattle.computed.specs.WorkedCases.{peach, peachResults}
-use Rattle.computed.specs.FurtherSheets.{breakBetweenFailures, breakBetweenFailuresResults, everyKindOfRecord, everyKindOfRecordResults, oneMinorDefectFewer, oneMinorDefectFewerResults, oneSevereDefectFewer, oneSevereDefectFewerResults, rawValueAtLimit, rawValueAtLimitResults, noDefectInPlaceOfOne, noDefectInPlaceOfOneResults}
+use Rattle.computed.specs.FurtherSheets.{breakBetweenFailures, breakBetweenFailuresResults, everyKindOfRecord, everyKindOfRecordResults, everyLowerPlan, everyLowerPlanResults, oneMinorDefectFewer, oneMinorDefectFewerResults, oneSevereDefectFewer, oneSevereDefectFewerResults, rawValueAtLimit, rawValueAtLimitResults, noDefectInPlaceOfOne, noDefectInPlaceOfOneResults}
 
 -- ---- the sheets
 
@@ -35,6 +35,10 @@ peachLeft buffer = left peachResults 7 buffer
 abbrev pub everyKindLeft : List ℕ → List ℕ
 everyKindLeft buffer = left everyKindOfRecordResults 6 buffer
 
+-- the sheet of seven units with every lower plan: its records 0 and 1 fail A, records 2 and 3 B, records 4 and 5 C, and record 6 has none
+abbrev pub lowerPlansLeft : List ℕ → List ℕ
+lowerPlansLeft buffer = left everyLowerPlanResults 7 buffer
+
 -- the standings of a unit
 pub data Standing : Type 0 where
   met failed notRecovered recovered : Standing
@@ -49,6 +53,9 @@ everyKindStandings = (0, failed) ∷ (1, failed) ∷ (3, notRecovered) ∷ (5, f
 -- those with a plan in force
 abbrev pub peachPlanned : List ℕ
 peachPlanned = 0 ∷ 1 ∷ 2 ∷ 3 ∷ 4 ∷ 5 ∷ 6 ∷ []
+
+abbrev pub lowerPlansPlanned : List ℕ
+lowerPlansPlanned = 0 ∷ 1 ∷ 2 ∷ 3 ∷ 4 ∷ 5 ∷ []
 
 abbrev pub everyKindPlanned : List ℕ
 everyKindPlanned = 0 ∷ 1 ∷ 3 ∷ 5 ∷ 6 ∷ []
@@ -118,6 +125,20 @@ pub record CourseInstance (bytes results : List ℕ) (standings : List (ℕ × S
   pub course : Course
   pub rules : Rules bytes course
   pub units : Each standings (λ (i, standing). UnitInstance bytes results course i standing)
+
+-- behind record i, a unit in step 3, another lower plan is recorded: of this course it is the second of two failures of the lower plan
+-- and does not qualify, no run has it in it, the designated grade stays, and the new grade is worse
+pub record LowerPlanInstance (bytes results : List ℕ) (course : Course) (i : ℕ) : Type 0 where
+  pub second-fails : (SecondFailsLower bytes course i → ⊥) → ⊥
+  pub not-qualifying : Qualifies bytes course i → ⊥
+  pub no-run : (first : ℕ) → ThreeQualify bytes course first → first ≤ i → i ≤ first + 2 → ⊥
+  pub designated-stays : course .designated (suc i) ≡ course .designated i
+  pub worse-grade : recordedPlanGrade bytes results i < recordedPlanGrade bytes results (suc i)
+
+pub record LowerPlansInstance (bytes results : List ℕ) (starts : List ℕ) : Type 0 where
+  pub course : Course
+  pub rules : Rules bytes course
+  pub lower-plans : Each starts (LowerPlanInstance bytes results course)
 
 -- a code of records i and j and no other: the code grade of either is the worse of their portion grades
 pub record CodeInstance (bytes results : List ℕ) (i j : ℕ) : Type 0 where
@@ -199,11 +220,17 @@ pub record Instances : Type 0 where
   pub course : (buffer : List ℕ) → resultSize * 7 ≤ length buffer → CourseInstance peach (peachLeft buffer) peachStandings
   pub every-kind-course : (buffer : List ℕ) → resultSize * 6 ≤ length buffer
       → CourseInstance everyKindOfRecord (everyKindLeft buffer) everyKindStandings
+  -- behind records 3 and 5 another lower plan starts
+  pub lower-plans : (buffer : List ℕ) → resultSize * 7 ≤ length buffer → LowerPlansInstance everyLowerPlan (lowerPlansLeft buffer) (3 ∷ 5 ∷ [])
   pub code-grades : (buffer : List ℕ) → resultSize * 7 ≤ length buffer → CodeInstance peach (peachLeft buffer) 4 5
   pub code-met-again : (buffer : List ℕ) → resultSize * 6 ≤ length buffer → CodeInstance everyKindOfRecord (everyKindLeft buffer) 0 8
   -- demand 3, the largest form
   pub largest-form : LargestInstance peach peachResults 7 peachPlanned
   pub every-kind-largest : LargestInstance everyKindOfRecord everyKindOfRecordResults 6 everyKindPlanned
+  pub lower-plans-largest : LargestInstance everyLowerPlan everyLowerPlanResults 7 lowerPlansPlanned
+  -- in major at record 4, from the S behind record 3, where another lower plan starts: 1 + (7 - 6)
+  pub largest-started : (buffer : List ℕ) → resultSize * 7 ≤ length buffer
+      → LargestNumber everyLowerPlan (lowerPlansLeft buffer) 4 2 4 false (70 ∷ []) 20
   -- in major at record 6, from the S at record 4, a redesignation: of 1 + (0 - 6) + (9 - 6), (0 - 6) + (9 - 6) and 9 - 6 the last, a run
   pub largest-run : (buffer : List ℕ) → resultSize * 6 ≤ length buffer
       → LargestNumber everyKindOfRecord (everyKindLeft buffer) 6 2 5 false (0 ∷ 90 ∷ []) 30

@@ -711,15 +711,15 @@ fn lower_plans() -> Vec<Case> {
             "every lower plan",
             "Units 3 and 4 fail B and grade C, the new lower grade. Unit 5 starts from S of C: in total,\n\
              2+25-17-7 = 3.0, it would be over by 6.0 from the L of B, and from that of C by 8.0, as unit 6\n\
-             is; in critical, 1+4-2-2 = 1.0, it would meet from the S of B. Both fail C: unit 7 has no plan\n\
-             and is not over.",
+             is; in critical, 1+4-2-2 = 1.0, it would meet from the S of B; in major, 1+7-6 = 2.0, it would be\n\
+             1.0 from zero. Both fail C: unit 7 has no plan and is not over.",
             plan(),
             &[
                 fails(1),
                 fails(2),
                 fails_to_c(3),
                 fails_to_c(4),
-                unit(5, [4, 0, 0, 21]),
+                unit(5, [4, 0, 7, 14]),
                 minor(6, 25),
                 minor(7, 25),
             ],
