@@ -17,8 +17,8 @@ use Rattle.units.specs.Words.{classes, hasPlan, worse, upFrom}
 use Rattle.units.proofs.Lists.{all-each}
 use Rattle.units.proofs.Tests.{and-both, not-true}
 use Rattle.rules.specs.Sheet.{inForceAt}
-use Rattle.rules.specs.TwoInARow.{secondInARow}
-use Rattle.rules.specs.Anchor.{tenthsFrom, Anchor, Latest}
+use Rattle.anchors.specs.TwoInARow.{secondInARow}
+use Rattle.anchors.specs.Anchor.{tenthsFrom, Anchor, Latest}
 use Rattle.layout.specs.Layout.{unitsIn, mark}
 use Rattle.layout.specs.declared.Mark.{Mark}
 use Rattle.layout.specs.declared.Mark.the-variants.{UnitMark, RedesignationMark, BreakMark, NoMark}
@@ -26,12 +26,12 @@ use Rattle.results.specs.Record.{resultSize}
 use Rattle.outcome.specs.declared.Answer.{Answer}
 use Rattle.tally.specs.Outcome.{recordsIn}
 use Rattle.tally.specs.Accepted.{AcceptedAs, sheetIn, UnitAt, recordedPortionGrade, recordedCodeGrade, numbersInForce}
-use Rattle.demands.specs.Course.{Course, prerequisite, ClassFails, SecondFailsLower, RuleTwo}
-use Rattle.demands.specs.Demand2.{GradedByRules, UnitRecorded, recordedPlanGrade, recordedStanding, codeOf}
+use Rattle.courses.specs.Course.{Course, prerequisite, ClassFails, SecondFailsLower, RuleTwo}
+use Rattle.courses.specs.Demand2.{GradedByRules, UnitRecorded, recordedPlanGrade, recordedStanding, codeOf}
 use Rattle.demands.specs.Demand3.{LargestOf, NoHigherAt, NeverWorse}
 use Rattle.demands.specs.Instances.{left, Each, Standing, met, failed, notRecovered, recovered, standingByte, StandingSays, gradeBy, UnitInstance, CourseInstance, LowerPlanInstance, LowerPlansInstance, CodeInstance, LargestInstance, LargestNumber, NoHigherInstance, NoLowerInstance}
-use Rattle.demands.proofs.CourseWords.{second-lower-fails}
-use Rattle.demands.proofs.Graded.{demand2-records}
+use Rattle.courses.proofs.CourseWords.{second-lower-fails}
+use Rattle.courses.proofs.Graded.{demand2-records}
 use Rattle.demands.proofs.LargestOf.{demand3-largest-form}
 
 -- ---- numbers that are not other than so

@@ -3,9 +3,9 @@ use Prim.Native.Nat.{ℕ}
 use Rattle.cusum.specs.Integers.{largestOfZeroAnd, sumℤ, runsToEnd}
 use Rattle.cusum.specs.LargestForm.{tenthsLessT, largestForm, anchorValue}
 use Rattle.encoding.specs.Bytes.{wideNumber}
-use Rattle.rules.specs.TwoInARow.{failsDesignated, failsLower, unitFailsAt, unitFailsBefore, secondInARow, unitFailsLowerAt, secondAtLower, lowerPlanStartsAt}
-use Rattle.rules.specs.ThreeInARow.{recordQualifies, unitQualifiesAt, thirdInARow}
-use Rattle.rules.specs.Anchor.{failsAt, tenthsAt, restartBy, restartAt, classFailsAt, tenthsFrom}
+use Rattle.anchors.specs.TwoInARow.{failsDesignated, failsLower, unitFailsAt, unitFailsBefore, secondInARow, unitFailsLowerAt, secondAtLower, lowerPlanStartsAt}
+use Rattle.anchors.specs.ThreeInARow.{recordQualifies, unitQualifiesAt, thirdInARow}
+use Rattle.anchors.specs.Anchor.{failsAt, tenthsAt, restartBy, restartAt, classFailsAt, tenthsFrom}
 use Rattle.tally.specs.Accepted.{sheetIn}
 use Rattle.tally.proofs.Computing as tally
 

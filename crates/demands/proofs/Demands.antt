@@ -11,7 +11,7 @@ use Rattle.answers.proofs.Listed.{demand1}
 use Rattle.answers.proofs.Grounds.{demand2-grounds}
 use Rattle.answers.proofs.NeverOverfull.{never-overfull}
 use Rattle.mold_demands.proofs.MoldDemands.{mold-demands}
-use Rattle.demands.proofs.Graded.{demand2-records}
+use Rattle.courses.proofs.Graded.{demand2-records}
 use Rattle.demands.proofs.LargestOf.{demand3-largest-form}
 use Rattle.demands.proofs.NeverWorse.{demand3-fewer-defects}
 use Rattle.computed.proofs.Peach.{small-sheets}

@@ -8,8 +8,8 @@ use native.Mathlib.Omega.{arith}
 use lib.Dec.{lit<}
 use lib.ListN.{length}
 use Rattle.units.proofs.Lists.{in-none}
-use Rattle.rules.specs.TwoInARow.{secondInARow}
-use Rattle.rules.specs.Anchor.{classFailsAt, restart, failure, Latest}
+use Rattle.anchors.specs.TwoInARow.{secondInARow}
+use Rattle.anchors.specs.Anchor.{classFailsAt, restart, failure, Latest}
 use Rattle.layout.specs.Layout.{offset}
 use Rattle.results.specs.Record.{resultSize}
 use Rattle.outcome.specs.declared.Answer.{Answer}

@@ -7,16 +7,16 @@ use mathlib.Core.List.{List}
 use native.Mathlib.Omega.{arith}
 use lib.IntN.{pos}
 use Rattle.rules.specs.Sheet.{Sheet}
-use Rattle.rules.specs.Anchor.{Anchor, opening, restart, failure}
-use Rattle.rules.proofs.Anchors.{Found, found, largest-form-by-place}
+use Rattle.anchors.specs.Anchor.{Anchor, opening, restart, failure}
+use Rattle.anchors.proofs.Anchors.{Found, found, largest-form-by-place}
 use Rattle.layout.specs.Layout.{sampleUnitAt, offset}
 use Rattle.layout.proofs.Units.{entry-unit}
 use Rattle.recording.specs.Sheet.{sheetOf}
 use Rattle.tally.specs.Accepted.{sheetIn}
 use Rattle.tally.proofs.AcceptedSheet.{accepted-sheet}
 use Rattle.demands.specs.Demand3.{AnchorAt, Demand3LargestForm}
-use Rattle.demands.proofs.Recorded.{recorded-cusum}
-use Rattle.demands.proofs.Graded.{apart}
+use Rattle.courses.proofs.Recorded.{recorded-cusum}
+use Rattle.courses.proofs.Graded.{apart}
 
 -- an anchor lies at the opening, or behind a record that is not behind the unit
 anchor-le : (sheet : Sheet) (class i from : ℕ) (failed : Bool) → Anchor sheet class i from failed → from ≤ suc i

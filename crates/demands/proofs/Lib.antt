@@ -1,7 +1,3 @@
-pub mod Recorded
-pub mod CourseWords
-pub mod OneCourse
-pub mod Graded
 pub mod LargestOf
 pub mod AlikeSheets
 pub mod NeverWorse

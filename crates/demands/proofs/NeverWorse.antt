@@ -11,13 +11,13 @@ use borrow.Author.Tests.{leb-true, leb-false}
 use Rattle.units.specs.Words.{tableOf, tenthsOf}
 use Rattle.units.specs.Unit.{classCusum, classOvershoot}
 use Rattle.rules.specs.Sheet.{Sheet, before, inForceAt, portionGrade, codeGrade}
-use Rattle.rules.specs.Anchor.{classFailsAt}
-use Rattle.rules.specs.TwoInARow.{failsDesignated, secondInARow}
+use Rattle.anchors.specs.Anchor.{classFailsAt}
+use Rattle.anchors.specs.TwoInARow.{failsDesignated, secondInARow}
 use Rattle.units.specs.Records.{isUnitThat}
 use Rattle.units.specs.declared.SampleUnit.{SampleUnit}
 use Rattle.units.specs.declared.Entry.the-variants.{Break}
-use Rattle.rules.proofs.TwoFailures.{not-second}
-use Rattle.rules.proofs.SideBySide.{Below, NoRedesignation, second, fewer-cusums, fewer-grades}
+use Rattle.anchors.proofs.TwoFailures.{not-second}
+use Rattle.anchors.proofs.SideBySide.{Below, NoRedesignation, second, fewer-cusums, fewer-grades}
 use Rattle.layout.specs.Layout.{planOf, sampleUnitAt, offset, mark, entryAt}
 use Rattle.recording.specs.Sheet.{sheetOf}
 use Rattle.layout.specs.declared.Mark.the-variants.{UnitMark}
@@ -30,7 +30,7 @@ use Rattle.tally.specs.Outcome.{recordsIn}
 use Rattle.tally.specs.Accepted.{sheetIn, UnitAt}
 use Rattle.demands.specs.Demand3.{FewerDefects, NoHigherAt, NoLowerAt, Demand3FewerDefects}
 use Rattle.tally.proofs.AcceptedSheet.{accepted-sheet}
-use Rattle.demands.proofs.Recorded.{recorded-cusum, recorded-overshoot, recorded-portion, recorded-code-grade}
+use Rattle.courses.proofs.Recorded.{recorded-cusum, recorded-overshoot, recorded-portion, recorded-code-grade}
 use Rattle.demands.proofs.AlikeSheets.{same-plans, same-marks, same-records, fellows-below, no-redesignations}
 
 -- behind the last record no unit fails

@@ -9,8 +9,8 @@ use Rattle.cusum.specs.LargestForm.{largestForm, anchorValue}
 use Rattle.encoding.specs.Bytes.{byte, number}
 use Rattle.units.specs.Words.{classes, hasPlan}
 use Rattle.rules.specs.Sheet.{inForceAt}
-use Rattle.rules.specs.Anchor.{classFailsAt, tenthsFrom, Anchor, Latest}
-use Rattle.rules.specs.TwoInARow.{secondInARow}
+use Rattle.anchors.specs.Anchor.{classFailsAt, tenthsFrom, Anchor, Latest}
+use Rattle.anchors.specs.TwoInARow.{secondInARow}
 use Rattle.layout.specs.Layout.{countsOffset, countOffset, kinds, prerequisiteOffset, offset, mark}
 use Rattle.layout.specs.declared.Mark.the-variants.{RedesignationMark}
 use Rattle.outcome.specs.declared.Answer.{Answer}

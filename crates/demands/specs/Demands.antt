@@ -14,7 +14,7 @@ use Rattle.answers.specs.Bytes.{PaperLayout}
 use Rattle.answers.specs.Demand1.{Demand1}
 use Rattle.answers.specs.Grounds.{Demand2Grounds, NeverOverfull}
 use Rattle.mold_demands.specs.MoldDemands.{MoldDemands}
-use Rattle.demands.specs.Demand2.{Demand2Records}
+use Rattle.courses.specs.Demand2.{Demand2Records}
 use Rattle.demands.specs.Demand3.{Demand3LargestForm, Demand3FewerDefects}
 use Rattle.computed.specs.Peach.{SmallSheets}
 use Rattle.computed.specs.FurtherSheets.{FurtherSheets}

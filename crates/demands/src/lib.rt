@@ -1,1 +1,1 @@
-// The demands on the grading as theorems: statements in specs/, proofs in proofs/. There is no code here.
+// Demand 3, and the demands on the grading as one theorem: statements in specs/, proofs in proofs/. There is no code here.

@@ -1,12 +1,5 @@
 pub mod Steps
-pub mod TwoFailures
 pub mod FailingUnits
 pub mod FinishedRun
-pub mod ThreeQualify
-pub mod Restarts
-pub mod StepThreeStands
-pub mod LargestForm
-pub mod Anchors
 pub mod Grades
-pub mod SideBySide
 pub mod Computing

@@ -1,5 +1,2 @@
 pub mod StepThree
 pub mod Sheet
-pub mod TwoInARow
-pub mod ThreeInARow
-pub mod Anchor

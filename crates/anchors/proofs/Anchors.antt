@@ -15,10 +15,10 @@ use Rattle.units.specs.declared.SampleUnit.{SampleUnit}
 use Rattle.units.specs.declared.Entry.the-variants.{UnitRecord}
 use Rattle.units.specs.Words.{hasPlan, classes, numbersOf, tenthsOf}
 use Rattle.units.specs.Unit.{classCusum}
 use Rattle.rules.specs.Sheet.{Sheet, before, inForceAt}
-use Rattle.rules.specs.Anchor.{tenthsAt, restartAt, classFailsAt, tenthsFrom, Anchor, opening, restart, failure, Latest}
+use Rattle.anchors.specs.Anchor.{tenthsAt, restartAt, classFailsAt, tenthsFrom, Anchor, opening, restart, failure, Latest}
 use Rattle.rules.proofs.FailingUnits.{FailingNeverQualifies}
-use Rattle.rules.proofs.LargestForm.{Trail, fromStart, failedHere, trailWith, trailBefore, trailAt, largest-form}
+use Rattle.anchors.proofs.LargestForm.{Trail, fromStart, failedHere, trailWith, trailBefore, trailAt, largest-form}
 
 module _ (sheet : Sheet) (class : ℕ) where
   -- the counts of one record, and how they go on, record by record

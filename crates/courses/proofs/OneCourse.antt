@@ -14,7 +14,7 @@ use Rattle.units.specs.Words.{substandard, classes, worse}
 use Rattle.tally.specs.Accepted.{UnitAt}
 use Rattle.grounds.specs.Tells.{Tells}
 use Rattle.answers.specs.Grounds.{startIn, toleranceIn, limitIn, IsBreak, IsRedesignation}
-use Rattle.demands.specs.Course.{Course, tenTimesCount, reached, toleranceAt, limitAt, ClassFails, UnitFails, FailsInForce, SecondFails, SecondFailsLower, Qualifies, ThirdQualifies, KeepsStepThree, Restart, at-break, step-three-begins, lower-plan-again, step-three-ends, at-redesignation, BestLowerGrade, Rules, SameBefore, SameAt}
+use Rattle.courses.specs.Course.{Course, tenTimesCount, reached, toleranceAt, limitAt, ClassFails, UnitFails, FailsInForce, SecondFails, SecondFailsLower, Qualifies, ThirdQualifies, KeepsStepThree, Restart, at-break, step-three-begins, lower-plan-again, step-three-ends, at-redesignation, BestLowerGrade, Rules, SameBefore, SameAt}
 use Rattle.grounds.proofs.Tells.{tells-lt, tells-as, tells-and}
 use Rattle.answers.proofs.Rows.{one-designated}
 

@@ -16,17 +16,17 @@ use Rattle.units.specs.declared.Entry.the-variants.{UnitRecord, Redesignation, 
 use Rattle.units.proofs.Failing.{failing-worse}
 use Rattle.units.proofs.Records.{unit-that}
 use Rattle.units.proofs.Tests.{not-true, and-both}
 use Rattle.rules.specs.StepThree.{inStepThree, inForce, twoInARow, worseOfTwo, endsStepThree, withoutRun, keepsStepThree, restarted, graded, qualifiesIn, afterRedesignation, afterBreak, next, recordEndsStepThree}
 use Rattle.rules.specs.Sheet.{Sheet, before, inForceAt, gradedAt, qualifiesAt, stepThreeEndsAt}
-use Rattle.rules.specs.TwoInARow.{failsLower, unitFailsLowerAt, secondAtLower}
-use Rattle.rules.specs.ThreeInARow.{thirdInARow}
+use Rattle.anchors.specs.TwoInARow.{failsLower, unitFailsLowerAt, secondAtLower}
+use Rattle.anchors.specs.ThreeInARow.{thirdInARow}
 use Rattle.rules.specs.declared.Phase.{Phase}
 use Rattle.rules.specs.declared.Phase.the-variants.{Designated, StepThree}
 use Rattle.rules.specs.declared.State.{State}
 use Rattle.rules.proofs.Steps.{unit-falls, unit-by, redesignation-by, with-unit-in-step-three, with-unit-in-force, without-run-in-force, without-run-in-step-three, keeps-is, kept-in-force, ends-qualifying}
-use Rattle.rules.proofs.TwoFailures.{starts-is, starts-inside}
+use Rattle.anchors.proofs.TwoFailures.{starts-is, starts-inside}
 use Rattle.rules.proofs.FailingUnits.{worse-at-least, FailingNeverQualifies}
-use Rattle.rules.proofs.ThreeQualify.{ends-at-third}
+use Rattle.anchors.proofs.ThreeQualify.{ends-at-third}
 
 -- ---- of one record
 

@@ -19,12 +19,12 @@ use Rattle.units.specs.Words.{hasPlan, classes, Table, numbersOf, tenthsOf, cou
 use Rattle.units.specs.Unit.{classFails, classCusum, newCusums}
 use Rattle.units.specs.Records.{isUnitThat}
 use Rattle.units.proofs.Classes.{at-class}
 use Rattle.rules.specs.declared.State.{State}
 use Rattle.rules.specs.StepThree.{inForceIn, inForce, restarted, graded}
 use Rattle.rules.specs.Sheet.{Sheet, before, inForceAt}
-use Rattle.rules.specs.Anchor.{failsAt, tenthsAt, restartAt}
-use Rattle.rules.proofs.Restarts.{cusumsBehind, restart-starts, no-restart-keeps}
+use Rattle.anchors.specs.Anchor.{failsAt, tenthsAt, restartAt}
+use Rattle.anchors.proofs.Restarts.{cusumsBehind, restart-starts, no-restart-keeps}
 use Rattle.rules.proofs.FailingUnits.{FailingNeverQualifies, starts-at}
 
 -- ---- where the anchor lies, as a fold over the records
 

@@ -15,15 +15,15 @@ use Rattle.units.specs.declared.Entry.{Entry}
 use Rattle.units.specs.declared.Entry.the-variants.{UnitRecord, Redesignation, Break}
 use Rattle.units.proofs.Tests.{and-false}
 use Rattle.units.proofs.Monotone.{Fewer, counts-fewer, NoHigher, same-no-higher, class-cusum-mono, class-overshoot-mono, cusums-mono, class-fails-mono, unit-fails-mono, defect-grade-mono}
 use Rattle.rules.specs.StepThree.{inStepThree, inForceIn, twoInARow, failureAfter, endsStepThree, withUnit, withoutRun, restarted, graded, qualifiesIn, afterBreak, next, recordEndsStepThree}
 use Rattle.rules.specs.Sheet.{Sheet, before, inForceAt, stepThreeEndsAt, inFinishedRun, recovered, portionGrade, codeGrade}
-use Rattle.rules.specs.TwoInARow.{failsDesignated, unitFailsAt, unitFailsBefore, secondInARow}
-use Rattle.rules.specs.Anchor.{failsAt, classFailsAt}
+use Rattle.anchors.specs.TwoInARow.{failsDesignated, unitFailsAt, unitFailsBefore, secondInARow}
+use Rattle.anchors.specs.Anchor.{failsAt, classFailsAt}
 use Rattle.rules.specs.declared.Previous.{Previous}
 use Rattle.rules.specs.declared.Phase.{Phase}
 use Rattle.rules.specs.declared.Phase.the-variants.{Designated}
 use Rattle.rules.specs.declared.State.{State}
 use Rattle.rules.proofs.Steps.{stateOf, unit-passes, isFailure, two-in-a-row-is, failure-is}
 
 -- ---- what is compared
 

@@ -13,16 +13,16 @@ use Rattle.units.specs.declared.Entry.{Entry}
 use Rattle.units.specs.declared.Entry.the-variants.{UnitRecord, Redesignation, Break}
 use Rattle.units.specs.Records.{isUnitThat}
 use Rattle.units.proofs.Tests.{or-first, or-second, not-true, not-false}
 use Rattle.rules.specs.StepThree.{inForce, endsStepThree, keepsStepThree, restarted, graded, qualifiesIn, afterUnit, afterBreak, next, recordEndsStepThree}
 use Rattle.rules.specs.Sheet.{Sheet, before, inForceAt, gradedAt, stepThreeEndsAt}
-use Rattle.rules.specs.TwoInARow.{lowerPlanStartsAt}
-use Rattle.rules.specs.ThreeInARow.{thirdInARow}
-use Rattle.rules.specs.Anchor.{restartBy, restartAt}
+use Rattle.anchors.specs.TwoInARow.{lowerPlanStartsAt}
+use Rattle.anchors.specs.ThreeInARow.{thirdInARow}
+use Rattle.anchors.specs.Anchor.{restartBy, restartAt}
 use Rattle.rules.specs.declared.State.{State}
 use Rattle.rules.proofs.Steps.{unit-ends, unit-falls, unit-passes, redesignation-keeps, redesignation-restarts, with-unit-in-force, keeps-is, kept-in-force}
-use Rattle.rules.proofs.TwoFailures.{starts-is}
+use Rattle.anchors.proofs.TwoFailures.{starts-is}
 use Rattle.rules.proofs.FailingUnits.{FailingNeverQualifies}
-use Rattle.rules.proofs.ThreeQualify.{ends-at-third}
+use Rattle.anchors.proofs.ThreeQualify.{ends-at-third}
 
 -- the CuSums behind a record that brings about no restart
 unfoldable pub cusumsBehind : Table → State → Entry → List Cusum

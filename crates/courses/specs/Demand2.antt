@@ -9,8 +9,8 @@ use lib.ListN.{length}
 use Rattle.encoding.specs.Bytes.{byte, number}
 use Rattle.units.specs.Words.{substandard, classes, worse}
 use Rattle.rules.specs.Sheet.{inForceAt}
-use Rattle.rules.specs.TwoInARow.{secondInARow}
-use Rattle.rules.specs.Anchor.{classFailsAt, restartAt, tenthsFrom}
+use Rattle.anchors.specs.TwoInARow.{secondInARow}
+use Rattle.anchors.specs.Anchor.{classFailsAt, restartAt, tenthsFrom}
 use Rattle.layout.specs.Layout.{codeOffset, offset, mark, unitsBefore}
 use Rattle.layout.specs.declared.Mark.the-variants.{RedesignationMark}
 use Rattle.results.specs.Record.{markIn, codeIn, planGradeIn, standingIn}
@@ -19,7 +19,7 @@ use Rattle.tally.specs.Outcome.{recordsIn}
 use Rattle.tally.specs.Accepted.{AcceptedAs, sheetIn, UnitAt, recordedCusum, recordedOvershoot, recordedPortionGrade, recordedCodeGrade, numbersInForce}
 use Rattle.grounds.specs.Tells.{Tells}
 use Rattle.answers.specs.Grounds.{startIn, toleranceIn, limitIn, IsUnit, IsRedesignation}
-use Rattle.demands.specs.Course.{Course, tenTimesCount, prerequisite, ClassFails, UnitFails, SecondFails, Recovered, Restart, Rules, LowerPlans, SameBefore, SameAt}
+use Rattle.courses.specs.Course.{Course, tenTimesCount, prerequisite, ClassFails, UnitFails, SecondFails, Recovered, Restart, Rules, LowerPlans, SameBefore, SameAt}
 
 -- ---- what is recorded of a unit
 

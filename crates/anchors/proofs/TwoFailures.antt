@@ -14,15 +14,15 @@ use Rattle.units.specs.declared.SampleUnit.{SampleUnit}
 use Rattle.units.specs.declared.Grading.{Grading}
 use Rattle.units.specs.declared.Entry.{Entry}
 use Rattle.units.specs.declared.Entry.the-variants.{UnitRecord, Redesignation, Break}
 use Rattle.rules.specs.StepThree.{inStepThree, inForceIn, twoInARow, worseOfTwo, failureAfter, endsStepThree, withUnit, withoutRun, restarted, graded, qualifiesIn, afterUnit, afterRedesignation, afterBreak, next}
 use Rattle.rules.specs.Sheet.{Sheet, before, gradedAt, qualifiesAt}
-use Rattle.rules.specs.TwoInARow.{failsDesignated, failsLower, unitFailsAt, unitFailsBefore, secondInARow, unitFailsLowerAt, secondAtLower, lowerPlanStartsAt}
+use Rattle.anchors.specs.TwoInARow.{failsDesignated, failsLower, unitFailsAt, unitFailsBefore, secondInARow, unitFailsLowerAt, secondAtLower, lowerPlanStartsAt}
 use Rattle.rules.specs.declared.Previous.{Previous}
 use Rattle.rules.specs.declared.Previous.the-variants.{NoFailure, Failure}
 use Rattle.rules.specs.declared.Phase.{Phase}
 use Rattle.rules.specs.declared.Phase.the-variants.{Designated, StepThree}
 use Rattle.rules.specs.declared.State.{State}
 use Rattle.rules.proofs.Steps.{stateOf, unit-falls, unit-by, redesignation-restarts, redesignation-by, isFailure, two-in-a-row-is, failure-is, with-unit-in-step-three, without-run-in-step-three, keeps-is}
 
 -- ---- failing in step 3 and outside it
 

@@ -13,15 +13,15 @@ use Rattle.units.specs.declared.Entry.{Entry}
 use Rattle.units.specs.declared.Entry.the-variants.{UnitRecord}
 use Rattle.units.proofs.Records.{unit-that}
 use Rattle.units.proofs.Tests.{and-both}
 use Rattle.rules.specs.StepThree.{inStepThree, endsStepThree, withUnit, restarted, graded, qualifiesWith, qualifiesIn, next, recordEndsStepThree}
 use Rattle.rules.specs.Sheet.{Sheet, before, stepThreeEndsAt}
-use Rattle.rules.specs.ThreeInARow.{recordQualifies, unitQualifiesAt, thirdInARow}
+use Rattle.anchors.specs.ThreeInARow.{recordQualifies, unitQualifiesAt, thirdInARow}
 use Rattle.rules.specs.declared.Phase.{Phase}
 use Rattle.rules.specs.declared.Phase.the-variants.{Designated, StepThree}
 use Rattle.rules.specs.declared.State.{State}
 use Rattle.rules.proofs.Steps.{unit-by, isFailure, two-in-a-row-is}
 use Rattle.rules.proofs.FailingUnits.{FailingNeverQualifies}
 use Rattle.rules.proofs.FinishedRun.{Qualifying, finished-run}
 
 -- ---- what a qualifying unit does to the run
 

@@ -25,18 +25,18 @@ use Rattle.units.proofs.CodeGrade.{UnitWith, none-worse, attained}
 use Rattle.units.proofs.Tests.{and-both}
 use Rattle.rules.specs.StepThree.{inStepThree, inForceIn, endsStepThree, restarted, graded}
 use Rattle.rules.specs.Sheet.{Sheet, before, designatedAt, inForceAt, qualifiesAt, inFinishedRun, recovered, portionGrade, standingOf, standing, codeGrade}
-use Rattle.rules.specs.ThreeInARow.{recordQualifies, unitQualifiesAt}
-use Rattle.rules.specs.Anchor.{tenthsFrom}
+use Rattle.anchors.specs.ThreeInARow.{recordQualifies, unitQualifiesAt}
+use Rattle.anchors.specs.Anchor.{tenthsFrom}
 use Rattle.rules.specs.declared.Phase.{Phase}
 use Rattle.rules.specs.declared.Phase.the-variants.{Designated, StepThree}
-use Rattle.rules.proofs.Anchors.{tenths-go-on}
+use Rattle.anchors.proofs.Anchors.{tenths-go-on}
 use Rattle.rules.proofs.FailingUnits.{FailingNeverQualifies, failing-never-qualifies}
 use Rattle.rules.proofs.Grades.{in-force-at-most}
 use Rattle.rules.proofs.FinishedRun.{finished-run, in-run, run-in}
-use Rattle.rules.proofs.TwoFailures.{begins-at-second, lower-is-worse}
-use Rattle.rules.proofs.ThreeQualify.{qualifies-at, third-ends}
-use Rattle.rules.proofs.Restarts.{cusumsBehind, restart-starts, no-restart-keeps}
-use Rattle.rules.proofs.StepThreeStands as stands
+use Rattle.anchors.proofs.TwoFailures.{begins-at-second, lower-is-worse}
+use Rattle.anchors.proofs.ThreeQualify.{qualifies-at, third-ends}
+use Rattle.anchors.proofs.Restarts.{cusumsBehind, restart-starts, no-restart-keeps}
+use Rattle.anchors.proofs.StepThreeStands as stands
 use Rattle.rules.proofs.Steps.{in-force-outside, ends-qualifying}
 use Rattle.layout.specs.Layout.{recoverableOffset, sampleUnitAt, offset}
 use Rattle.layout.proofs.Units.{entry-unit}
@@ -51,14 +51,14 @@ use Rattle.tally.proofs.AcceptedSheet.{accepted-sheet}
 use Rattle.tally.proofs.Entries.{unit-is, new-grades}
 use Rattle.tally.proofs.Overfull.{cusum-graded}
 use Rattle.answers.specs.Grounds.{startIn, toleranceIn, limitIn, newGrade, IsBreak, IsRedesignation}
-use Rattle.demands.specs.Course.{Course, tenTimesCount, prerequisite, ClassFails, UnitFails, SecondFails, SecondFailsLower, Qualifies, AmongThree, Recovered, Restart, RuleTwo, BestLowerGrade, RuleThree, Rules, LowerPlans, SameBefore, SameAt}
-use Rattle.demands.specs.Demand2.{recordedStanding, UnitRecorded, WorstOfCode, SameRecords, SameWords, Demand2Records}
+use Rattle.courses.specs.Course.{Course, tenTimesCount, prerequisite, ClassFails, UnitFails, SecondFails, SecondFailsLower, Qualifies, AmongThree, Recovered, Restart, RuleTwo, BestLowerGrade, RuleThree, Rules, LowerPlans, SameBefore, SameAt}
+use Rattle.courses.specs.Demand2.{recordedStanding, UnitRecorded, WorstOfCode, SameRecords, SameWords, Demand2Records}
 use Rattle.grounds.proofs.Tells.{told, not-told}
 use Rattle.answers.proofs.Rows.{designated-just-before, is-redesignation-mark, redesignation-mark-is}
-use Rattle.demands.proofs.CourseWords as words
-use Rattle.demands.proofs.CourseWords.{unitIn, courseOf, break-entry, redesignation-entry}
-use Rattle.demands.proofs.OneCourse.{settled, one-course}
-use Rattle.demands.proofs.Recorded.{recorded-portion, recorded-code-grade, recorded-plan, recorded-standing, recorded-code, recorded-cusum, recorded-overshoot, recorded-mark, overshoot-at-most}
+use Rattle.courses.proofs.CourseWords as words
+use Rattle.courses.proofs.CourseWords.{unitIn, courseOf, break-entry, redesignation-entry}
+use Rattle.courses.proofs.OneCourse.{settled, one-course}
+use Rattle.courses.proofs.Recorded.{recorded-portion, recorded-code-grade, recorded-plan, recorded-standing, recorded-code, recorded-cusum, recorded-overshoot, recorded-mark, overshoot-at-most}
 
 -- ---- of a phase
 

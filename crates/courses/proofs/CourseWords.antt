@@ -21,10 +21,10 @@ use Rattle.units.specs.declared.Entry.{Entry}
 use Rattle.units.specs.declared.Entry.the-variants.{UnitRecord, Redesignation, Break}
 use Rattle.rules.specs.StepThree.{inStepThree, inForceIn, qualifiesWith}
 use Rattle.rules.specs.Sheet.{Sheet, before, designatedAt, inForceAt, gradedAt}
-use Rattle.rules.specs.TwoInARow.{failsDesignated, failsLower, unitFailsAt, unitFailsBefore, secondInARow, unitFailsLowerAt, secondAtLower, lowerPlanStartsAt}
-use Rattle.rules.specs.ThreeInARow.{recordQualifies, unitQualifiesAt, thirdInARow}
-use Rattle.rules.specs.Anchor.{failsAt, tenthsAt, classFailsAt, restartBy, restartAt, tenthsFrom}
-use Rattle.rules.proofs.Anchors.{tenths-of-one}
+use Rattle.anchors.specs.TwoInARow.{failsDesignated, failsLower, unitFailsAt, unitFailsBefore, secondInARow, unitFailsLowerAt, secondAtLower, lowerPlanStartsAt}
+use Rattle.anchors.specs.ThreeInARow.{recordQualifies, unitQualifiesAt, thirdInARow}
+use Rattle.anchors.specs.Anchor.{failsAt, tenthsAt, classFailsAt, restartBy, restartAt, tenthsFrom}
+use Rattle.anchors.proofs.Anchors.{tenths-of-one}
 use Rattle.rules.specs.declared.Phase.{Phase}
 use Rattle.rules.specs.declared.Phase.the-variants.{Designated, StepThree}
 use Rattle.layout.specs.Layout.{markSize, sampleUnitAt, offset, mark, entryOf, entryAt, unitsBefore}
@@ -41,7 +41,7 @@ use Rattle.tally.proofs.Entries.{unit-is, designated-before, designated-planned
 use Rattle.tally.proofs.Overfull.{cusum-graded}
 use Rattle.grounds.specs.Tells.{Tells}
 use Rattle.answers.specs.Grounds.{toleranceIn, limitIn, startIn, IsUnit, IsRedesignation, IsBreak, newGrade}
-use Rattle.demands.specs.Course.{Course, classCounts, tenTimesCount, ClassFails, UnitFails, FailsDesignated, FailsLower, SecondFails, SecondFailsLower, Qualifies, ThreeQualify, ThirdQualifies, KeepsStepThree, Restart, at-break, step-three-begins, lower-plan-again, step-three-ends, at-redesignation}
+use Rattle.courses.specs.Course.{Course, classCounts, tenTimesCount, ClassFails, UnitFails, FailsDesignated, FailsLower, SecondFails, SecondFailsLower, Qualifies, ThreeQualify, ThirdQualifies, KeepsStepThree, Restart, at-break, step-three-begins, lower-plan-again, step-three-ends, at-redesignation}
 use Rattle.grounds.proofs.Tells.{told, tells-true, tells-false, tells-lt, tells-le, tells-eq, tells-as, tells-not, tells-and, tells-or, tells-any, tells-all}
 use Rattle.answers.proofs.Rows.{numbers-there, Marked, as-unit, as-redesignation, as-break, as-none, marked, is-unit-mark, is-redesignation-mark, is-break-mark, unit-mark-is}
 

@@ -9,11 +9,11 @@ use Rattle.units.specs.Unit.{classFails}
 use Rattle.units.specs.Records.{isUnitThat}
 use Rattle.units.specs.declared.Entry.{Entry}
 use Rattle.units.specs.declared.Entry.the-variants.{UnitRecord, Redesignation, Break}
 use Rattle.rules.specs.StepThree.{inStepThree, inForce}
 use Rattle.rules.specs.Sheet.{Sheet, before, inForceAt}
-use Rattle.rules.specs.TwoInARow.{lowerPlanStartsAt}
-use Rattle.rules.specs.ThreeInARow.{thirdInARow}
+use Rattle.anchors.specs.TwoInARow.{lowerPlanStartsAt}
+use Rattle.anchors.specs.ThreeInARow.{thirdInARow}
 use Rattle.rules.specs.declared.State.{State}
 
 -- a class fails at a record by rule 2
 unfoldable pub failsAt : Table → ℕ → State → Entry → Bool

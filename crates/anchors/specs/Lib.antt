@@ -1,0 +1,3 @@
+pub mod TwoInARow
+pub mod ThreeInARow
+pub mod Anchor

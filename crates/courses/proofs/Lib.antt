@@ -1,0 +1,4 @@
+pub mod Recorded
+pub mod CourseWords
+pub mod OneCourse
+pub mod Graded
