@@ -172,8 +172,8 @@ module _ (sheet : Sheet) (class : ℕ) where
       go earlier false e false r = found-kept i e r earlier
 
 -- THE FIRST HALF OF DEMAND 3, over records, with the anchor told by its place
-pub largest-form-by-place : (sheet : Sheet) → FailingNeverQualifies sheet → (class : ℕ) → class < length classes → (i : ℕ) (unit : SampleUnit) → sheet .entry i ≡ UnitRecord unit
-    → hasPlan (inForceAt sheet i) ≡ true
+pub largest-form-by-place : (sheet : Sheet) → FailingNeverQualifies sheet → (class : ℕ) → class < length classes
+    → (i : ℕ) (unit : SampleUnit) → sheet .entry i ≡ UnitRecord unit → hasPlan (inForceAt sheet i) ≡ true
     → (from n : ℕ) (failed : Bool) → from + n ≡ suc i → Anchor sheet class i from failed → Latest sheet class i from →
     let numbers = numbersOf (sheet .table) (inForceAt sheet i) class in
     pos (classCusum (sheet .table) (inForceAt sheet i) (before sheet i .cusums) (tenthsOf unit) class)

@@ -12,14 +12,15 @@ use Rattle.units.specs.declared.SampleUnit.{SampleUnit}
 use Rattle.units.specs.declared.Entry.{Entry}
 use Rattle.units.specs.declared.Entry.the-variants.{UnitRecord, Redesignation, Break}
 use Rattle.units.specs.Records.{isUnitThat}
-use Rattle.units.proofs.Tests.{or-first, or-second, not-true, not-false}
+use borrow.Author.Tests.{not-true, not-false}
+use Rattle.units.proofs.Tests.{or-first, or-second}
 use Rattle.rules.specs.StepThree.{inForce, endsStepThree, keepsStepThree, restarted, graded, qualifiesIn, afterUnit, afterBreak, next, recordEndsStepThree}
 use Rattle.rules.specs.Sheet.{Sheet, before, inForceAt, gradedAt, stepThreeEndsAt}
 use Rattle.anchors.specs.TwoInARow.{lowerPlanStartsAt}
 use Rattle.anchors.specs.ThreeInARow.{thirdInARow}
 use Rattle.anchors.specs.Anchor.{restartBy, restartAt}
 use Rattle.rules.specs.declared.State.{State}
-use Rattle.rules.proofs.Steps.{unit-ends, unit-falls, unit-passes, redesignation-keeps, redesignation-restarts, with-unit-in-force, keeps-is, kept-in-force}
+use Rattle.rules.proofs.Steps.{unit-ends, unit-starts-lower, unit-passes, redesignation-keeps, redesignation-restarts, with-unit-in-force, keeps-is, kept-in-force}
 use Rattle.anchors.proofs.TwoFailures.{starts-is}
 use Rattle.rules.proofs.FailingUnits.{FailingNeverQualifies}
 use Rattle.anchors.proofs.ThreeQualify.{ends-at-third}
@@ -58,7 +59,7 @@ module _ (sheet : Sheet) (apart : FailingNeverQualifies sheet) (i : ℕ) where
             rw (unit-ends table state (gradedAt sheet i unit) (qualifiesIn table state unit) (sym ends-is ∙ ends))
             (unfold restarted in refl)
         go false ends true second e =
-            rw (unit-falls table state (gradedAt sheet i unit) (qualifiesIn table state unit) (sym ends-is ∙ ends)
+            rw (unit-starts-lower table state (gradedAt sheet i unit) (qualifiesIn table state unit) (sym ends-is ∙ ends)
             (starts-is sheet i unit is-unit ∙ second))
             (unfold restarted in refl)
         go false ends false second e = absurd (true≢false (sym e))

@@ -17,7 +17,7 @@ use Rattle.units.proofs.Tests.{and-false}
 use Rattle.units.proofs.Monotone.{Fewer, counts-fewer, NoHigher, same-no-higher, class-cusum-mono, class-overshoot-mono, cusums-mono, class-fails-mono, unit-fails-mono, defect-grade-mono}
 use Rattle.rules.specs.StepThree.{inStepThree, inForceIn, twoInARow, failureAfter, endsStepThree, withUnit, withoutRun, restarted, graded, qualifiesIn, afterBreak, next, recordEndsStepThree}
 use Rattle.rules.specs.Sheet.{Sheet, before, inForceAt, stepThreeEndsAt, inFinishedRun, recovered, portionGrade, codeGrade}
-use Rattle.anchors.specs.TwoInARow.{failsDesignated, unitFailsAt, unitFailsBefore, secondInARow}
+use Rattle.anchors.specs.TwoInARow.{failsInForce, failsDesignated, unitFailsAt, unitFailsBefore, secondInARow}
 use Rattle.anchors.specs.Anchor.{failsAt, classFailsAt}
 use Rattle.rules.specs.declared.Previous.{Previous}
 use Rattle.rules.specs.declared.Phase.{Phase}
@@ -109,7 +109,7 @@ module _ (table : Table) (designated : ℕ) where
       → (just-failed && failsDesignated table (stateOf designated p' Designated cs') e') ≡ false
       → Both designated (failsDesignated table (stateOf designated p' Designated cs') e')
       (next table (stateOf designated p Designated cs) e) (next table (stateOf designated p' Designated cs') e')
-  unfolding Below NoRedesignation failsDesignated isUnitThat inStepThree
+  unfolding Below NoRedesignation failsDesignated failsInForce isUnitThat inForceIn inStepThree
   record-beside p p' cs cs' just-failed (UnitRecord u) (UnitRecord v) new remembered lower below none two =
       let fewer = counts-fewer u v (below .fewer) in
       let fails-too = unit-fails-mono table designated cs cs' (tenthsOf u) (tenthsOf v) lower fewer in

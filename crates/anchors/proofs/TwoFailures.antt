@@ -16,33 +16,30 @@ use Rattle.units.specs.declared.Entry.{Entry}
 use Rattle.units.specs.declared.Entry.the-variants.{UnitRecord, Redesignation, Break}
 use Rattle.rules.specs.StepThree.{inStepThree, inForceIn, twoInARow, worseOfTwo, failureAfter, endsStepThree, withUnit, withoutRun, restarted, graded, qualifiesIn, afterUnit, afterRedesignation, afterBreak, next}
 use Rattle.rules.specs.Sheet.{Sheet, before, gradedAt, qualifiesAt}
-use Rattle.anchors.specs.TwoInARow.{failsDesignated, failsLower, unitFailsAt, unitFailsBefore, secondInARow, unitFailsLowerAt, secondAtLower, lowerPlanStartsAt}
+use Rattle.anchors.specs.TwoInARow.{failsInForce, failsDesignated, failsLower, unitFailsAt, unitFailsBefore, secondInARow, unitFailsLowerAt, secondAtLower, lowerPlanStartsAt}
 use Rattle.rules.specs.declared.Previous.{Previous}
 use Rattle.rules.specs.declared.Previous.the-variants.{NoFailure, Failure}
 use Rattle.rules.specs.declared.Phase.{Phase}
 use Rattle.rules.specs.declared.Phase.the-variants.{Designated, StepThree}
 use Rattle.rules.specs.declared.State.{State}
-use Rattle.rules.proofs.Steps.{stateOf, unit-falls, unit-by, redesignation-restarts, redesignation-by, isFailure, two-in-a-row-is, failure-is, with-unit-in-step-three, without-run-in-step-three, keeps-is}
+use Rattle.rules.proofs.Steps.{stateOf, unit-starts-lower, unit-by, redesignation-restarts, redesignation-by, isFailure, two-in-a-row-is, failure-is, with-unit-in-step-three, without-run-in-step-three, keeps-is, ends-none}
 
 -- ---- failing in step 3 and outside it
 
 -- in step 3 no unit fails the designated plan, and outside it none the lower plan
-fails-outside : (table : Table) (state : State) (entry : Entry) → inStepThree (state .phase) ≡ true → failsDesignated table state entry ≡ false
-unfolding failsDesignated isUnitThat
-fails-outside table state (UnitRecord unit) inside = rw inside
-fails-outside table state (Redesignation new) inside = refl
-fails-outside table state Break inside = refl
+no-designated-inside : (table : Table) (state : State) (entry : Entry) → inStepThree (state .phase) ≡ true → failsDesignated table state entry ≡ false
+unfolding failsDesignated
+no-designated-inside table state entry inside = rw inside
 
-fails-inside : (table : Table) (state : State) (entry : Entry) → inStepThree (state .phase) ≡ false → failsLower table state entry ≡ false
-unfolding failsLower isUnitThat
-fails-inside table state (UnitRecord unit) out = rw out
-fails-inside table state (Redesignation new) out = refl
-fails-inside table state Break out = refl
+no-lower-outside : (table : Table) (state : State) (entry : Entry) → inStepThree (state .phase) ≡ false → failsLower table state entry ≡ false
+unfolding failsLower
+no-lower-outside table state entry out = rw out
 
-ends-inside : (phase : Phase) (qualifies : Bool) → endsStepThree phase qualifies ≡ true → inStepThree phase ≡ true
-unfolding endsStepThree inStepThree
-ends-inside Designated qualifies ends = absurd (false≢true ends)
-ends-inside (StepThree lower run) qualifies ends = refl
+-- and a record that does not fail the plan in force fails neither
+fails-neither : (table : Table) (state : State) (entry : Entry) → failsInForce table state entry ≡ false
+    → (failsDesignated table state entry ≡ false) × (failsLower table state entry ≡ false)
+unfolding failsDesignated failsLower
+fails-neither table state entry none = rw none (and-false (not (inStepThree (state .phase))), and-false (inStepThree (state .phase)))
 
 -- ---- what the state remembers of the record just before
 
@@ -75,7 +72,7 @@ module _ (table : Table) (designated : ℕ) (previous : Previous) (cusums : List
   -- a lower plan starts, as the state has it and by the two
   starts-by : (phase : Phase) → Remembers phase previous failed failed-lower
       → twoInARow previous (graded table (at phase) unit .fails) ≡ (second phase || second-lower phase)
-  unfolding Remembers failsDesignated failsLower isUnitThat graded inForceIn inStepThree
+  unfolding Remembers failsDesignated failsLower failsInForce isUnitThat graded inForceIn inStepThree
   starts-by Designated remembers =
       let fails = unitFails table designated cusums (tenthsOf unit) in
       two-in-a-row-is previous fails
@@ -87,43 +84,46 @@ module _ (table : Table) (designated : ℕ) (previous : Previous) (cusums : List
       ∙ ap (λ (b : Bool). b && fails) remembers
       ∙ sym (ap (λ (b : Bool). b || (failed-lower && fails)) (and-false failed))
 
-  designated-fails : graded table (at Designated) unit .fails ≡ failsDesignated table (at Designated) (UnitRecord unit)
-  unfolding failsDesignated isUnitThat graded inForceIn inStepThree
-  designated-fails = refl
-
-  lower-fails : (lower run : ℕ) → graded table (at (StepThree lower run)) unit .fails ≡ failsLower table (at (StepThree lower run)) (UnitRecord unit)
-  unfolding failsLower isUnitThat graded inForceIn inStepThree
-  lower-fails lower run = refl
+  -- it fails, as it is graded and as it is told
+  fails-is : (phase : Phase) → graded table (at phase) unit .fails ≡ failsInForce table (at phase) (UnitRecord unit)
+  unfolding failsInForce isUnitThat graded
+  fails-is phase = refl
 
   -- what is remembered of it
+  abbrev RecallsUnit : Phase → State → Type 0
+  RecallsUnit phase =
+      Recalls (failsDesignated table (at phase) (UnitRecord unit)) (failsLower table (at phase) (UnitRecord unit) && not (second-lower phase))
+
   after-unit-by : (phase : Phase) → Remembers phase previous failed failed-lower
-      → Recalls (failsDesignated table (at phase) (UnitRecord unit)) (failsLower table (at phase) (UnitRecord unit) && not (second-lower phase))
-      (afterUnit table (at phase) (graded table (at phase) unit) (qualifiesIn table (at phase) unit))
+      → RecallsUnit phase (afterUnit table (at phase) (graded table (at phase) unit) (qualifiesIn table (at phase) unit))
+  unfolding Remembers restarted isFailure withUnit endsStepThree failsDesignated failsLower inStepThree
   after-unit-by Designated remembers =
-      unit-by table (at Designated) (graded table (at Designated) unit) (qualifiesIn table (at Designated) unit)
-      (Recalls (failsDesignated table (at Designated) (UnitRecord unit)) (failsLower table (at Designated) (UnitRecord unit) && not (second-lower Designated)))
-      (λ ends. absurd (false≢true (unfold endsStepThree in ends)))
-      (λ ends two. unfold restarted Remembers isFailure failsLower isUnitThat inStepThree in refl)
-      (λ ends one. unfold Remembers withUnit in failure-is (graded table (at Designated) unit .fails) (graded table (at Designated) unit .grade) ∙ designated-fails)
+      let grading : Grading = graded table (at Designated) unit in
+      unit-by table (at Designated) grading (qualifiesIn table (at Designated) unit) (RecallsUnit Designated)
+      (λ ends. absurd (false≢true ends))
+      (λ ends two. refl)
+      (λ ends one. failure-is (grading .fails) (grading .grade) ∙ fails-is Designated)
   after-unit-by (StepThree lower run) remembers =
-      unit-by table inside (graded table inside unit) (qualifiesIn table inside unit)
-      (Recalls (failsDesignated table inside (UnitRecord unit)) (failsLower table inside (UnitRecord unit) && not (second-lower (StepThree lower run))))
-      (λ ends. unfold restarted Remembers isFailure failsDesignated isUnitThat inStepThree in refl)
-      (λ ends two. unfold restarted Remembers isFailure in
-      sym (ap (λ (b : Bool). failsLower table inside (UnitRecord unit) && not b) (sym by-second ∙ two) ∙ and-false (failsLower table inside (UnitRecord unit))))
-      (λ ends one. unfold Remembers withUnit in
-      failure-is (graded table inside unit .fails) (graded table inside unit .grade)
-      ∙ lower-fails lower run
-      ∙ sym (ap (λ (b : Bool). failsLower table inside (UnitRecord unit) && not b) (sym by-second ∙ one) ∙ and-true (failsLower table inside (UnitRecord unit))))
+      let grading : Grading = graded table inside unit in
+      unit-by table inside grading (qualifiesIn table inside unit) (RecallsUnit (StepThree lower run))
+      (λ ends. refl)
+      (λ ends two. sym (ap (λ (b : Bool). failing && not b) (sym by-second ∙ two) ∙ and-false failing))
+      (λ ends one.
+      failure-is (grading .fails) (grading .grade)
+      ∙ fails-is (StepThree lower run)
+      ∙ sym (ap (λ (b : Bool). failing && not b) (sym by-second ∙ one) ∙ and-true failing))
     where
       inside : State
       inside = stateOf designated previous (StepThree lower run) cusums
+
+      failing : Bool
+      failing = failsLower table inside (UnitRecord unit)
 
       by-second : twoInARow previous (graded table inside unit .fails) ≡ second-lower (StepThree lower run)
       by-second =
           starts-by (StepThree lower run) remembers
           ∙ ap (λ (b : Bool). b || second-lower (StepThree lower run))
-          (ap (λ (b : Bool). failed && b) (fails-outside table inside (UnitRecord unit) (unfold inStepThree in refl)) ∙ and-false failed)
+          (ap (λ (b : Bool). failed && b) (no-designated-inside table inside (UnitRecord unit) (unfold inStepThree in refl)) ∙ and-false failed)
 
 after-redesignation-remembers : (table : Table) (state : State) (new : ℕ) → Recalls false false (afterRedesignation table state new)
 unfolding restarted
@@ -136,9 +136,11 @@ unfolding next afterBreak
 after-record table state failed failed-lower (UnitRecord unit) remembers =
     after-unit-by table (state .designated) (state .previous) (state .cusums) failed failed-lower unit (state .phase) remembers
 after-record table state failed failed-lower (Redesignation new) remembers =
-    unfold failsDesignated failsLower isUnitThat in after-redesignation-remembers table state new
+    let (not-designated, not-lower) = fails-neither table state (Redesignation new) (unfold failsInForce isUnitThat in refl) in
+    rw (not-designated, not-lower) (after-redesignation-remembers table state new)
 after-record table state failed failed-lower Break remembers =
-    unfold failsDesignated failsLower isUnitThat restarted in none-remembered (withoutRun (state .phase))
+    let (not-designated, not-lower) = fails-neither table state Break (unfold failsInForce isUnitThat in refl) in
+    rw (not-designated, not-lower) (unfold restarted in none-remembered (withoutRun (state .phase)))
 
 -- what a unit leaves to be remembered is its own failure
 behind-failure : (table : Table) (state : State) (grading : Grading) (qualifies : Bool) → isFailure (afterUnit table state grading qualifies .previous) ≡ true
@@ -183,18 +185,19 @@ module _ (sheet : Sheet) where
   unfolding lowerPlanStartsAt secondInARow unitFailsAt unitFailsLowerAt
   starts-is i unit is-unit =
       let state : State = before sheet i in
-      starts-by (sheet .table) (state .designated) (state .previous) (state .cusums) (unitFailsBefore sheet i) (failsLowerBefore i) unit (state .phase) (remembered i)
+      starts-by (sheet .table) (state .designated) (state .previous) (state .cusums) (unitFailsBefore sheet i) (failsLowerBefore i) unit
+      (state .phase) (remembered i)
       ∙ ap (λ (entry : Entry). (unitFailsBefore sheet i && failsDesignated (sheet .table) state entry)
       || (failsLowerBefore i && failsLower (sheet .table) state entry)) (sym is-unit)
       ∙ ap (λ (b : Bool). secondInARow sheet i || b) (sym (second-lower-is i))
 
   -- outside step 3 that is the second failure of the designated plan, in it of the lower one
-  pub starts-outside : (i : ℕ) → inStepThree (before sheet i .phase) ≡ false → lowerPlanStartsAt sheet i ≡ secondInARow sheet i
+  starts-outside : (i : ℕ) → inStepThree (before sheet i .phase) ≡ false → lowerPlanStartsAt sheet i ≡ secondInARow sheet i
   unfolding lowerPlanStartsAt unitFailsLowerAt
   starts-outside i out =
       ap (λ (b : Bool). secondInARow sheet i || b)
       (second-lower-is i
-      ∙ ap (λ (b : Bool). failsLowerBefore i && b) (fails-inside (sheet .table) (before sheet i) (sheet .entry i) out)
+      ∙ ap (λ (b : Bool). failsLowerBefore i && b) (no-lower-outside (sheet .table) (before sheet i) (sheet .entry i) out)
       ∙ and-false (failsLowerBefore i))
       ∙ or-false (secondInARow sheet i)
 
@@ -202,25 +205,28 @@ module _ (sheet : Sheet) where
   unfolding lowerPlanStartsAt secondInARow unitFailsAt
   starts-inside i inside =
       ap (λ (b : Bool). b || secondAtLower sheet i)
-      (ap (λ (b : Bool). unitFailsBefore sheet i && b) (fails-outside (sheet .table) (before sheet i) (sheet .entry i) inside)
+      (ap (λ (b : Bool). unitFailsBefore sheet i && b) (no-designated-inside (sheet .table) (before sheet i) (sheet .entry i) inside)
       ∙ and-false (unitFailsBefore sheet i))
 
   -- a record that is no unit is no second
-  pub not-second : (i : ℕ) (entry : Entry) → sheet .entry i ≡ entry → failsDesignated (sheet .table) (before sheet i) entry ≡ false → secondInARow sheet i ≡ false
+  pub not-second : (i : ℕ) (entry : Entry) → sheet .entry i ≡ entry → failsInForce (sheet .table) (before sheet i) entry ≡ false
+      → secondInARow sheet i ≡ false
   unfolding secondInARow unitFailsAt
   not-second i entry is-entry none =
-      ap (λ (b : Bool). unitFailsBefore sheet i && b) (ap (failsDesignated (sheet .table) (before sheet i)) is-entry ∙ none) ∙ and-false (unitFailsBefore sheet i)
+      let fails = failsDesignated (sheet .table) (before sheet i) in
+      ap (λ (b : Bool). unitFailsBefore sheet i && b) (ap fails is-entry ∙ fails-neither (sheet .table) (before sheet i) entry none .0)
+      ∙ and-false (unitFailsBefore sheet i)
 
   -- ---- where step 3 begins
 
   begins-by : (i : ℕ) (entry : Entry) → sheet .entry i ≡ entry → inStepThree (before sheet i .phase) ≡ false
       → inStepThree (next (sheet .table) (before sheet i) entry .phase) ≡ secondInARow sheet i
-  unfolding next afterBreak restarted inStepThree failsDesignated isUnitThat
+  unfolding next afterBreak restarted inStepThree failsInForce isUnitThat
   begins-by i (UnitRecord unit) is-entry out =
       let state : State = before sheet i in
       unit-by (sheet .table) state (graded (sheet .table) state unit) (qualifiesIn (sheet .table) state unit)
       (λ (behind : State). inStepThree (behind .phase) ≡ secondInARow sheet i)
-      (λ ends. absurd (true≢false (sym (ends-inside (state .phase) _ ends) ∙ out)))
+      (λ ends. absurd (true≢false (sym ends ∙ ends-none (state .phase) _ out)))
       (λ ends two. sym (sym (by-place unit is-entry) ∙ two))
       (λ ends one. with-unit-in-step-three (state .phase) _ ∙ out ∙ sym (sym (by-place unit is-entry) ∙ one))
     where
@@ -264,9 +270,9 @@ module _ (sheet : Sheet) where
   unfolding before next restarted worseOfTwo
   lower-is-worse i first second is-first is-second starts going-on =
       let state : State = before sheet (suc i) in
-      let falls = unit-falls (sheet .table) state (gradedAt sheet (suc i) second) (qualifiesAt sheet (suc i) second) going-on
+      let started = unit-starts-lower (sheet .table) state (gradedAt sheet (suc i) second) (qualifiesAt sheet (suc i) second) going-on
       (starts-is (suc i) second is-second ∙ starts) in
       ap (λ (entry : Entry). next (sheet .table) state entry .phase) is-second
-      ∙ ap (λ (behind : State). behind .phase) falls
+      ∙ ap (λ (behind : State). behind .phase) started
       ∙ ap (λ (previous : Previous). StepThree (worseOfTwo previous (gradedAt sheet (suc i) second .grade)) 0)
       (first-remembered i first second is-first is-second starts)

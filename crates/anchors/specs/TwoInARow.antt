@@ -10,14 +10,16 @@ use Rattle.rules.specs.StepThree.{inStepThree, inForce}
 use Rattle.rules.specs.Sheet.{Sheet, before}
 use Rattle.rules.specs.declared.State.{State}
 
--- a record is a unit that fails the designated plan
-unfoldable pub failsDesignated : Table → State → Entry → Bool
-failsDesignated table state =
-    isUnitThat (λ unit. not (inStepThree (state .phase)) && unitFails table (state .designated) (state .cusums) (tenthsOf unit))
+-- a record is a unit that fails the plan in force
+unfoldable pub failsInForce : Table → State → Entry → Bool
+failsInForce table state = isUnitThat (λ unit. unitFails table (inForce state) (state .cusums) (tenthsOf unit))
 
--- a record is a unit that fails the lower plan in step 3
+-- that is the designated plan outside step 3, in it the lower plan
+unfoldable pub failsDesignated : Table → State → Entry → Bool
+failsDesignated table state entry = not (inStepThree (state .phase)) && failsInForce table state entry
+
 unfoldable pub failsLower : Table → State → Entry → Bool
-failsLower table state = isUnitThat (λ unit. inStepThree (state .phase) && unitFails table (inForce state) (state .cusums) (tenthsOf unit))
+failsLower table state entry = inStepThree (state .phase) && failsInForce table state entry
 
 module _ (sheet : Sheet) where
   -- ---- the designated plan
@@ -49,6 +51,7 @@ module _ (sheet : Sheet) where
 
   -- ---- the start of a lower plan
 
-  -- behind record i step 3 begins, or it goes on under a lower plan than before, or under none
+  -- record i is a second of either kind, so that behind it a lower plan starts, or none if the grade is Substandard. (Over a table that
+  -- no accepted sheet has, step 3 may end there.)
   unfoldable pub lowerPlanStartsAt : ℕ → Bool
   lowerPlanStartsAt i = secondInARow i || secondAtLower i

@@ -973,8 +973,8 @@ oneFailureBehindStartOfStepThreeResults =
     ∷ 0 ∷ 0 ∷ 0 ∷ 0 ∷ 0 ∷ 0 ∷ 0 ∷ 0 ∷ 0 ∷ 0 ∷ 0 ∷ 0 ∷ 0 ∷ 0 ∷ 0 ∷ 0
     ∷ []
 
--- Units 3 and 4 fall to C. Unit 4 brought that about and does not pair with unit 5, which fails C:
--- unit 6 is under C, at its L.
+-- Behind unit 4 the plan of C starts. Unit 4 brought that about and does not pair with unit 5, which
+-- fails C: unit 6 is under C, at its L.
 unfoldable pub threeFailuresInStepThree : List ℕ
 threeFailuresInStepThree =
     peachPlan
@@ -1196,7 +1196,7 @@ runBeforeAnotherLowerPlanResults =
     ∷ 0 ∷ 0 ∷ 0 ∷ 0 ∷ 0 ∷ 0 ∷ 0 ∷ 0 ∷ 0 ∷ 0 ∷ 0 ∷ 0 ∷ 0 ∷ 0 ∷ 0 ∷ 0
     ∷ []
 
--- Step 3 falls to C, the worse of the two defect grades: prerequisite Substandard does not count.
+-- The new lower grade is C, the worse of the two defect grades: prerequisites do not count.
 -- The designated grade stays A: units 5 to 7 recover to it, and unit 8 starts it at S.
 unfoldable pub recoveryUnderAnotherLowerPlan : List ℕ
 recoveryUnderAnotherLowerPlan =

@@ -2,7 +2,7 @@
 -- Each by cases on the record there; a test over the classes tells what holds of one, or of every, class.
 use Prim.Native.Nat.{ℕ, zero, suc, _+_, _*_, _<_, _≤_}
 use mathlib.Core.Path.{_≡_, refl, sym, _∙_, ap, subst, subst⁻¹}
-use mathlib.Core.Bool.{Bool, true, false, not, _&&_, true≢false, false≢true}
+use mathlib.Core.Bool.{Bool, true, false, _&&_, true≢false, false≢true}
 use mathlib.Core.List.{List, [], _∷_, map}
 use mathlib.Core.Logic.{_⊎_, inl, inr, ⊎-elim, _↔_}
 use native.Mathlib.Omega.{arith}
@@ -10,7 +10,6 @@ use lib.Dec.{ltb, leb, eqb}
 use lib.ListN.{length, getD}
 use borrow.Author.Tests.{ltb-true, ltb-false}
 use Rattle.cusum.specs.Step.{fails}
-use Rattle.cusum.specs.declared.Cusum.{Cusum}
 use Rattle.cusum.proofs.Laws.{fails-true, fails-false}
 use Rattle.encoding.specs.Bytes.{number}
 use Rattle.units.specs.Words.{substandard, classes, hasPlan, numbersOf, tenthsOf, countTenths, tenthsIn}
@@ -19,14 +18,12 @@ use Rattle.units.specs.Records.{isUnitThat}
 use Rattle.units.specs.declared.SampleUnit.{SampleUnit}
 use Rattle.units.specs.declared.Entry.{Entry}
 use Rattle.units.specs.declared.Entry.the-variants.{UnitRecord, Redesignation, Break}
-use Rattle.rules.specs.StepThree.{inStepThree, inForceIn, qualifiesWith}
+use Rattle.rules.specs.StepThree.{inStepThree, qualifiesWith}
 use Rattle.rules.specs.Sheet.{Sheet, before, designatedAt, inForceAt, gradedAt}
-use Rattle.anchors.specs.TwoInARow.{failsDesignated, failsLower, unitFailsAt, unitFailsBefore, secondInARow, unitFailsLowerAt, secondAtLower, lowerPlanStartsAt}
+use Rattle.anchors.specs.TwoInARow.{failsInForce, failsDesignated, failsLower, unitFailsAt, unitFailsBefore, secondInARow, unitFailsLowerAt, secondAtLower, lowerPlanStartsAt}
 use Rattle.anchors.specs.ThreeInARow.{recordQualifies, unitQualifiesAt, thirdInARow}
 use Rattle.anchors.specs.Anchor.{failsAt, tenthsAt, classFailsAt, restartBy, restartAt, tenthsFrom}
 use Rattle.anchors.proofs.Anchors.{tenths-of-one}
-use Rattle.rules.specs.declared.Phase.{Phase}
-use Rattle.rules.specs.declared.Phase.the-variants.{Designated, StepThree}
 use Rattle.layout.specs.Layout.{markSize, sampleUnitAt, offset, mark, entryOf, entryAt, unitsBefore}
 use Rattle.layout.specs.declared.Mark.{Mark}
 use Rattle.layout.specs.declared.Mark.the-variants.{UnitMark, RedesignationMark, BreakMark, NoMark}
@@ -41,7 +38,7 @@ use Rattle.tally.proofs.Entries.{unit-is, designated-before, designated-planned
 use Rattle.tally.proofs.Overfull.{cusum-graded}
 use Rattle.grounds.specs.Tells.{Tells}
 use Rattle.answers.specs.Grounds.{toleranceIn, limitIn, startIn, IsUnit, IsRedesignation, IsBreak, newGrade}
-use Rattle.courses.specs.Course.{Course, classCounts, tenTimesCount, ClassFails, UnitFails, FailsDesignated, FailsLower, SecondFails, SecondFailsLower, Qualifies, ThreeQualify, ThirdQualifies, KeepsStepThree, Restart, at-break, step-three-begins, lower-plan-again, step-three-ends, at-redesignation}
+use Rattle.courses.specs.Course.{Course, classCounts, tenTimesCount, ClassFails, UnitFails, FailsInForce, FailsDesignated, FailsLower, SecondFails, SecondFailsLower, Qualifies, ThreeQualify, ThirdQualifies, KeepsStepThree, Restart, at-break, step-three-begins, another-lower-plan, step-three-ends, at-redesignation}
 use Rattle.grounds.proofs.Tells.{told, tells-true, tells-false, tells-lt, tells-le, tells-eq, tells-as, tells-not, tells-and, tells-or, tells-any, tells-all}
 use Rattle.answers.proofs.Rows.{numbers-there, Marked, as-unit, as-redesignation, as-break, as-none, marked, is-unit-mark, is-redesignation-mark, is-break-mark, unit-mark-is}
 
@@ -208,33 +205,29 @@ module _ (bytes : List ℕ) (facts : Facts bytes (recordsIn bytes)) where
       (λ (found : UnitFails bytes course i). (found .class, found .a-class, found .fails))
       (tells-any (length classes) _ (ClassFails bytes course i) (tells-class i))
 
-  -- outside step 3 the plan in force is the designated one
-  outside-in-force : (designated : ℕ) (phase : Phase) (cusums : List Cusum) (counts : List ℕ)
-      → (not (inStepThree phase) && unitFails (sheet .table) designated cusums counts)
-      ≡ (not (inStepThree phase) && unitFails (sheet .table) (inForceIn designated phase) cusums counts)
-  unfolding inStepThree inForceIn
-  outside-in-force designated Designated cusums counts = refl
-  outside-in-force designated (StepThree lower run) cusums counts = refl
+  -- a record fails the plan in force
+  tells-failing : (i : ℕ) → Tells (failsInForce (sheet .table) (before sheet i) (sheet .entry i)) (UnitAt bytes i × UnitFails bytes course i)
+  unfolding failsInForce
+  tells-failing i =
+      tells-that i _ (UnitAt bytes i × UnitFails bytes course i) (λ (at, fails-here). at)
+      (λ at. tells-as (λ fails-here. (at, fails-here)) (λ (at, fails-here). fails-here) (tells-unit i))
+
+  -- in step 3 or outside it
+  tells-in-force : (stepThree test : Bool) (i : ℕ) → Tells test (course .inStepThree i ≡ stepThree)
+      → Tells (test && failsInForce (sheet .table) (before sheet i) (sheet .entry i)) (FailsInForce bytes course stepThree i)
+  tells-in-force stepThree test i standing =
+      tells-as
+      (λ (stands, (at, fails-here)). record { unit = at; step-three = stands; fails = fails-here })
+      (λ (here : FailsInForce bytes course stepThree i). (here .step-three, (here .unit, here .fails)))
+      (tells-and standing (tells-failing i))
 
   pub tells-designated : (i : ℕ) → Tells (unitFailsAt sheet i) (FailsDesignated bytes course i)
   unfolding unitFailsAt failsDesignated
-  tells-designated i =
-      tells-that i _ (FailsDesignated bytes course i) (λ here. here .unit)
-      (λ at. subst⁻¹ (λ (test : Bool). Tells test (FailsDesignated bytes course i))
-      (outside-in-force (designatedAt sheet i) (before sheet i .phase) (before sheet i .cusums) (tenthsOf (unitIn bytes i)))
-      (tells-as
-      (λ (outside, fails-here). record { unit = at; step-three = outside; fails = fails-here })
-      (λ (here : FailsDesignated bytes course i). (here .step-three, here .fails))
-      (tells-and (tells-false (inStepThree (before sheet i .phase))) (tells-unit i))))
+  tells-designated i = tells-in-force false _ i (tells-false (inStepThree (before sheet i .phase)))
 
-  pub tells-lower : (i : ℕ) → Tells (unitFailsLowerAt sheet i) (FailsLower bytes course i)
+  tells-lower : (i : ℕ) → Tells (unitFailsLowerAt sheet i) (FailsLower bytes course i)
   unfolding unitFailsLowerAt failsLower
-  tells-lower i =
-      tells-that i _ (FailsLower bytes course i) (λ here. here .unit)
-      (λ at. tells-as
-      (λ (inside, fails-here). record { unit = at; step-three = inside; fails = fails-here })
-      (λ (here : FailsLower bytes course i). (here .step-three, here .fails))
-      (tells-and (tells-true (inStepThree (before sheet i .phase))) (tells-unit i)))
+  tells-lower i = tells-in-force true _ i (tells-true (inStepThree (before sheet i .phase)))
 
   pub tells-second : (i : ℕ) → Tells (secondInARow sheet i) (SecondFails bytes course i)
   unfolding secondInARow unitFailsBefore
@@ -331,12 +324,12 @@ module _ (bytes : List ℕ) (facts : Facts bytes (recordsIn bytes)) where
   unfolding restartAt restartBy
   tells-restart-unit i at =
       subst⁻¹ (λ (entry : Entry). Tells (restartBy sheet i entry) (Restart bytes course i)) (unit-here i at)
-      (unfold restartBy in tells-as (⊎-elim (⊎-elim step-three-begins lower-plan-again) step-three-ends) from (tells-or (tells-starts i) (tells-third i)))
+      (unfold restartBy in tells-as (⊎-elim (⊎-elim step-three-begins another-lower-plan) step-three-ends) from (tells-or (tells-starts i) (tells-third i)))
     where
       from : Restart bytes course i → (SecondFails bytes course i ⊎ SecondFailsLower bytes course i) ⊎ ThirdQualifies bytes course i
       from (at-break is-break) = absurd (unit-no-break i at is-break)
       from (step-three-begins second) = inl (inl second)
-      from (lower-plan-again second) = inl (inr second)
+      from (another-lower-plan second) = inl (inr second)
       from (step-three-ends third) = inr third
       from (at-redesignation is-redesignation other) = absurd (unit-no-redesignation i at is-redesignation)
 
@@ -350,7 +343,7 @@ module _ (bytes : List ℕ) (facts : Facts bytes (recordsIn bytes)) where
       from : Restart bytes course i → KeepsStepThree bytes course i → ⊥
       from (at-break is-break) keeps = omega (arith, is-break, is-redesignation)
       from (step-three-begins second) keeps = unit-no-redesignation i (second .second-fails .unit) is-redesignation
-      from (lower-plan-again second) keeps = unit-no-redesignation i (second-lower-fails bytes course i second .unit) is-redesignation
+      from (another-lower-plan second) keeps = unit-no-redesignation i (second-lower-fails bytes course i second .unit) is-redesignation
       from (step-three-ends third) keeps = unit-no-redesignation i (unit-third i third) is-redesignation
       from (at-redesignation _ other) keeps = other keeps
 
@@ -364,7 +357,7 @@ module _ (bytes : List ℕ) (facts : Facts bytes (recordsIn bytes)) where
   pub restart-told : (i : ℕ) → Restart bytes course i → restartAt sheet i ≡ true
   restart-told i (at-break is-break) = told (tells-restart-break i is-break) (at-break is-break)
   restart-told i (step-three-begins second) = told (tells-restart-unit i (second .second-fails .unit)) (step-three-begins second)
-  restart-told i (lower-plan-again second) = told (tells-restart-unit i (second-lower-fails bytes course i second .unit)) (lower-plan-again second)
+  restart-told i (another-lower-plan second) = told (tells-restart-unit i (second-lower-fails bytes course i second .unit)) (another-lower-plan second)
   restart-told i (step-three-ends third) = told (tells-restart-unit i (unit-third i third)) (step-three-ends third)
   restart-told i (at-redesignation is-redesignation other) =
       told (tells-restart-redesignation i is-redesignation) (at-redesignation is-redesignation other)

@@ -230,14 +230,15 @@ module _ (bytes : List ℕ) (facts : Facts bytes (recordsIn bytes)) where
 
   after-redesignation : (i : ℕ) → IsRedesignation bytes i
       → course .inStepThree (suc i) ≡ (course .inStepThree i && ltb (newGrade bytes i) (inForceAt sheet i))
-  after-redesignation i is-redesignation = stands.at-redesignation sheet apart i (newGrade bytes i) (redesignation-here i is-redesignation)
+  after-redesignation i is-redesignation = stands.at-redesignation sheet i (newGrade bytes i) (redesignation-here i is-redesignation)
 
   -- ---- the CuSums before the next record
 
   at-start : (i class : ℕ) → Restart bytes course i → inForceAt sheet (suc i) < substandard → class < length classes
       → course .cusum (suc i) class ≡ startIn bytes (inForceAt sheet (suc i)) class
   at-start i class restart planned known =
-      ap (λ cusums. tenthsIn cusums class) (restart-starts sheet apart i (words.restart-told bytes facts i restart)) ∙ start-is (inForceAt sheet (suc i)) class planned known
+      ap (λ cusums. tenthsIn cusums class) (restart-starts sheet apart i (words.restart-told bytes facts i restart))
+      ∙ start-is (inForceAt sheet (suc i)) class planned known
 
   unit-goes-on : (i class : ℕ) → UnitAt bytes i → (Restart bytes course i → ⊥) → class < length classes → course .cusum (suc i) class ≡ course .newCusum i class
   unfolding cusumsBehind
@@ -272,7 +273,7 @@ module _ (bytes : List ℕ) (facts : Facts bytes (recordsIn bytes)) where
             ∙ ap not (told (words.tells-third bytes facts i) third);
         unit-stays = λ i at inside none.
             stands.at-unit sheet apart i (unitIn bytes i) (words.unit-here bytes facts i at) inside ∙ ap not (not-told (words.tells-third bytes facts i) none);
-        break-stays = λ i is-break inside. stands.at-break sheet apart i (break-here i is-break) ∙ inside;
+        break-stays = λ i is-break inside. stands.at-break sheet i (break-here i is-break) ∙ inside;
         redesignation-stays = λ i is-redesignation keeps. after-redesignation i is-redesignation ∙ told (words.tells-keeps bytes facts i) keeps;
         redesignation-ends = λ i is-redesignation none. after-redesignation i is-redesignation ∙ not-told (words.tells-keeps bytes facts i) none;
         restarts = at-start;
@@ -384,7 +385,7 @@ module _ (bytes : List ℕ) (facts : Facts bytes (recordsIn bytes)) where
   pub outside-not-recovered : (i : ℕ) → course .inStepThree i ≡ false → recovered sheet i (unitIn bytes i) ≡ false
   outside-not-recovered i out = not-recovered i (λ here. true≢false (sym (three-qualify i (here .among-three) .in-step-three) ∙ out))
 
-  -- ---- where a lower plan starts again
+  -- ---- where another lower plan starts
 
   -- behind the second failure the phase is step 3, at a worse grade
   starts-worse : (i : ℕ) → SecondFailsLower bytes course i → (course .planGrade i < course .planGrade (suc i)) × (course .inStepThree (suc i) ≡ true)

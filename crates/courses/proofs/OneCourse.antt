@@ -14,7 +14,7 @@ use Rattle.units.specs.Words.{substandard, classes, worse}
 use Rattle.tally.specs.Accepted.{UnitAt}
 use Rattle.grounds.specs.Tells.{Tells}
 use Rattle.answers.specs.Grounds.{startIn, toleranceIn, limitIn, IsBreak, IsRedesignation}
-use Rattle.courses.specs.Course.{Course, tenTimesCount, reached, toleranceAt, limitAt, ClassFails, UnitFails, FailsInForce, SecondFails, SecondFailsLower, Qualifies, ThirdQualifies, KeepsStepThree, Restart, at-break, step-three-begins, lower-plan-again, step-three-ends, at-redesignation, BestLowerGrade, Rules, SameBefore, SameAt}
+use Rattle.courses.specs.Course.{Course, tenTimesCount, reached, toleranceAt, limitAt, ClassFails, UnitFails, FailsInForce, SecondFails, SecondFailsLower, Qualifies, ThirdQualifies, KeepsStepThree, Restart, at-break, step-three-begins, another-lower-plan, step-three-ends, at-redesignation, BestLowerGrade, Rules, SameBefore, SameAt}
 use Rattle.grounds.proofs.Tells.{tells-lt, tells-as, tells-and}
 use Rattle.answers.proofs.Rows.{one-designated}
 
@@ -310,7 +310,7 @@ module _ (bytes : List ℕ) (size : ℕ) (course other : Course) (rules : Rules 
     restart-to : Restart bytes course i → Restart bytes other i
     restart-to (at-break is-break) = at-break is-break
     restart-to (step-three-begins second) = step-three-begins (second-to bytes course other rules others i upto second)
-    restart-to (lower-plan-again second) = lower-plan-again (again-to second)
+    restart-to (another-lower-plan second) = another-lower-plan (again-to second)
     restart-to (step-three-ends third) = step-three-ends (third-to bytes course other rules others i upto third)
     restart-to (at-redesignation new none) =
         at-redesignation new (λ keeps. none (keeps-to bytes other course others rules i (turned here) (back i (omega arith) .1) keeps))
@@ -318,7 +318,7 @@ module _ (bytes : List ℕ) (size : ℕ) (course other : Course) (rules : Rules 
     restart-from : Restart bytes other i → Restart bytes course i
     restart-from (at-break is-break) = at-break is-break
     restart-from (step-three-begins second) = step-three-begins (second-to bytes other course others rules i back second)
-    restart-from (lower-plan-again second) = lower-plan-again (again-from second)
+    restart-from (another-lower-plan second) = another-lower-plan (again-from second)
     restart-from (step-three-ends third) = step-three-ends (third-to bytes other course others rules i back third)
     restart-from (at-redesignation new none) =
         at-redesignation new (λ keeps. none (keeps-to bytes course other rules others i here (bounded i) keeps))
@@ -337,7 +337,7 @@ module _ (bytes : List ℕ) (size : ℕ) (course other : Course) (rules : Rules 
           where
             kept : KeepsStepThree bytes course i ⊎ (KeepsStepThree bytes course i → ⊥) → course .cusum (suc i) class ≡ other .cusum (suc i) class
             kept (inl keeps) =
-                let same-plan = rules .lower-stays i (keeps .0) (rules .redesignation-stays i new keeps) (λ again. none (lower-plan-again again)) in
+                let same-plan = rules .lower-stays i (keeps .0) (rules .redesignation-stays i new keeps) (λ again. none (another-lower-plan again)) in
                 rules .redesignation-goes-on i class new none known
                 ∙ here .cusums (omega (arith, planned, same-plan)) class known
                 ∙ sym (others .redesignation-goes-on i class new (λ restart. none (restart-from restart)) known)

@@ -142,7 +142,7 @@ module _ (bytes : List ℕ) (course : Course) where
   pub data Restart (i : ℕ) : Type 0 where
     at-break : IsBreak bytes i → Restart i
     step-three-begins : SecondFails i → Restart i
-    lower-plan-again : SecondFailsLower i → Restart i
+    another-lower-plan : SecondFailsLower i → Restart i
     step-three-ends : ThirdQualifies i → Restart i
     at-redesignation : IsRedesignation bytes i → (KeepsStepThree i → ⊥) → Restart i
 
@@ -206,7 +206,7 @@ module _ (bytes : List ℕ) (course : Course) where
     pub redesignation-goes-on : (i class : ℕ) → IsRedesignation bytes i → (Restart i → ⊥) → class < length classes
         → course .cusum (suc i) class ≡ course .cusum i class
 
--- what the rules come to, on an accepted sheet, where a lower plan starts again behind record i, the second of two failures of the lower
+-- what the rules come to, on an accepted sheet, where another lower plan starts behind record i, the second of two failures of the lower
 -- plan. (Which grade that is, `lower-plan` says; that every class is at its S, `restarts`; where no lower plan starts, `lower-stays`.)
 pub record LowerPlans (bytes : List ℕ) (course : Course) : Type 0 where
   -- both failures are at the same plan

@@ -84,8 +84,8 @@ pub record SameRecords (bytes : List ℕ) : Type 0 where
   pub unit : (i : ℕ) → UnitAt bytes i ↔ ((offset bytes i < length bytes) × IsUnit bytes i)
   pub redesignation : (i : ℕ) → (mark bytes i ≡ RedesignationMark) ↔ IsRedesignation bytes i
 
--- words that demand 3 takes from the definitions mean what the course says: a class fails, the second of two failures of the designated plan, a restart, the
--- grade of the plan in force, its S, T and L; and what the bytes say: the counts of a class from a record on
+-- words that demand 3 takes from the definitions mean what the course says: a class fails, the second of two failures of the designated
+-- plan, a restart, the grade of the plan in force, its S, T and L; and what the bytes say: the counts of a class from a record on
 pub record SameWords (bytes : List ℕ) (course : Course) : Type 0 where
   pub class-fails : (i class : ℕ) → UnitAt bytes i → class < length classes → Tells (classFailsAt (sheetIn bytes) class i) (ClassFails bytes course i class)
   pub only-units-fail : (i class : ℕ) → (UnitAt bytes i → ⊥) → classFailsAt (sheetIn bytes) class i ≡ false
@@ -105,8 +105,9 @@ pub record SameWords (bytes : List ℕ) (course : Course) : Type 0 where
       let tenths = tenthsFrom (sheetIn bytes) class in
       tenths from (suc records) ≡ tenths from records ++ tenths (from + records) 1
 
--- of an accepted sheet and the result buffer as it is left: its course follows the rules, every other that does agrees with it at every
--- unit, and before every record and behind the last, and it is what is recorded
+-- of an accepted sheet and the result buffer as it is left: its course follows the rules, with what they come to where another lower plan
+-- starts; every other that follows them agrees with it at every unit, and before every record and behind the last; and it is what is
+-- recorded
 pub record GradedByRules (bytes results : List ℕ) : Type 0 where
   pub course : Course
   pub rules : Rules bytes course

@@ -1,5 +1,5 @@
--- A run of steps, none of which fails, from an anchor: the CuSum at its end is the 'largest of' form, and at most L. By induction on
--- the run, one step unrolled at the front.
+-- A run of steps, none of which fails, from an anchor: the CuSum at its end is the 'largest of' form. By induction on the run, one step
+-- unrolled at the front.
 use Prim.Native.Nat.{ℕ}
 use mathlib.Core.Path.{_≡_, refl, _∙_, ap}
 use mathlib.Core.Bool.{false}

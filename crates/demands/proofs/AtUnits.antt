@@ -1,7 +1,7 @@
 -- The statements of `Instances` at some units of any accepted sheet, from the demands' theorems. What a standing says of a unit: each other
 -- reading of the course would have another standing recorded.
 use Prim.Native.Nat.{ℕ, suc, _+_, _*_, _<_, _≤_}
-use mathlib.Core.Path.{_≡_, refl, sym, _∙_, ap}
+use mathlib.Core.Path.{_≡_, refl, sym, _∙_, ap, subst}
 use mathlib.Core.Bool.{Bool, true, false, not, _&&_, _||_, false≢true}
 use mathlib.Core.List.{List, [], _∷_}
 use mathlib.Core.Logic.{_⊎_, inl, inr, ⊎-elim}
@@ -9,13 +9,13 @@ use native.Mathlib.Omega.{arith}
 use lib.Dec.{leb, ltb, eqb, lit<}
 use lib.IntN.{pos}
 use lib.ListN.{length, replicate, length-replicate, List·getD-eq-default}
-use borrow.Author.Tests.{ltb-true, ltb-false, leb-true, eqb-true, eqb-false, eq-eqb}
+use borrow.Author.Tests.{ltb-true, ltb-false, leb-true, eqb-true, eqb-false, eq-eqb, not-true}
 use Rattle.cusum.specs.LargestForm.{largestForm, anchorValue}
 use Rattle.encoding.specs.Bytes.{byte}
 use Rattle.units.specs.Conditions.{all}
 use Rattle.units.specs.Words.{classes, hasPlan, worse, upFrom}
 use Rattle.units.proofs.Lists.{all-each}
-use Rattle.units.proofs.Tests.{and-both, not-true}
+use Rattle.units.proofs.Tests.{and-both}
 use Rattle.rules.specs.Sheet.{inForceAt}
 use Rattle.anchors.specs.TwoInARow.{secondInARow}
 use Rattle.anchors.specs.Anchor.{tenthsFrom, Anchor, Latest}
@@ -30,25 +30,17 @@ use Rattle.courses.specs.Course.{Course, prerequisite, ClassFails, SecondFailsL
 use Rattle.courses.specs.Demand2.{GradedByRules, UnitRecorded, recordedPlanGrade, recordedStanding, codeOf}
 use Rattle.demands.specs.Demand3.{LargestOf, NoHigherAt, NeverWorse}
 use Rattle.demands.specs.Instances.{left, Each, Standing, met, failed, notRecovered, recovered, standingByte, StandingSays, gradeBy, UnitInstance, CourseInstance, LowerPlanInstance, LowerPlansInstance, CodeInstance, LargestInstance, LargestNumber, NoHigherInstance, NoLowerInstance}
+use Rattle.grounds.specs.Tells.{Tells}
+use Rattle.grounds.proofs.Tells.{tells-lt, tells-eq, tells-true}
+use Rattle.courses.proofs.OneCourse.{settled}
 use Rattle.courses.proofs.CourseWords.{second-lower-fails}
 use Rattle.courses.proofs.Graded.{demand2-records}
 use Rattle.demands.proofs.LargestOf.{demand3-largest-form}
 
--- ---- numbers that are not other than so
+-- ---- what is tested and is not other than so
 
-equal-unless : (x y : ℕ) → ((x ≡ y → ⊥) → ⊥) → x ≡ y
-equal-unless x y = go (eqb x y) refl
-  where
-    go : (test : Bool) → eqb x y ≡ test → ((x ≡ y → ⊥) → ⊥) → x ≡ y
-    go true same other = eqb-true x y same
-    go false same other = absurd (other (eqb-false x y same))
-
-less-unless : (x y : ℕ) → ((x < y → ⊥) → ⊥) → x < y
-less-unless x y = go (ltb x y) refl
-  where
-    go : (test : Bool) → ltb x y ≡ test → ((x < y → ⊥) → ⊥) → x < y
-    go true less other = ltb-true x y less
-    go false less other = absurd (other (λ below. omega (arith, below, ltb-false x y less)))
+unless : {test : Bool} {P : Type 0} → Tells test P → ((P → ⊥) → ⊥) → P
+unless tells other = ⊎-elim (λ here. here) (λ none. absurd (other none)) (settled tells)
 
 -- ---- what is computed of each member of a list
 
@@ -119,7 +111,7 @@ module _ (bytes results : List ℕ) (course : Course) (i : ℕ) (unit : UnitReco
   portion-by met e = unit .portion (λ yes. omega (arith, unit .standing-recovered yes))
   portion-by failed e = unit .portion (λ yes. omega (arith, unit .standing-recovered yes))
   portion-by notRecovered e = unit .portion (λ yes. omega (arith, unit .standing-recovered yes))
-  portion-by recovered e = equal-unless _ _ (λ other. standing-says recovered e (λ yes. other (unit .recovered-portion yes)))
+  portion-by recovered e = unless (tells-eq _ _) (λ other. standing-says recovered e (λ yes. other (unit .recovered-portion yes)))
 
 module _ (bytes buffer : List ℕ) (answer : Answer) (results : List ℕ) (accepted : AcceptedAs bytes buffer answer results)
     (records : ℕ) (counted : recordsIn bytes ≡ records) where
@@ -188,12 +180,17 @@ module _ (bytes buffer : List ℕ) (answer : Answer) (results : List ℕ) (accep
       let still = inside bytes results course (suc i) next (leb-true 2 _ standing-next) in
       let second : (SecondFailsLower bytes course i → ⊥) → ⊥ =
       λ none. eqb-false _ _ (not-true _ other) (next .plan-grade ∙ by-rules .rules .lower-stays i stands still none ∙ sym (here .plan-grade)) in
+      let same-plan : (first : ℕ) → i ≡ suc first → SecondFailsLower bytes course i → course .planGrade i ≡ course .planGrade first =
+      λ first next-is fails. ap (course .planGrade) next-is ∙ lower .same-plan first (subst (SecondFailsLower bytes course) next-is fails) in
       record {
         second-fails = second;
+        same-plan = λ first next-is. unless (tells-eq _ _) (λ others. second (λ fails. others (same-plan first next-is fails)));
         not-qualifying = λ qualifies. second (λ fails. lower .failing-not-qualifying i (second-lower-fails bytes course i fails .fails) qualifies);
         no-run = λ first row from to. second (λ fails. lower .no-run i first fails row from to);
-        designated-stays = equal-unless _ _ (λ other-grade. second (λ fails. other-grade (lower .designated-stays i fails)));
-        worse-grade = less-unless _ _ (λ not-worse. second (λ fails. not-worse (omega (arith, lower .worse-grade i fails, here .plan-grade, next .plan-grade))));
+        step-three-stays = unless (tells-true _) (λ ended. second (λ fails. ended (lower .step-three-stays i fails)));
+        designated-stays = unless (tells-eq _ _) (λ other-grade. second (λ fails. other-grade (lower .designated-stays i fails)));
+        worse-grade = unless (tells-lt _ _) (λ not-worse.
+            second (λ fails. not-worse (omega (arith, lower .worse-grade i fails, here .plan-grade, next .plan-grade))));
       }
 
   pub lower-plans-recorded : (starts : List ℕ) → all startTest starts ≡ true → LowerPlansInstance bytes results starts

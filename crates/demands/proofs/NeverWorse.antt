@@ -12,7 +12,7 @@ use Rattle.units.specs.Words.{tableOf, tenthsOf}
 use Rattle.units.specs.Unit.{classCusum, classOvershoot}
 use Rattle.rules.specs.Sheet.{Sheet, before, inForceAt, portionGrade, codeGrade}
 use Rattle.anchors.specs.Anchor.{classFailsAt}
-use Rattle.anchors.specs.TwoInARow.{failsDesignated, secondInARow}
+use Rattle.anchors.specs.TwoInARow.{failsInForce, secondInARow}
 use Rattle.units.specs.Records.{isUnitThat}
 use Rattle.units.specs.declared.SampleUnit.{SampleUnit}
 use Rattle.units.specs.declared.Entry.the-variants.{Break}
@@ -40,7 +40,7 @@ unfolding sheetOf
 never-behind bytes n facts never j = go (leb n j) refl
   where
     go : (test : Bool) → leb n j ≡ test → secondInARow (sheetOf bytes n) j ≡ false
-    go true e = not-second (sheetOf bytes n) j Break (past-entry bytes n (facts .end) j (leb-true n j e)) (unfold failsDesignated isUnitThat in refl)
+    go true e = not-second (sheetOf bytes n) j Break (past-entry bytes n (facts .end) j (leb-true n j e)) (unfold failsInForce isUnitThat in refl)
     go false e = never j (leb-false n j e)
 
 module _ (bytes bytes' buffer buffer' : List ℕ) (answer answer' : Answer) (results results' : List ℕ)

@@ -126,12 +126,14 @@ pub record CourseInstance (bytes results : List ℕ) (standings : List (ℕ × S
   pub rules : Rules bytes course
   pub units : Each standings (λ (i, standing). UnitInstance bytes results course i standing)
 
--- behind record i, a unit in step 3, another lower plan is recorded: of this course it is the second of two failures of the lower plan
--- and does not qualify, no run has it in it, the designated grade stays, and the new grade is worse
+-- behind record i, a unit in step 3, another lower plan is recorded: of this course it is the second of two failures of the lower plan,
+-- both at the same one, and does not qualify, no run has it in it, step 3 and the designated grade stay, and the new grade is worse
 pub record LowerPlanInstance (bytes results : List ℕ) (course : Course) (i : ℕ) : Type 0 where
   pub second-fails : (SecondFailsLower bytes course i → ⊥) → ⊥
+  pub same-plan : (first : ℕ) → i ≡ suc first → course .planGrade i ≡ course .planGrade first
   pub not-qualifying : Qualifies bytes course i → ⊥
   pub no-run : (first : ℕ) → ThreeQualify bytes course first → first ≤ i → i ≤ first + 2 → ⊥
+  pub step-three-stays : course .inStepThree (suc i) ≡ true
   pub designated-stays : course .designated (suc i) ≡ course .designated i
   pub worse-grade : recordedPlanGrade bytes results i < recordedPlanGrade bytes results (suc i)
 
@@ -216,7 +218,7 @@ pub record FewerMeetsInstance (buffer buffer' : List ℕ) : Type 0 where
 pub record Instances : Type 0 where
   -- demand 1, and the grounds of demand 2
   pub answers : AnswerInstances
-  -- demand 2, the records, in every buffer with room: the courses of both sheets; code 5 of the one, code 300, met again apart, of the other
+  -- demand 2, the records, in every buffer with room: the courses of two sheets; code 5 of the one, code 300, met again apart, of the other
   pub course : (buffer : List ℕ) → resultSize * 7 ≤ length buffer → CourseInstance peach (peachLeft buffer) peachStandings
   pub every-kind-course : (buffer : List ℕ) → resultSize * 6 ≤ length buffer
       → CourseInstance everyKindOfRecord (everyKindLeft buffer) everyKindStandings

@@ -1,6 +1,6 @@
--- In step 3 a unit that fails does not qualify, on a sheet whose S is nowhere above its L and whose T nowhere falls from a grade to a
--- lower one; and a lower plan that starts in step 3 is worse than the one before. Two facts carry through every record: a CuSum is at
--- most the L of the plan in force, and the designated grade is no worse than that of the plan in force.
+-- In step 3 a unit that fails does not qualify, on a sheet whose S is nowhere above its L and whose T is nowhere smaller at a lower
+-- grade. Two facts carry through every record: a CuSum is at most the L of the plan in force, and the designated grade is no worse than
+-- that of the plan in force.
 use Prim.Native.Nat.{ℕ, zero, suc, _≤_, _<_}
 use mathlib.Core.Path.{_≡_, refl, sym, _∙_, ap, subst⁻¹}
 use mathlib.Core.Bool.{Bool, true, false, _&&_}
@@ -114,7 +114,7 @@ next-no-worse table state (Redesignation new) no-worse =
     (λ other. omega arith)
 next-no-worse table state Break no-worse = omega (arith, no-worse, without-run-in-force (state .designated) (state .phase))
 
-pub designated-no-worse : (sheet : Sheet) (i : ℕ) → before sheet i .designated ≤ inForceAt sheet i
+designated-no-worse : (sheet : Sheet) (i : ℕ) → before sheet i .designated ≤ inForceAt sheet i
 unfolding before restarted inForceIn
 designated-no-worse sheet zero = omega arith
 designated-no-worse sheet (suc i) = next-no-worse (sheet .table) (before sheet i) (sheet .entry i) (designated-no-worse sheet i)

@@ -31,11 +31,11 @@ module _ (table : Table) (state : State) (grading : Grading) (qualifies : Bool) 
   unfolding afterUnit pick
   unit-ends ends = rw ends
 
-  pub unit-falls : endsStepThree (state .phase) qualifies ≡ false → twoInARow (state .previous) (grading .fails) ≡ true
+  pub unit-starts-lower : endsStepThree (state .phase) qualifies ≡ false → twoInARow (state .previous) (grading .fails) ≡ true
       → afterUnit table state grading qualifies
       ≡ restarted table (state .designated) (StepThree (worseOfTwo (state .previous) (grading .grade)) 0)
   unfolding afterUnit pick
-  unit-falls going-on two = rw (going-on, two)
+  unit-starts-lower going-on two = rw (going-on, two)
 
   pub unit-passes : endsStepThree (state .phase) qualifies ≡ false → twoInARow (state .previous) (grading .fails) ≡ false
       → afterUnit table state grading qualifies
@@ -51,12 +51,12 @@ module _ (table : Table) (state : State) (grading : Grading) (qualifies : Bool) 
       → (endsStepThree (state .phase) qualifies ≡ false → twoInARow (state .previous) (grading .fails) ≡ false
       → P (stateOf (state .designated) (failureAfter (grading .fails) (grading .grade)) (withUnit (state .phase) qualifies) (grading .cusums)))
       → P (afterUnit table state grading qualifies)
-  unit-by P ends falls passes = go (endsStepThree (state .phase) qualifies) refl (twoInARow (state .previous) (grading .fails)) refl
+  unit-by P ends starts passes = go (endsStepThree (state .phase) qualifies) refl (twoInARow (state .previous) (grading .fails)) refl
     where
       go : (e : Bool) → endsStepThree (state .phase) qualifies ≡ e → (t : Bool) → twoInARow (state .previous) (grading .fails) ≡ t
           → P (afterUnit table state grading qualifies)
       go true e t two = subst⁻¹ P (unit-ends e) (ends e)
-      go false e true two = subst⁻¹ P (unit-falls e two) (falls e two)
+      go false e true two = subst⁻¹ P (unit-starts-lower e two) (starts e two)
       go false e false two = subst⁻¹ P (unit-passes e two) (passes e two)
 
 two-needs-failure : (previous : Previous) → twoInARow previous false ≡ false

@@ -52,8 +52,9 @@ tolerances-passed plan e class known =
     let numbers : ℕ → PlanNumbers = λ grade. numbersOf (tableOf plan) grade class in
     let (large, rest) = ground-passed (anyNumbers tooLarge plan) 3 _ (lit< tt) e in
     let (above, rest2) = ground-passed (anyNumbers startAboveLimit plan) 4 _ (lit< tt) rest in
-    let (falls, rest3) = ground-passed (any (smallerInClass plan) classes) 5 _ (lit< tt) rest2 in
-    let here : (smaller (numbers 0) (numbers 1) || smaller (numbers 1) (numbers 2)) ≡ false = in-none (length classes) _ falls class known in (
+    let (smaller-below, rest3) = ground-passed (any (smallerInClass plan) classes) 5 _ (lit< tt) rest2 in
+    let here : (smaller (numbers 0) (numbers 1) || smaller (numbers 1) (numbers 2)) ≡ false
+    = in-none (length classes) _ smaller-below class known in (
       ltb-false (numbers 1 .tolerance) (numbers 0 .tolerance) (or-first _ _ (or-first (smaller (numbers 0) (numbers 1)) _ here)),
       ltb-false (numbers 2 .tolerance) (numbers 1 .tolerance) (or-first _ _ (or-second (smaller (numbers 0) (numbers 1)) _ here)),
     )

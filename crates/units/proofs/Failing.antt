@@ -21,14 +21,15 @@ use Rattle.units.proofs.Tests.{and-both}
 module _ (table : Table) (grade : ℕ) (cusums : List Cusum) (tenths : List ℕ) where
   -- there is a class that fails, and so a plan
   failing-class : unitFails table grade cusums tenths ≡ true
-      → (class : ℕ) × (class < length classes) × (hasPlan grade ≡ true) × (fails (numbersOf table grade class) (tenthsIn cusums class) (countTenths tenths class) ≡ true)
+      → (class : ℕ) × (class < length classes) × (hasPlan grade ≡ true)
+      × (fails (numbersOf table grade class) (tenthsIn cusums class) (countTenths tenths class) ≡ true)
   unfolding unitFails classFails
   failing-class failing =
       let (class, known, here) = some-in (length classes) _ failing in
       let (planned, fails-here) = and-both (hasPlan grade) _ here in
       (class, known, planned, fails-here)
 
-  pub failing-planned : unitFails table grade cusums tenths ≡ true → grade < substandard
+  failing-planned : unitFails table grade cusums tenths ≡ true → grade < substandard
   unfolding hasPlan
   failing-planned failing = let (class, known, planned, here) = failing-class failing in ltb-true grade substandard planned
 

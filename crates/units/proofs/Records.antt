@@ -1,5 +1,5 @@
--- Laws of the records of a sheet: which are units of which something holds; and by number: how many units are among them with one record more, and which record a unit is that has so
--- many before it. By induction on the records.
+-- Laws of the records of a sheet: that of which something holds as of a unit is a unit; how many units are among them with one record
+-- more; which record a unit is that has so many before it. By cases of a record, and by induction on the records.
 use Prim.Native.Nat.{ℕ, zero, suc, _+_, _≤_, _<_}
 use mathlib.Core.Path.{_≡_, refl, ap}
 use mathlib.Core.Logic.{_⊎_, inl, inr}

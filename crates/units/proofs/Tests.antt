@@ -1,7 +1,7 @@
 -- Laws of tests: the ends of `any` and `all`, both over any condition, and the two ways out of a test.
 -- By cases on the test.
 use mathlib.Core.Path.{_≡_, refl}
-use mathlib.Core.Bool.{Bool, true, false, not, _&&_, _||_, false≢true, true≢false}
+use mathlib.Core.Bool.{Bool, true, false, _&&_, _||_, false≢true, true≢false}
 use mathlib.Core.List.{List, [], _∷_}
 use Rattle.units.specs.Conditions.{any, all}
 
@@ -24,15 +24,6 @@ or-true false = refl
 pub or-assoc : (a b c : Bool) → (a || (b || c)) ≡ ((a || b) || c)
 or-assoc true b c = refl
 or-assoc false b c = refl
-
--- of a condition that does not hold, and of one that does
-pub not-true : (b : Bool) → not b ≡ true → b ≡ false
-not-true true e = absurd (false≢true e)
-not-true false e = refl
-
-pub not-false : (b : Bool) → not b ≡ false → b ≡ true
-not-false true e = refl
-not-false false e = absurd (true≢false e)
 
 -- of two conditions neither of which holds
 pub or-first : (first second : Bool) → (first || second) ≡ false → first ≡ false

@@ -305,7 +305,7 @@ fn draft_over(dice: &mut Dice, redesignations: bool, calm: bool) -> Sheet {
 /// after a start.
 fn plan_in_steps(dice: &mut Dice) -> Table {
     let mut tenths = PEACH;
-    // The total of what one class has is admitted where that class is.
+    // A grade that admits a count in its own class admits it in total.
     let steps = [(15, 20, 30), (20, 20, 40), (25, 20, 50), (60, 60, 120)];
     for (class, (most_t, least_gap, most_gap)) in steps.into_iter().enumerate() {
         let (mut t, mut limit) = (0, 0);
@@ -515,7 +515,7 @@ pub fn case(seed: u64) -> Case {
 }
 
 /// The case of this seed with one in six made for overshoots, by dice of their own; the others are as
-/// in [`case`]. The stored cases are of [`case`] alone, which must not change.
+/// in [`case`]. The stored cases are of [`case`] and [`case_with_lower_plans`], which must not change.
 pub fn case_with_overshoots(seed: u64) -> Case {
     let dice = &mut Dice(!seed);
     if dice.below(6) > 0 {
@@ -527,6 +527,7 @@ pub fn case_with_overshoots(seed: u64) -> Case {
 
 /// A sheet made for falls, by dice of its own: nine in ten valid, else damaged.
 pub fn case_with_lower_plans(seed: u64) -> Case {
+    // Any constant would do that makes them other dice than those of `case`.
     let dice = &mut Dice(seed ^ 0x4641_4C4C);
     let draft = draft_lower_plans(dice);
     let number = if dice.chance(90) { 0 } else { dice.pick(&[1, 3, 5, 6, 7, 8, 9, 10, 11, 13]) };
@@ -637,9 +638,10 @@ impl Counts {
             count_events(name, &|event| event.what == what && test(event.stage));
         }
         self.note_lower_plans(graded);
+        self.note_failures_in_a_row(graded);
     }
 
-    /// Falls (paper 02, A.4), and failures in step 3 that would be a fall but for one thing.
+    /// Falls (paper 02, A.4): from which plan to which, and what lies around them.
     fn note_lower_plans(&mut self, graded: Option<&Graded>) {
         let rows: &[Row] = graded.map_or(&[], |graded| &graded.rows);
         let events: &[Event] = graded.map_or(&[], |graded| &graded.events);
@@ -678,7 +680,12 @@ impl Counts {
             what(start.next) == kept && not_better
         });
         self.add("fall, then a unit recovered", recoveries);
+    }
 
+    /// Failures in a row in step 3: how many, and what parts two that would be a fall but for it.
+    fn note_failures_in_a_row(&mut self, graded: Option<&Graded>) {
+        let rows: &[Row] = graded.map_or(&[], |graded| &graded.rows);
+        let events: &[Event] = graded.map_or(&[], |graded| &graded.events);
         let stretches = graded.map_or(Vec::new(), stretches_of_failures);
         let mut count = |name: &str, test: &dyn Fn(&Range<usize>) -> bool| {
             self.add(name, stretches.iter().filter(|stretch| test(stretch)).count());
@@ -754,7 +761,7 @@ fn lower_plan_starts(rows: &[Row], events: &[Event]) -> (Vec<LowerPlanStart>, us
                     from,
                     to,
                     failures: [rows[units - 2], rows[units - 1]],
-                    again: again,
+                    again,
                     run: quiet.take_while(|row| row.qualifies).count(),
                     next: events.get(place + 1).filter(|next| next.units_before == units).copied(),
                 });

@@ -143,7 +143,7 @@ pub fn grade_portions(sheet: &Sheet) -> Graded {
             // before. In step 3, a new grade better than the lower one keeps step 3 and its CuSums
             // and sets the run of qualifying units to none; any other new grade ends step 3 and
             // starts at S." "A break or a redesignation forgets a failure just before, here too"
-            // (paper 02, A.4): also one that keeps step 3. The lower grade is that of the latest fall.
+            // (paper 02, A.4): also one that keeps step 3. The lower grade is the latest one.
             Record::Redesignation(new) => {
                 designated = new;
                 let keeps = matches!(stage, Stage::StepThree { lower, .. } if new < lower);

@@ -410,7 +410,7 @@ fn after_a_lower_plan_starts() {
 fn failures_of_a_lower_plan_are_not_two_in_a_row() {
     // Of the monotone half two in a row fail the designated plan: the claim ends at the second 4, and
     // not at the fall. Behind it the first sheet is under B, where the 9 is over by 6, and the second
-    // has again to C, where it is over by 1.
+    // under C, where it is over by 1.
     let [first, second] = ["4 4 3 8 9", "4 4 8 8 9"].map(|script| {
         let sheet = majors_sheet(0, STEPS, script);
         grade_traced(&sheet, &mut [0; MOST_ROOM], true).1.unwrap()

@@ -744,8 +744,8 @@ fn lower_plans() -> Vec<Case> {
         ),
         accepted(
             "three failures in step three",
-            "Units 3 and 4 fall to C. Unit 4 brought that about and does not pair with unit 5, which fails C:\n\
-             unit 6 is under C, at its L.",
+            "Behind unit 4 the plan of C starts. Unit 4 brought that about and does not pair with unit 5, which\n\
+             fails C: unit 6 is under C, at its L.",
             plan(),
             &[fails(1), fails(2), fails_to_c(3), fails_to_c(4), fails_c(5), stays_at_c(6)],
             "BBfA BBfA CCuB CCuB SSuC CCuC",
@@ -829,7 +829,7 @@ fn lower_plans() -> Vec<Case> {
         ),
         accepted(
             "recovery under another lower plan",
-            "Step 3 falls to C, the worse of the two defect grades: prerequisite Substandard does not count.\n\
+            "The new lower grade is C, the worse of the two defect grades: prerequisites do not count.\n\
              The designated grade stays A: units 5 to 7 recover to it, and unit 8 starts it at S.",
             plan(),
             &[
