@@ -5,6 +5,7 @@ use Prim.Native.Nat.{ℕ, suc}
 use mathlib.Core.Path.{_≡_, refl, sym, _∙_, ap}
 use mathlib.Core.Bool.{Bool, true, false, _||_, true≢false}
 use mathlib.Core.List.{List}
+use borrow.Author.Tests.{not-true, not-false}
 use Rattle.cusum.specs.declared.Cusum.{Cusum}
 use Rattle.units.specs.Words.{Table, rowOf}
 use Rattle.units.specs.Unit.{starting}
@@ -12,7 +13,6 @@ use Rattle.units.specs.declared.SampleUnit.{SampleUnit}
 use Rattle.units.specs.declared.Entry.{Entry}
 use Rattle.units.specs.declared.Entry.the-variants.{UnitRecord, Redesignation, Break}
 use Rattle.units.specs.Records.{isUnitThat}
-use borrow.Author.Tests.{not-true, not-false}
 use Rattle.units.proofs.Tests.{or-first, or-second}
 use Rattle.rules.specs.StepThree.{inForce, endsStepThree, keepsStepThree, restarted, graded, qualifiesIn, afterUnit, afterBreak, next, recordEndsStepThree}
 use Rattle.rules.specs.Sheet.{Sheet, before, inForceAt, gradedAt, stepThreeEndsAt}

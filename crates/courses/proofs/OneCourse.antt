@@ -267,11 +267,11 @@ module _ (bytes : List ℕ) (size : ℕ) (course other : Course) (rules : Rules 
     grade-next : course .designated (suc i) ≡ other .designated (suc i)
     grade-next = one-designated bytes (rules .designated (suc i)) (others .designated (suc i))
 
-    again-to : SecondFailsLower bytes course i → SecondFailsLower bytes other i
-    again-to = second-lower-both bytes course other rules others i upto .0
+    second-lower-to : SecondFailsLower bytes course i → SecondFailsLower bytes other i
+    second-lower-to = second-lower-both bytes course other rules others i upto .0
 
-    again-from : SecondFailsLower bytes other i → SecondFailsLower bytes course i
-    again-from = second-lower-both bytes course other rules others i upto .1
+    second-lower-from : SecondFailsLower bytes other i → SecondFailsLower bytes course i
+    second-lower-from = second-lower-both bytes course other rules others i upto .1
 
     -- where a lower plan starts, it is that of the worse of two defect grades
     lower-next : (k : ℕ) → i ≡ k → SecondFails bytes course k ⊎ SecondFailsLower bytes course k → course .planGrade (suc k) ≡ other .planGrade (suc k)
@@ -302,7 +302,7 @@ module _ (bytes : List ℕ) (size : ℕ) (course other : Course) (rules : Rules 
         go true e true f second (inr none) =
             rules .lower-stays i f e none
             ∙ here .plan-grade
-            ∙ sym (others .lower-stays i (sym (here .step-three) ∙ f) (sym step-next ∙ e) (λ again. none (again-from again)))
+            ∙ sym (others .lower-stays i (sym (here .step-three) ∙ f) (sym step-next ∙ e) (λ again. none (second-lower-from again)))
         go true e false f (inl second) again = lower-next i refl (inl second)
         go true e false f (inr none) again = absurd (true≢false (sym e ∙ rules .not-begun i f none))
 
@@ -310,7 +310,7 @@ module _ (bytes : List ℕ) (size : ℕ) (course other : Course) (rules : Rules 
     restart-to : Restart bytes course i → Restart bytes other i
     restart-to (at-break is-break) = at-break is-break
     restart-to (step-three-begins second) = step-three-begins (second-to bytes course other rules others i upto second)
-    restart-to (another-lower-plan second) = another-lower-plan (again-to second)
+    restart-to (another-lower-plan second) = another-lower-plan (second-lower-to second)
     restart-to (step-three-ends third) = step-three-ends (third-to bytes course other rules others i upto third)
     restart-to (at-redesignation new none) =
         at-redesignation new (λ keeps. none (keeps-to bytes other course others rules i (turned here) (back i (omega arith) .1) keeps))
@@ -318,7 +318,7 @@ module _ (bytes : List ℕ) (size : ℕ) (course other : Course) (rules : Rules 
     restart-from : Restart bytes other i → Restart bytes course i
     restart-from (at-break is-break) = at-break is-break
     restart-from (step-three-begins second) = step-three-begins (second-to bytes other course others rules i back second)
-    restart-from (another-lower-plan second) = another-lower-plan (again-from second)
+    restart-from (another-lower-plan second) = another-lower-plan (second-lower-from second)
     restart-from (step-three-ends third) = step-three-ends (third-to bytes other course others rules i back third)
     restart-from (at-redesignation new none) =
         at-redesignation new (λ keeps. none (keeps-to bytes course other rules others i here (bounded i) keeps))
@@ -337,7 +337,7 @@ module _ (bytes : List ℕ) (size : ℕ) (course other : Course) (rules : Rules 
           where
             kept : KeepsStepThree bytes course i ⊎ (KeepsStepThree bytes course i → ⊥) → course .cusum (suc i) class ≡ other .cusum (suc i) class
             kept (inl keeps) =
-                let same-plan = rules .lower-stays i (keeps .0) (rules .redesignation-stays i new keeps) (λ again. none (another-lower-plan again)) in
+                let same-plan = rules .lower-stays i (keeps .0) (rules .redesignation-stays i new keeps) (λ second. none (another-lower-plan second)) in
                 rules .redesignation-goes-on i class new none known
                 ∙ here .cusums (omega (arith, planned, same-plan)) class known
                 ∙ sym (others .redesignation-goes-on i class new (λ restart. none (restart-from restart)) known)
