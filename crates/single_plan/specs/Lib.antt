@@ -1,0 +1,2 @@
+pub mod SinglePlan
+pub mod Passing
