@@ -1,129 +1,141 @@
--- The loop over units that meet the designated plan and over breaks. Its invariant: the writing has gone on to where the loop stands,
--- and the designated plan that it began with is still in force, so that the row picked at its beginning is that plan's.
-use Prim.Native.Nat.{ℕ, _+_, _<_, _≤_}
-use mathlib.Core.Path.{_≡_, refl, sym, _∙_, ap, ap₂}
-use mathlib.Core.Bool.{Bool, false}
+-- Units that meet the designated plan, and breaks, passed under that plan: by induction on the records passed, the state of the grading
+-- stays outside step 3 with no failure just before, its CuSums are those of the passing, and the writing has gone on as far.
+use Prim.Native.Nat.{ℕ, suc, _*_, _≤_, _<_}
+use mathlib.Core.Path.{_≡_, refl, sym, _∙_, ap, ap₂, subst, subst⁻¹}
+use mathlib.Core.Bool.{true, false, true≢false}
 use mathlib.Core.List.{List}
 use native.Mathlib.Omega.{arith}
 use lib.ListN.{length}
-use Rattle.cusum.specs.declared.PlanNumbers.{PlanNumbers}
-use Rattle.units.specs.Words.{Table, rowOf, tenthsOf, noOvershoots}
-use Rattle.units.specs.Unit.{steppedIn}
+use lib.Seq.{sets, length-sets}
+use Rattle.cusum.specs.declared.Cusum.{Cusum}
+use Rattle.units.specs.Words.{hasPlan, Table, tableOf, rowOf, tenthsOf}
+use Rattle.units.specs.Unit.{unitFails, gradingOf}
 use Rattle.units.specs.Records.{unitsOf}
 use Rattle.units.specs.declared.SampleUnit.{SampleUnit}
-use Rattle.units.specs.declared.SteppedClasses.{SteppedClasses}
-use Rattle.units.proofs.Planned.{none-over}
+use Rattle.units.specs.declared.Entry.{Entry}
 use Rattle.units.specs.declared.Entry.the-variants.{UnitRecord, Break}
-use Rattle.rules.specs.StepThree.{inForceIn, withoutRun, restarted, afterBreak, next}
+use Rattle.rules.specs.StepThree.{inForceIn, failureAfter, endsStepThree, twoInARow, withUnit, withoutRun, restarted, graded, qualifiesIn, afterBreak, next}
+use Rattle.rules.specs.Sheet.{before}
+use Rattle.rules.specs.declared.Previous.{Previous}
+use Rattle.rules.specs.declared.Previous.the-variants.{NoFailure}
 use Rattle.rules.specs.declared.Phase.{Phase}
 use Rattle.rules.specs.declared.Phase.the-variants.{Designated}
 use Rattle.rules.specs.declared.State.{State}
-use Rattle.rules.proofs.Steps.{designated-after}
-use Rattle.units.specs.Records.{designatedBy}
-use Rattle.layout.specs.Layout.{markSize, unitSize, sizeOf, markAt, sampleUnitAt, entryOf}
-use Rattle.layout.specs.Walk.{placeAfter, largestOffset, RoomPast}
-use Rattle.layout.specs.declared.Mark.{Mark}
-use Rattle.layout.specs.declared.Mark.the-variants.{UnitMark, BreakMark}
+use Rattle.rules.proofs.Steps.{stateOf, unit-passes}
+use Rattle.layout.specs.Layout.{planOf, entryAt, unitsBefore}
+use Rattle.layout.specs.Walk.{placeAt, Walk}
 use Rattle.layout.specs.declared.Place.{Place}
+use Rattle.results.specs.Record.{resultSize, resultBytes}
+use Rattle.results.specs.declared.ResultRecord.{ResultRecord}
+use Rattle.codes.specs.Codes.{ungraded}
+use Rattle.recording.specs.Sheet.{sheetOf, resultWith}
+use Rattle.single_plan.specs.SinglePlan.{resultUnder}
+use Rattle.single_plan.specs.Passing.{Passed, none, unit, restart, over, Passable}
+use Rattle.single_plan.proofs.Passing.{result-outside}
 use Rattle.writing.specs.declared.Position.{Position}
-use Rattle.recording.specs.Sheet.{sheetOf}
-use Rattle.writing.specs.Writing.{UnitHere, RecordHere, OneMore, Underway, Further, restartedIn}
-use Rattle.writing.proofs.Passing.{markFor, mark-inside, record-inside, unit-here, room-past-it, position-past-it, nothing-written, further-none, further-one, underway-on, record-here}
+use Rattle.writing.specs.Writing.{UnitHere, RecordHere, positionAt, OneMore, Underway, Further}
+use Rattle.writing.proofs.Passing.{nothing-more, further-none, further-one, underway-on, record-here}
+use Rattle.writing.proofs.Writing.{designated-done}
 
--- what a record is by its mark
-unit-by-mark : (bytes : List ℕ) (at : ℕ) {m : Mark} {unit : SampleUnit} → m ≡ UnitMark → unit ≡ sampleUnitAt bytes at
-    → entryOf bytes at m ≡ UnitRecord unit
-unfolding entryOf
-unit-by-mark bytes at is-unit is-read = ap (entryOf bytes at) is-unit ∙ ap UnitRecord (sym is-read)
+-- outside step 3, with no failure just before
+abbrev pub outside : ℕ → List Cusum → State
+outside designated cusums = stateOf designated NoFailure Designated cusums
 
-break-by-mark : (bytes : List ℕ) (at : ℕ) {m : Mark} → m ≡ BreakMark → entryOf bytes at m ≡ Break
-unfolding entryOf
-break-by-mark bytes at is-break = ap (entryOf bytes at) is-break
+-- so it stays behind a unit that meets and behind a break
+behind-unit : (table : Table) (designated : ℕ) (cusums : List Cusum) (here : SampleUnit) → unitFails table designated cusums (tenthsOf here) ≡ false
+    → next table (outside designated cusums) (UnitRecord here) ≡ outside designated (gradingOf table designated cusums (tenthsOf here) .cusums)
+unfolding next graded inForceIn endsStepThree twoInARow failureAfter withUnit
+behind-unit table designated cusums here meets =
+    let state = outside designated cusums in
+    let grading = gradingOf table designated cusums (tenthsOf here) in
+    unit-passes table state grading (qualifiesIn table state here) refl refl ∙ ap (λ failed. stateOf designated (failureAfter failed (grading .grade)) Designated (grading .cusums)) meets
 
-abbrev positionOf : Place → State → Position
-positionOf place state = record { place = place; state = state }
+behind-break : (table : Table) (designated : ℕ) (cusums : List Cusum) → next table (outside designated cusums) Break ≡ restarted table designated Designated
+unfolding next afterBreak withoutRun
+behind-break table designated cusums = refl
 
-pub record Meeting (bytes : List ℕ) (n : ℕ) (table : Table) (row : List PlanNumbers) (place₀ : Place) (results₀ : List ℕ)
-    (place : Place) (state : State) (results : List ℕ) : Type 0 where
-  pub further : Further bytes n (place₀ .index) results₀ (positionOf place state) results
-  pub outside : state .phase ≡ Designated
-  pub is-row : row ≡ rowOf table (state .designated)
+-- how far the writing has gone: before record i stands this state
+record Gone (bytes : List ℕ) (n from : ℕ) (results₀ : List ℕ) (designated i : ℕ) (cusums : List Cusum) (results : List ℕ) : Type 0 where
+  same-state : before (sheetOf bytes n) i ≡ outside designated cusums
+  further : Further bytes n from results₀ (positionAt bytes n i) results
 
-module _ {bytes : List ℕ} {n : ℕ} {table : Table} {row : List PlanNumbers} {place₀ : Place} {state₀ : State} {results₀ : List ℕ}
-    (underway : Underway bytes n table (positionOf place₀ state₀) (length results₀)) where
-  pub begins : state₀ .phase ≡ Designated → row ≡ rowOf table (state₀ .designated) → Meeting bytes n table row place₀ results₀ place₀ state₀ results₀
-  begins outside is-row =
-      record { further = further-none (underway .within) (underway .stands-at) results₀; outside = outside; is-row = is-row }
+module _ {bytes : List ℕ} {n : ℕ} {table : Table} {from : ℕ} {results₀ : List ℕ} {designated : ℕ} {cusums₀ : List Cusum}
+    (underway : Underway bytes n table (positionAt bytes n from) (length results₀)) (begins : before (sheetOf bytes n) from ≡ outside designated cusums₀) where
+  module _ {i : ℕ} {cusums : List Cusum} {results : List ℕ} (gone : Gone bytes n from results₀ designated i cusums results) (below : i < n) where
+    at-record : RecordHere bytes n table (placeAt bytes i) (before (sheetOf bytes n) i) (length results)
+    unfolding positionAt
+    at-record = record-here (underway-on (gone .further) underway) below
 
-  module _ {place : Place} {state : State} {results : List ℕ} (here : Meeting bytes n table row place₀ results₀ place state results)
-      (below : place .index < n) where
-    pub at-record : RecordHere bytes n table place state (length results)
-    at-record = record-here (underway-on (here .further) underway) below
+    -- past one record more
+    on : {entry : Entry} → entryAt bytes i ≡ entry → {later : List Cusum} → next table (outside designated cusums) entry ≡ outside designated later
+        → {behind : List ℕ} → OneMore (sheetOf bytes n) i results behind → length behind ≡ length results
+        → Gone bytes n from results₀ designated (suc i) later behind
+    unfolding before sheetOf positionAt
+    on {entry} reads is-later one same =
+        record {
+          same-state =
+              ap₂ (next (tableOf (planOf bytes))) (gone .same-state) reads
+              ∙ ap (λ (t : Table). next t (outside designated cusums) entry) (sym (at-record .stands .same-table)) ∙ is-later;
+          further = further-one (gone .further) below refl one same;
+        }
 
-    pub mark-within : place .at + markSize ≤ length bytes
-    mark-within = mark-inside (at-record .stands)
+    past-unit : (here : SampleUnit) → entryAt bytes i ≡ UnitRecord here → unitFails table designated cusums (tenthsOf here) ≡ false →
+        let grading = gradingOf table designated cusums (tenthsOf here) in
+        Gone bytes n from results₀ designated (suc i) (grading .cusums)
+        (sets results (resultSize * unitsBefore bytes i) (resultBytes ungraded (resultUnder designated here grading)))
+    unfolding graded inForceIn
+    past-unit here reads meets =
+        let grading = gradingOf table designated cusums (tenthsOf here) in
+        let state = before (sheetOf bytes n) i in
+        let unit-here : UnitHere bytes n table (placeAt bytes i) state here (length results) =
+        record { stands = at-record .stands; is-unit = reads; room = at-record .room } in
+        let same : graded table state here ≡ grading = ap (λ (s : State). graded table s here) (gone .same-state) in
+        let recorded : resultUnder designated here grading ≡ resultWith state here (graded table state here) false
+        = sym (result-outside (outside designated cusums) here grading refl)
+        ∙ sym (ap₂ (λ (s : State) (g : _). resultWith s here g false) (gone .same-state) same) in
+        on reads (behind-unit table designated cusums here meets)
+        (designated-done unit-here (graded table state here) refl results _ refl
+        (ap (λ (r : ResultRecord). sets results (resultSize * unitsBefore bytes i) (resultBytes ungraded r)) recorded)
+        (ap (λ (s : State). s .phase) (gone .same-state)))
+        (length-sets results (resultSize * unitsBefore bytes i) (resultBytes ungraded (resultUnder designated here grading)))
 
-    module _ {m : Mark} (is-mark : m ≡ markAt bytes (place .at)) where
-      pub unit-within : m ≡ UnitMark → place .at + unitSize ≤ length bytes
-      unfolding sizeOf
-      unit-within is-unit = subst-size (record-inside (at-record .stands) is-mark)
-        where
-          subst-size : place .at + sizeOf m ≤ length bytes → place .at + unitSize ≤ length bytes
-          subst-size inside = omega (arith, inside, ap sizeOf is-unit)
+    past-break : entryAt bytes i ≡ Break → Gone bytes n from results₀ designated (suc i) (restarted table designated Designated .cusums) results
+    unfolding restarted unitsOf
+    past-break reads = on reads (behind-break table designated cusums) (nothing-more (at-record .stands) reads refl results) refl
 
-      -- ---- a unit
+  gone-past : {i : ℕ} {cusums : List Cusum} {results : List ℕ} → Passed bytes table designated true from cusums₀ results₀ i cusums results → i ≤ n
+      → Gone bytes n from results₀ designated i cusums results
+  unfolding positionAt restarted inForceIn
+  gone-past none within = record { same-state = begins; further = further-none within refl results₀ }
+  gone-past (unit i cusums results passed here reads meets) within = past-unit (gone-past passed (omega arith)) (omega arith) here reads (meets refl)
+  gone-past (restart i cusums results passed reads) within = past-break (gone-past passed (omega arith)) (omega arith) reads
+  gone-past (over i cusums results passed new reads passing) within = absurd (true≢false passing)
 
-      module _ (is-unit : m ≡ UnitMark) {unit : SampleUnit} (is-read : unit ≡ sampleUnitAt bytes (place .at)) where
-        pub unit-at : UnitHere bytes n table place state unit (length results)
-        unit-at = unit-here at-record is-mark refl (unit-by-mark bytes (place .at) is-unit is-read)
+-- the passing can begin
+pub passable : {bytes : List ℕ} {n : ℕ} {table : Table} {start : Position} {size : ℕ} → Underway bytes n table start size
+    → Passable bytes n (start .state .designated) (record { place = start .place; cusums = start .state .cusums }) size
+unfolding positionAt
+passable {bytes} {n} {table} {start} underway =
+    let at = underway .stands-at in
+    record {
+      walk = record { whole = underway .writable .whole; inside = underway .within; here = ap (λ (p : Position). p .place) at };
+      planned = ap (λ (p : Position). hasPlan (p .state .designated)) at ∙ underway .writable .planned (start .place .index);
+      room = underway .writable .room;
+    }
 
-        -- it does not fail under the row that was picked
-        pub met-step : {stepped : SteppedClasses} → stepped ≡ steppedIn row (state .cusums) (tenthsOf unit) → stepped .fails ≡ false
-            → record { cusums = stepped .cusums; overshoots = noOvershoots; fails = false }
-            ≡ steppedIn (rowOf table (state .designated)) (state .cusums) (tenthsOf unit)
-        met-step {stepped} steps meets =
-            let none : stepped .overshoots ≡ noOvershoots
-            = ap (λ (s : SteppedClasses). s .overshoots) steps
-            ∙ none-over row (state .cusums) (tenthsOf unit) (sym (ap (λ (s : SteppedClasses). s .fails) steps) ∙ meets) in
-            ap₂ (λ (over : List ℕ) (failed : Bool). record { cusums = stepped .cusums; overshoots = over; fails = failed }) (sym none) (sym meets)
-            ∙ steps
-            ∙ ap (λ (r : List PlanNumbers). steppedIn r (state .cusums) (tenthsOf unit)) (here .is-row)
-
-        pub room-past-unit : length bytes ≤ largestOffset → RoomPast place UnitMark
-        unfolding markFor
-        room-past-unit fits = room-past-it at-record is-mark refl (unit-by-mark bytes (place .at) is-unit is-read) fits
-
-        pub past-unit : {after : State} → (after ≡ next table state (UnitRecord unit)) × (after .phase ≡ Designated)
-            → {behind : List ℕ} → OneMore (sheetOf bytes n) (place .index) results behind → length behind ≡ length results
-            → {past : Place} → past ≡ placeAfter place UnitMark → Meeting bytes n table row place₀ results₀ past after behind
-        unfolding markFor designatedBy
-        past-unit (is-after, outside) one same is-past =
-            record {
-              further =
-                  further-one (here .further) below (position-past-it at-record is-mark refl (unit-by-mark bytes (place .at) is-unit is-read) is-past is-after) one same;
-              outside = outside;
-              is-row = here .is-row ∙ ap (rowOf table) (sym (ap (λ (s : State). s .designated) is-after ∙ designated-after table state (UnitRecord unit)));
-            }
-
-      -- ---- a break
-
-      module _ (is-break : m ≡ BreakMark) where
-        pub room-past-break : length bytes ≤ largestOffset → RoomPast place BreakMark
-        unfolding markFor
-        room-past-break fits = room-past-it at-record is-mark refl (break-by-mark bytes (place .at) is-break) fits
-
-        pub past-break : {after : State} → after ≡ restartedIn row (state .designated)
-            → {past : Place} → past ≡ placeAfter place BreakMark → Meeting bytes n table row place₀ results₀ past after results
-        unfolding markFor next afterBreak restarted withoutRun inForceIn unitsOf
-        past-break {after} is-after is-past =
-            let restarts : after ≡ next table state Break =
-            is-after
-            ∙ ap (λ (r : List PlanNumbers). restartedIn r (state .designated)) (here .is-row)
-            ∙ ap (λ (phase : Phase). restarted table (state .designated) (withoutRun phase)) (sym (here .outside)) in
-            record {
-              further =
-                  further-one (here .further) below (position-past-it at-record is-mark refl (break-by-mark bytes (place .at) is-break) is-past restarts)
-                  (nothing-written at-record is-mark refl (break-by-mark bytes (place .at) is-break) refl results) refl;
-              outside = ap (λ (s : State). s .phase) is-after;
-              is-row = here .is-row ∙ ap (rowOf table) (sym (ap (λ (s : State). s .designated) is-after));
-            }
+-- as the code stands before and behind these records
+pub met-on : {bytes : List ℕ} {n : ℕ} {table : Table} {start : Position} {results₀ : List ℕ} → Underway bytes n table start (length results₀)
+    → start .state .phase ≡ Designated → start .state .previous ≡ NoFailure
+    → {place : Place} {cusums : List Cusum} {results : List ℕ} → Walk bytes n place
+    → Passed bytes table (start .state .designated) true (start .place .index) (start .state .cusums) results₀ (place .index) cusums results
+    → Further bytes n (start .place .index) results₀ (record { place = place; state = outside (start .state .designated) cusums }) results
+unfolding positionAt
+met-on {bytes} {n} {table} {start} {results₀} underway phase previous {place} {cusums} {results} walk passed =
+    let from = start .place .index in
+    let begins : before (sheetOf bytes n) from ≡ outside (start .state .designated) (start .state .cusums)
+    = sym (ap (λ (p : Position). p .state) (underway .stands-at))
+    ∙ ap₂ (λ (p : Previous) (f : Phase). stateOf (start .state .designated) p f (start .state .cusums)) previous phase in
+    let gone = gone-past (subst (λ (p : Position). Underway bytes n table p (length results₀)) (underway .stands-at) underway) begins passed (walk .inside) in
+    let same : record { place = place; state = outside (start .state .designated) cusums } ≡ positionAt bytes n (place .index)
+    = ap₂ (λ (p : Place) (s : State). record { place = p; state = s }) (walk .here) (sym (gone .same-state)) in
+    subst⁻¹ (λ (p : Position). Further bytes n from results₀ p results) same (gone .further)

@@ -4,14 +4,10 @@ use mathlib.Core.Path.{_≡_}
 use mathlib.Core.Bool.{true}
 use mathlib.Core.List.{List}
 use lib.ListN.{length}
-use Rattle.cusum.specs.declared.PlanNumbers.{PlanNumbers}
-use Rattle.units.specs.Unit.{starting}
 use Rattle.units.specs.Words.{hasPlan, Table, tableOf}
 use Rattle.units.specs.declared.SampleUnit.{SampleUnit}
 use Rattle.units.specs.declared.Entry.the-variants.{UnitRecord}
 use Rattle.rules.specs.Sheet.{Sheet, before}
-use Rattle.rules.specs.declared.Previous.the-variants.{NoFailure}
-use Rattle.rules.specs.declared.Phase.the-variants.{Designated}
 use Rattle.rules.specs.declared.State.{State}
 use Rattle.layout.specs.Layout.{planOf, entryAt, unitsBefore}
 use Rattle.layout.specs.Walk.{placeAt, Walk}
@@ -55,10 +51,6 @@ OneMore sheet done results behind = SomeMore sheet done (suc done) results behin
 pub record RecordHere (bytes : List ℕ) (records : ℕ) (table : Table) (place : Place) (state : State) (size : ℕ) : Type 0 where
   pub stands : Stands bytes records table place state
   pub room : resultSize * unitsBefore bytes (suc (place .index)) ≤ size
-
--- behind a break under the designated plan: every class of its row at S, and a failure just before forgotten
-abbrev pub restartedIn : List PlanNumbers → ℕ → State
-restartedIn row designated = record { designated = designated; previous = NoFailure; phase = Designated; cusums = starting row }
 
 -- before a record of a sheet, or behind the last, with room in a buffer of this size for what all records write
 pub record Underway (bytes : List ℕ) (records : ℕ) (table : Table) (position : Position) (size : ℕ) : Type 0 where

@@ -1,26 +1,26 @@
 // Writing the result records of a sheet, no code graded yet.
 ghost use mathlib.Core.Path.{_≡_};
-ghost use mathlib.Core.Bool.{true, false, cond};
+ghost use mathlib.Core.Bool.{true, cond};
 ghost use Prim.Native.Nat.{suc, _*_};
 ghost use mathlib.Core.List.{_++_};
 ghost use lib.ListN.{length, drop};
 ghost use Rattle.rules.specs.StepThree.{next, inStepThree};
 ghost use Rattle.units.specs.declared.Entry.the-variants.{UnitRecord};
 ghost use Rattle.rules.specs.declared.Phase.the-variants.{Designated};
-ghost use Rattle.units.specs.Words.{rowOf, tenthsOf, noOvershoots};
-ghost use Rattle.units.specs.Unit.{bestLower, steppedIn};
+ghost use Rattle.rules.specs.declared.Previous.the-variants.{NoFailure};
+ghost use Rattle.units.specs.Words.{tenthsOf};
+ghost use Rattle.units.specs.Unit.{bestLower};
 ghost use Rattle.layout.specs.Layout.{entryAt, unitsBefore};
 ghost use Rattle.results.specs.Record.{resultSize};
 ghost use Rattle.results.specs.Written.{written};
 ghost use Rattle.codes.specs.Codes.{ungraded};
 ghost use Rattle.recording.specs.Sheet.{sheetOf, resultOf};
-ghost use Rattle.writing.specs.Writing.{UnitHere, RecordHere, positionAt, OneMore, Underway, Further, restartedIn};
+ghost use Rattle.writing.specs.Writing.{UnitHere, RecordHere, positionAt, OneMore, Underway, Further};
 ghost use Rattle.writing.specs.Writable.{Writable};
 use layout::Mark;
 use layout::Place;
 use layout::entry_at;
 use layout::mark_at;
-use layout::sample_unit_at;
 use recording::recover_three;
 use recording::result_of;
 use recording::write_at;
@@ -28,17 +28,16 @@ use results::RESULT_SIZE;
 use rules::Phase;
 use rules::Previous;
 use rules::State;
-use units::CLASSES;
-use units::Cusums;
+use single_plan::Reached;
+use single_plan::STOPPING;
+use single_plan::write_under;
 use units::Entry;
 use units::Grading;
-use units::Row;
 use units::SampleUnit;
 use units::Table;
 use units::best_lower;
 use units::qualifies_with;
 use units::row_of;
-use units::starts;
 use units::step_classes;
 use units::step_in_force;
 
@@ -179,50 +178,8 @@ fn write_here(
     }
 }
 
-// Writes what is recorded of a unit that meets the designated plan, with the CuSums that it makes: the state after it. No class is over.
-fn write_met(
-    bytes: &[u8],
-    records: usize,
-    table: Table,
-    place: Place,
-    state: State,
-    unit: SampleUnit,
-    new: Cusums,
-    results: &mut [u8],
-) -> State
-    requires { ⌜ UnitHere (now bytes) records table place state unit (length (now results)) × (state .phase ≡ Designated) × (record { cusums = new; overshoots = noOvershoots; fails = false } ≡ steppedIn (rowOf table (state .designated)) (state .cusums) (tenthsOf unit)) ⌝ }
-    ensures state { λ r. ⌜ (r ≡ next table state (UnitRecord unit)) × (r .phase ≡ Designated) ⌝ }
-    ensures buffer { λ r. ⌜ OneMore (sheetOf (now (bytes .entry)) records) (place .index) (now (results .entry)) (now (results .exit)) ⌝ }
-{
-    let met = Grading {
-        cusums: new,
-        overshoots: [0; CLASSES],
-        fails: false,
-        grade: state.designated,
-    };
-    write_at(
-        results,
-        RESULT_SIZE * place.units,
-        result_of(state, unit, met),
-    );
-    state.after_unit(table, met, false)
-}
-
-// Behind a break under the designated plan, whose row this is.
-fn behind_break(row: Row, designated: u8) -> State
-    ensures { λ r. ⌜ r ≡ restartedIn row designated ⌝ }
-{
-    let started = starts(row);
-    State {
-        designated: designated,
-        previous: Previous::NoFailure,
-        phase: Phase::Designated,
-        cusums: started,
-    }
-}
-
-// Writes what units that meet the designated plan write, and goes past them and past breaks: up to a unit that fails, a redesignation
-// or the end. Most records of most sheets are such; this loop picks the row of their plan once.
+// Goes past units that meet the designated plan, with what they write, and past breaks: up to a unit that fails, a redesignation or the
+// end. Most records of most sheets are such.
 fn write_meeting(
     bytes: &[u8],
     records: usize,
@@ -230,43 +187,36 @@ fn write_meeting(
     start: Position,
     results: &mut [u8],
 ) -> Position
-    requires { ⌜ Underway (now bytes) records table start (length (now results)) × (start .state .phase ≡ Designated) ⌝ }
+    requires { ⌜ Underway (now bytes) records table start (length (now results)) × (start .state .phase ≡ Designated) × (start .state .previous ≡ NoFailure) ⌝ }
     ensures { λ r. ⌜ Further (now (bytes .entry)) records (start .place .index) (now (results .entry)) r (now (results .exit)) ⌝ }
 {
-    let mut place = start.place;
-    let mut state = start.state;
-    let row = row_of(table, state.designated);
-    while place.index < records {
-        match mark_at(bytes, place.at) {
-            Mark::UnitMark => {
-                let unit = sample_unit_at(bytes, place.at);
-                let before = state.cusums;
-                let stepped = step_classes(row, before, unit);
-                if stepped.fails {
-                    return Position {
-                        place: place,
-                        state: state,
-                    };
-                }
-                let new = stepped.cusums;
-                state = write_met(bytes, records, table, place, state, unit, new, results);
-                place = place.past(Mark::UnitMark);
-            }
-            Mark::BreakMark => {
-                state = behind_break(row, state.designated);
-                place = place.past(Mark::BreakMark);
-            }
-            _ => {
-                return Position {
-                    place: place,
-                    state: state,
-                };
-            }
-        }
-    }
+    let from = start.place;
+    let state = start.state;
+    let before = state.cusums;
+    let standing = Reached {
+        place: from,
+        cusums: before,
+    };
+    let reached = write_under(
+        bytes,
+        records,
+        table,
+        state.designated,
+        STOPPING,
+        standing,
+        results,
+    );
+    let place = reached.place;
+    let cusums = reached.cusums;
+    let outside = State {
+        designated: state.designated,
+        previous: Previous::NoFailure,
+        phase: Phase::Designated,
+        cusums: cusums,
+    };
     Position {
         place: place,
-        state: state,
+        state: outside,
     }
 }
 
