@@ -1,7 +1,7 @@
-//! Both halves of demand 3, over whole graded sheets; overshoots, and the starts of lower plans, found
-//! a second time.
+//! Both halves of demand 3, over whole graded sheets, the second also over regradings; overshoots, and
+//! the starts of lower plans, found a second time.
 
-use crate::rules::{Graded, What, FAILED};
+use crate::rules::{Graded, Row, What, FAILED};
 use crate::sheet::{Grade, SUBSTANDARD};
 use std::collections::BTreeSet;
 use std::ops::Range;
@@ -140,24 +140,53 @@ pub fn monotone(first: &Graded, second: &Graded) -> Result<bool, String> {
     // "up to and including the second sheet's first failure of two units in a row, or the end"
     let reach = two_in_a_row.map_or(second.rows.len(), |unit| unit + 1);
     for (unit, (x, y)) in first.rows.iter().zip(&second.rows).enumerate() {
-        for class in (0..4).filter(|_| unit < reach) {
-            if x.cusums[class] > y.cusums[class] {
-                return Err(format!("unit {} class {class}: a higher CuSum", unit + 1));
-            }
-            if x.class_fails[class] && !y.class_fails[class] {
-                return Err(format!("unit {} class {class}: fails in the first only", unit + 1));
-            }
-            // "up to the same unit no overshoot of the first sheet is larger" (paper 02, A.1)
-            if x.overshoots[class] > y.overshoots[class] {
-                return Err(format!("unit {} class {class}: a larger overshoot", unit + 1));
-            }
+        if unit < reach {
+            monotone_classes(unit, x, y)?;
         }
         // "If the second never fails two in a row, no portion or code of the first grades lower than
         // its fellow."
-        let lower = x.portion_grade > y.portion_grade || x.code_grade > y.code_grade;
-        if two_in_a_row.is_none() && lower {
-            return Err(format!("unit {}: a lower grade", unit + 1));
+        if two_in_a_row.is_none() {
+            monotone_grades(unit, x, y)?;
         }
     }
     Ok(two_in_a_row.is_none())
+}
+
+/// The second half of demand 3 for two regradings under the same second plan, of accepted sheets alike
+/// except that no count in the first exceeds its fellow in the second: "through the whole sheet and
+/// without its premise on failures and redesignations" (paper 02, A.5). Says what is violated.
+pub fn monotone_regraded(first: &Graded, second: &Graded) -> Result<(), String> {
+    if first.rows.len() != second.rows.len() {
+        return Err("not the same units".to_string());
+    }
+    for (unit, (x, y)) in first.rows.iter().zip(&second.rows).enumerate() {
+        monotone_classes(unit, x, y)?;
+        monotone_grades(unit, x, y)?;
+    }
+    Ok(())
+}
+
+/// Fellow units, class by class.
+fn monotone_classes(unit: usize, x: &Row, y: &Row) -> Result<(), String> {
+    for class in 0..4 {
+        if x.cusums[class] > y.cusums[class] {
+            return Err(format!("unit {} class {class}: a higher CuSum", unit + 1));
+        }
+        if x.class_fails[class] && !y.class_fails[class] {
+            return Err(format!("unit {} class {class}: fails in the first only", unit + 1));
+        }
+        // "up to the same unit no overshoot of the first sheet is larger" (paper 02, A.1)
+        if x.overshoots[class] > y.overshoots[class] {
+            return Err(format!("unit {} class {class}: a larger overshoot", unit + 1));
+        }
+    }
+    Ok(())
+}
+
+/// Fellow portions and codes: "lower means a larger grade code".
+fn monotone_grades(unit: usize, x: &Row, y: &Row) -> Result<(), String> {
+    if x.portion_grade > y.portion_grade || x.code_grade > y.code_grade {
+        return Err(format!("unit {}: a lower grade", unit + 1));
+    }
+    Ok(())
 }

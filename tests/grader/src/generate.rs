@@ -102,7 +102,7 @@ impl Sheet {
 }
 
 /// A plan that breaks none of the rules; mostly in the range of the manual's plans.
-fn plan(dice: &mut Dice) -> Table {
+pub(crate) fn plan(dice: &mut Dice) -> Table {
     let mut tenths = PEACH;
     if dice.chance(10) {
         return table(tenths);
@@ -123,21 +123,16 @@ fn plan(dice: &mut Dice) -> Table {
 /// What a unit is to be like: within the designated T of every class; near T or T+L in one class;
 /// failing the designated plan to this defect grade, if there is such a count; or anything.
 #[derive(Clone, Copy)]
-enum Mood {
+pub(crate) enum Mood {
     Clean,
     Edge,
     FailsTo(u8),
     Anything,
 }
 
-fn unit(dice: &mut Dice, draft: &mut Sheet, mood: Mood) {
+pub(crate) fn unit(dice: &mut Dice, draft: &mut Sheet, mood: Mood) {
     let designated = draft.table[usize::from(draft.designated_before(draft.records.len()))];
-    let mut counts = [0; 4];
-    let mut left = if dice.chance(50) { designated[3].t / 10 } else { 0 };
-    for class in 0..4 {
-        counts[class] = dice.between(0, left.min(designated[class].t / 10));
-        left -= counts[class];
-    }
+    let mut counts = counts_within(dice, designated);
     // The fourth place is total as a class and minor as a count.
     let class = dice.below(4);
     let Numbers { t, l, .. } = designated[class];
@@ -159,8 +154,19 @@ fn unit(dice: &mut Dice, draft: &mut Sheet, mood: Mood) {
     push_unit(dice, draft, counts);
 }
 
+/// Counts within T of every class, half of them none.
+pub(crate) fn counts_within(dice: &mut Dice, plan: [Numbers; 4]) -> [i64; 4] {
+    let mut counts = [0; 4];
+    let mut left = if dice.chance(50) { plan[3].t / 10 } else { 0 };
+    for class in 0..4 {
+        counts[class] = dice.between(0, left.min(plan[class].t / 10));
+        left -= counts[class];
+    }
+    counts
+}
+
 /// A unit with these counts, or 2,000 where they are above it.
-fn push_unit(dice: &mut Dice, draft: &mut Sheet, counts: [i64; 4]) {
+pub(crate) fn push_unit(dice: &mut Dice, draft: &mut Sheet, counts: [i64; 4]) {
     let next = draft.units() as u16;
     draft.records.push(Record::Unit(Unit {
         code: dice.pick(&[next, next, next / 2, next / 4, 1, 2, 3, 0, 256, u16::MAX]),
@@ -178,7 +184,12 @@ fn failure(dice: &mut Dice, draft: &mut Sheet) {
 }
 
 /// A break or a redesignation now and then.
-fn perhaps_parted(dice: &mut Dice, draft: &mut Sheet, percent: usize, redesignations: bool) {
+pub(crate) fn perhaps_parted(
+    dice: &mut Dice,
+    draft: &mut Sheet,
+    percent: usize,
+    redesignations: bool,
+) {
     if dice.chance(percent) {
         draft.records.push(Record::Break);
     }
@@ -230,7 +241,7 @@ const ABOVE: [i64; 6] = [0, 1, 255, 256, 65_535, 65_536];
 
 /// A plan as [`plan`] makes it, but with each S, if its L allows, such that some count takes the raw
 /// value from there to one of [`ABOVE`].
-fn plan_to_the_tenth(dice: &mut Dice) -> Table {
+pub(crate) fn plan_to_the_tenth(dice: &mut Dice) -> Table {
     let mut table = plan(dice);
     for Numbers { s, t, l } in table.iter_mut().flatten() {
         let least = (*t + *l + dice.pick(&ABOVE)) % 10;
@@ -244,7 +255,7 @@ fn plan_to_the_tenth(dice: &mut Dice) -> Table {
 /// How far over a unit is to be under the plan in force: around L in one class, or in every class; or
 /// so far that the overshoot in total is around the largest number of two bytes, or above it.
 #[derive(Clone, Copy)]
-enum Over {
+pub(crate) enum Over {
     OneClass,
     EveryClass,
     Far,
@@ -252,13 +263,19 @@ enum Over {
 
 fn over(dice: &mut Dice, draft: &mut Sheet, how: Over) {
     let graded = rules::grade_portions(draft);
+    let counts = counts_over(dice, &graded, how);
+    push_unit(dice, draft, counts);
+}
+
+/// The counts of such a unit behind a sheet, as graded or regraded.
+pub(crate) fn counts_over(dice: &mut Dice, graded: &Graded, how: Over) -> [i64; 4] {
     let mut counts = [0; 4];
     if let Over::Far = how {
         let least = dice.pick(&[1_500, 1_900, 2_000]);
         counts = counts.map(|_| dice.between(least, 2_000));
     }
     // Without a plan there is no L: counts go by C.
-    let plan = draft.table[usize::from(graded.next_plan.min(2))];
+    let plan = graded.table[usize::from(graded.next_plan.min(2))];
     let class_alone = dice.below(4);
     for (class, Numbers { t, l, .. }) in plan.into_iter().enumerate() {
         let above = match how {
@@ -272,12 +289,12 @@ fn over(dice: &mut Dice, draft: &mut Sheet, how: Over) {
         let defects = (t + l + above - graded.next_cusums[class]).max(0);
         counts[class] = ((defects + 9) / 10 - others).max(0);
     }
-    push_unit(dice, draft, counts);
+    counts
 }
 
 /// A valid sheet of few units, around L and far over it, under the designated plan, a lower one and
 /// none. A calm one never fails two in a row, as in [`draft`].
-fn draft_over(dice: &mut Dice, redesignations: bool, calm: bool) -> Sheet {
+pub(crate) fn draft_over(dice: &mut Dice, redesignations: bool, calm: bool) -> Sheet {
     let (table, designated) = (plan_to_the_tenth(dice), dice.pick(&[0, 0, 0, 1, 1, 2]));
     let mut draft = Sheet { designated, table, records: Vec::new() };
     for _ in 0..dice.between(1, 5) {
@@ -303,7 +320,7 @@ fn draft_over(dice: &mut Dice, redesignations: bool, calm: bool) -> Sheet {
 /// A plan whose grades lie apart in every class: some count fails a grade and is admitted by the next
 /// lower one, and some is not. S is mostly within T, so that a unit without defects qualifies right
 /// after a start.
-fn plan_in_steps(dice: &mut Dice) -> Table {
+pub(crate) fn plan_in_steps(dice: &mut Dice) -> Table {
     let mut tenths = PEACH;
     // A grade that admits a count in its own class admits it in total.
     let steps = [(15, 20, 30), (20, 20, 40), (25, 20, 50), (60, 60, 120)];
@@ -322,10 +339,16 @@ fn plan_in_steps(dice: &mut Dice) -> Table {
 
 /// A unit that fails the plan in force in one class (without a plan it goes by C): from any CuSums and
 /// to some lower grade, or by as little as it can from the CuSums that there are.
-fn failure_in_force(dice: &mut Dice, draft: &mut Sheet) {
+pub(crate) fn failure_in_force(dice: &mut Dice, draft: &mut Sheet) {
     let graded = rules::grade_portions(draft);
+    let counts = counts_failing(dice, &graded);
+    push_unit(dice, draft, counts);
+}
+
+/// The counts of such a unit behind a sheet, as graded or regraded.
+pub(crate) fn counts_failing(dice: &mut Dice, graded: &Graded) -> [i64; 4] {
     let (plan, class) = (graded.next_plan.min(2), dice.below(4));
-    let numbers = draft.table.map(|grade| grade[class]);
+    let numbers = graded.table.map(|grade| grade[class]);
     let limit = numbers.map(|Numbers { t, l, .. }| (t + l) / 10);
     let mut counts = [0; 4];
     counts[class] = if dice.chance(25) {
@@ -335,10 +358,10 @@ fn failure_in_force(dice: &mut Dice, draft: &mut Sheet) {
         // The next lower grade comes more often, as the worse of two decides.
         let grade = (plan + dice.pick(&[1, 1, 1, 1, 1, 1, 2, 3])).min(SUBSTANDARD);
         let least = limit[usize::from(grade) - 1] + 1;
-        let most = limit.get(usize::from(grade)).map_or(least + 2, |&limit| limit);
+        let most = limit.get(usize::from(grade)).map_or(least + 2, |&limit| limit.max(least));
         dice.between(least, most)
     };
-    push_unit(dice, draft, counts);
+    counts
 }
 
 /// A unit without defects: in step 3 it qualifies if it takes the CuSums to zero.
@@ -349,7 +372,7 @@ fn spotless(dice: &mut Dice, draft: &mut Sheet) {
 /// A valid sheet on which step 3 begins, and then one to four units in a row fail the plan in force,
 /// time and again, behind runs of none to two qualifying units, with breaks, redesignations and units
 /// that meet between them and right behind them, until there is no plan; and ways out of step 3.
-fn draft_lower_plans(dice: &mut Dice) -> Sheet {
+pub(crate) fn draft_lower_plans(dice: &mut Dice) -> Sheet {
     let (table, designated) = (plan_in_steps(dice), dice.pick(&[0, 0, 0, 0, 1, 1, 2]));
     let mut draft = Sheet { designated, table, records: Vec::new() };
     for _ in 0..dice.between(1, 3) {
@@ -386,7 +409,7 @@ fn draft_lower_plans(dice: &mut Dice) -> Sheet {
 
 /// Damages the bytes of a draft (with a unit; with 1,000 for number 12), so that they are refused
 /// with this number, 1 to 12, if nothing else is wrong; returns the offset.
-fn damage(dice: &mut Dice, draft: &Sheet, sheet: &mut Vec<u8>, number: u32) -> usize {
+pub(crate) fn damage(dice: &mut Dice, draft: &Sheet, sheet: &mut Vec<u8>, number: u32) -> usize {
     fn put(sheet: &mut [u8], at: usize, value: u16) {
         sheet[at..at + 2].copy_from_slice(&value.to_be_bytes());
     }
@@ -466,7 +489,7 @@ pub fn expecting(dice: &mut Dice, number: u32) -> Case {
 }
 
 /// As [`expecting`], of this draft (with a unit if the number is not 0; with 1,000 for number 12).
-fn expecting_of(dice: &mut Dice, draft: &Sheet, number: u32) -> Case {
+pub(crate) fn expecting_of(dice: &mut Dice, draft: &Sheet, number: u32) -> Case {
     let (mut sheet, needed) = (draft.bytes(), RESULT_SIZE * draft.units());
     let (room, offset) = match number {
         0 => (needed + dice.pick(&[0, 0, 1, RESULT_SIZE - 1, RESULT_SIZE, 100]), sheet.len()),
@@ -486,17 +509,22 @@ pub fn messy(dice: &mut Dice) -> Case {
         let number = dice.pick(&[2, 3, 4, 5, 8, 8, 9, 9, 10, 10, 11, 11, 12]);
         damage(dice, &draft, &mut sheet, number);
     }
-    for _ in 0..dice.below(4) {
-        let at = dice.below(sheet.len());
-        match dice.below(4) {
-            0 => sheet[at] ^= 1 << dice.below(8),
-            1 => sheet.insert(at, dice.below(256) as u8),
-            2 => sheet.truncate(at + 1),
-            _ => sheet[at] = dice.below(256) as u8,
-        }
-    }
+    change_bytes(dice, &mut sheet);
     let room = dice.pick(&[0, RESULT_SIZE - 1, 10 * RESULT_SIZE, MOST_ROOM]);
     Case { sheet, room, expected: None }
+}
+
+/// Up to three changes anywhere.
+pub(crate) fn change_bytes(dice: &mut Dice, bytes: &mut Vec<u8>) {
+    for _ in 0..dice.below(4) {
+        let at = dice.below(bytes.len());
+        match dice.below(4) {
+            0 => bytes[at] ^= 1 << dice.below(8),
+            1 => bytes.insert(at, dice.below(256) as u8),
+            2 => bytes.truncate(at + 1),
+            _ => bytes[at] = dice.below(256) as u8,
+        }
+    }
 }
 
 /// The seed of one case of a run.
@@ -552,6 +580,11 @@ pub fn pair(seed: u64) -> (Vec<u8>, Vec<u8>) {
     let (calm, percent) = (dice.chance(50), dice.pick(&[10, 30, 80]));
     let second =
         if dice.below(3) > 0 { draft(dice, false, calm) } else { draft_over(dice, false, calm) };
+    (fewer(dice, &second, percent).bytes(), second.bytes())
+}
+
+/// The same sheet with so many percent of its counts made smaller, where they can be.
+pub(crate) fn fewer(dice: &mut Dice, second: &Sheet, percent: usize) -> Sheet {
     let mut first = second.clone();
     for record in &mut first.records {
         if let Record::Unit(unit) = record {
@@ -565,7 +598,7 @@ pub fn pair(seed: u64) -> (Vec<u8>, Vec<u8>) {
             });
         }
     }
-    (first.bytes(), second.bytes())
+    first
 }
 
 /// How often each thing happened; every name is there from the first note on, also with zero.

@@ -1,26 +1,31 @@
 //! An independent grader of tally sheets and mold sheets, written from paper 01 (`01-scope.md`) and
-//! A.1, A.2 and A.4 of paper 02 (`02-change-requests.md`) alone. It is plain on purpose: the whole sheet
-//! is read, then graded, then written. The papers' sentences stand in quotation marks at the code
-//! that follows them; they are those of paper 01 where no paper is named. Mold sheets have a module
-//! of their own, [`mold`]; all else is about tally sheets.
+//! A.1, A.2, A.4 and A.5 of paper 02 (`02-change-requests.md`) alone. It is plain on purpose: the whole
+//! sheet is read, then graded, then written. The papers' sentences stand in quotation marks at the
+//! code that follows them; they are those of paper 01 where no paper is named. Mold sheets have a
+//! module of their own, [`mold`]; all else is about tally sheets. These are graded again under a
+//! second plan in [`regrade`], by the same steps and with the same result records and lines.
 
 pub mod check;
 pub mod failure;
 pub mod generate;
 pub mod generate_mold;
+pub mod generate_regrade;
 pub mod mold;
 pub mod peach;
+pub mod regrade;
 pub mod rules;
 pub mod sheet;
 #[cfg(test)]
 mod tests;
 #[cfg(test)]
 mod tests_mold;
+#[cfg(test)]
+mod tests_regrade;
 
 pub use rules::RESULT_SIZE;
 
 /// Number 0 for acceptance, else 1 to 14 as in "Where a sheet is turned away"; of a mold sheet also 16
-/// and 17.
+/// and 17, of a regrading also 18.
 #[derive(Clone, Copy, Debug, PartialEq, Eq)]
 pub struct Answer {
     pub number: u32,
@@ -56,8 +61,6 @@ fn grade_by(
     results: &mut [u8],
     check: bool,
 ) -> (Answer, Option<rules::Graded>) {
-    // "A refusal returns its number, no units, and the offset [...] The buffer keeps every byte."
-    let refuse = |number, offset| (Answer { number, units: 0, offset }, None);
     let tally = match sheet::read(sheet) {
         Ok(tally) => tally,
         Err((number, offset)) => return refuse(number, offset),
@@ -68,21 +71,35 @@ fn grade_by(
         check::overshoots_twice(&graded);
         check::lower_plans_twice(&graded);
     }
+    write(graded, sheet.len(), results)
+}
+
+/// "A refusal returns its number, no units, and the offset [...] The buffer keeps every byte."
+pub(crate) fn refuse(number: u32, offset: usize) -> (Answer, Option<rules::Graded>) {
+    (Answer { number, units: 0, offset }, None)
+}
+
+/// Numbers 13 and 14, and the result records, of a graded sheet of this length.
+pub(crate) fn write(
+    graded: rules::Graded,
+    length: usize,
+    results: &mut [u8],
+) -> (Answer, Option<rules::Graded>) {
     let units = graded.rows.len();
     // "Number 13 counts 32 bytes a unit" (paper 02, A.1).
     if results.len() < RESULT_SIZE * units {
-        return refuse(13, sheet.len());
+        return refuse(13, length);
     }
     // "Result buffer | 14 | a CuSum too large for two bytes": cannot occur, as no CuSum exceeds L.
     if graded.rows.iter().flat_map(|row| row.cusums).any(|cusum| cusum > 0xFFFF) {
-        return refuse(14, sheet.len());
+        return refuse(14, length);
     }
     // "bytes behind the last result record keep theirs."
     for (row, place) in graded.rows.iter().zip(results.chunks_exact_mut(RESULT_SIZE)) {
         place.copy_from_slice(&row.result());
     }
     // "Acceptance returns 0, the number of units and the sheet's length".
-    (Answer { number: 0, units, offset: sheet.len() }, Some(graded))
+    (Answer { number: 0, units, offset: length }, Some(graded))
 }
 
 /// The lines of "The printing program".
@@ -92,12 +109,17 @@ pub fn print(sheet: &[u8]) -> String {
 
 /// As [`print`], with the self check switched by `check`.
 pub fn print_checked(sheet: &[u8], check: bool) -> String {
+    print_by(|results| grade_traced(sheet, results, check).0, sheet)
+}
+
+/// The lines of this sheet, with the result records of this grading.
+pub(crate) fn print_by(grade: impl FnOnce(&mut [u8]) -> Answer, sheet: &[u8]) -> String {
     // "Input above 65,536 bytes is number 15, offset 65536, before all else."
     if sheet.len() > 65_536 {
         return "refused 15 65536\n".to_string();
     }
     let mut results = vec![0; RESULT_SIZE * sheet::MOST_UNITS];
-    let (answer, _) = grade_traced(sheet, &mut results, check);
+    let answer = grade(&mut results);
     if answer.number != 0 {
         return format!("refused {} {}\n", answer.number, answer.offset);
     }

@@ -1,14 +1,24 @@
 //! Reads a sheet from standard input and prints its lines. `grader --check` also computes every
 //! CuSum by the formula of demand 3, every overshoot by sums like those, finds every start of a lower
-//! plan by the failures in a row, and panics if one differs. `grader --mold` takes a mold sheet, also
-//! with `--check`.
+//! plan by the failures in a row, and panics if one differs. `grader --mold` takes a mold sheet, and
+//! `grader --regrade PLANFILE` regrades the sheet under the plan record in that file; both also with
+//! `--check`.
 
 use std::io::{Read, Write};
 
 fn main() -> std::io::Result<()> {
-    let given = |option: &str| std::env::args().skip(1).any(|argument| argument == option);
-    let print = if given("--mold") { grader::mold::print_checked } else { grader::print_checked };
+    let arguments: Vec<String> = std::env::args().skip(1).collect();
+    let place = |option: &str| arguments.iter().position(|argument| argument == option);
+    let check = place("--check").is_some();
     let mut sheet = Vec::new();
     std::io::stdin().read_to_end(&mut sheet)?;
-    std::io::stdout().write_all(print(&sheet, given("--check")).as_bytes())
+    let lines = if let Some(place) = place("--regrade") {
+        let file = arguments.get(place + 1).expect("--regrade needs the file of a plan");
+        grader::regrade::print_checked(&sheet, &std::fs::read(file)?, check)
+    } else if place("--mold").is_some() {
+        grader::mold::print_checked(&sheet, check)
+    } else {
+        grader::print_checked(&sheet, check)
+    };
+    std::io::stdout().write_all(lines.as_bytes())
 }

@@ -102,9 +102,11 @@ pub struct Graded {
     /// The grade of the plan in force behind the last record, and its CuSums.
     pub next_plan: Grade,
     pub next_cusums: [i64; 4],
+    /// The number of units before each redesignation that a regrading passes over; none in a grading.
+    pub passed_over: Vec<usize>,
 }
 
-const FRESH: Stage = Stage::Designated { failure: None };
+pub(crate) const FRESH: Stage = Stage::Designated { failure: None };
 
 pub fn grade_sheet(sheet: &Sheet) -> Graded {
     let mut graded = grade_portions(sheet);
@@ -167,12 +169,13 @@ pub fn grade_portions(sheet: &Sheet) -> Graded {
         }
     }
     let next_plan = plan_in_force(stage, designated);
-    Graded { table: sheet.table, rows, events, next_plan, next_cusums: cusums }
+    let passed_over = Vec::new();
+    Graded { table: sheet.table, rows, events, next_plan, next_cusums: cusums, passed_over }
 }
 
 /// "Last, the code grade: the worst portion grade among all units of the sheet with that code,
 /// adjoining or not."
-fn grade_codes(rows: &mut [Row]) {
+pub(crate) fn grade_codes(rows: &mut [Row]) {
     let mut worst = std::collections::HashMap::new();
     for row in &*rows {
         let grade = worst.entry(row.unit.code).or_insert(row.portion_grade);
@@ -191,7 +194,7 @@ fn plan_in_force(stage: Stage, designated: Grade) -> Grade {
 }
 
 /// "Every CuSum begins at the S of its own class and plan"; zeros where there is no plan.
-fn starts(table: &Table, plan: Grade) -> [i64; 4] {
+pub(crate) fn starts(table: &Table, plan: Grade) -> [i64; 4] {
     table.get(usize::from(plan)).map_or([0; 4], |classes| classes.map(|class| class.s))
 }
 
@@ -240,7 +243,13 @@ fn after_unit(stage: Stage, row: &Row) -> (Stage, Option<What>) {
 
 /// Rules 1 to 4 of "Grading a unit". `old` holds the CuSums before this unit; the code grade is set
 /// last, over the whole sheet.
-fn grade_unit(table: &Table, unit: Unit, designated: Grade, stage: Stage, old: [i64; 4]) -> Row {
+pub(crate) fn grade_unit(
+    table: &Table,
+    unit: Unit,
+    designated: Grade,
+    stage: Stage,
+    old: [i64; 4],
+) -> Row {
     let plan = plan_in_force(stage, designated);
     let defects = unit.defects();
     // "If that is Substandard there is no plan: each unit has defect grade Substandard."

@@ -76,7 +76,7 @@ pub fn read(bytes: &[u8]) -> Result<Sheet, (u32, usize)> {
 }
 
 /// Numbers 1 to 5, each over the whole plan before the next: "the first row met is returned".
-fn read_plan(bytes: &[u8]) -> Result<(Grade, Table), u32> {
+pub(crate) fn read_plan(bytes: &[u8]) -> Result<(Grade, Table), u32> {
     // "shorter than 75 bytes, or first mark not 50 4C"
     if bytes.len() < 75 || bytes[..2] != [0x50, 0x4C] {
         return Err(1);

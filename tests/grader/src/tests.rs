@@ -10,7 +10,7 @@ use crate::{check, grade, grade_traced, print, print_checked, Answer, RESULT_SIZ
 /// Recoverable units of major defects; S/T/L of major at A, B and C, the other classes being so wide
 /// that they neither fail nor hinder. The script lists counts (with a code behind "@", else 1, 2,
 /// ...), "|" for a break and A, B, C for redesignations.
-fn majors_sheet(designated: u8, grades: [[i64; 3]; 3], script: &str) -> Vec<u8> {
+pub(crate) fn majors_sheet(designated: u8, grades: [[i64; 3]; 3], script: &str) -> Vec<u8> {
     let tenths = grades.map(|major| [[0, 9_999, 0], [0, 9_999, 0], major, [0, 9_999, 0]]);
     let mut draft = Sheet { designated, table: table(tenths), records: Vec::new() };
     for word in script.split_whitespace() {
@@ -30,11 +30,14 @@ fn majors_sheet(designated: u8, grades: [[i64; 3]; 3], script: &str) -> Vec<u8> 
 /// Grades such a sheet, with the self check. Returns for each unit "portion code standing plan",
 /// without spaces, and the CuSum.
 fn majors(designated: u8, grades: [[i64; 3]; 3], script: &str) -> String {
+    shorten(&print_checked(&majors_sheet(designated, grades, script), true))
+}
+
+pub(crate) fn shorten(printed: &str) -> String {
     let short = |line: &str| {
         let fields: Vec<&str> = line.split(' ').collect();
         format!("{} {}", fields[2..6].concat(), fields[8])
     };
-    let printed = print_checked(&majors_sheet(designated, grades, script), true);
     printed.lines().map(short).collect::<Vec<_>>().join(", ")
 }
 
@@ -45,10 +48,14 @@ fn overshoots(sheet: &[u8]) -> Vec<[u32; 4]> {
     let mut results = vec![0xA5; MOST_ROOM];
     let (answer, _) = grade_traced(sheet, &mut results, true);
     assert_eq!(answer.number, 0);
+    recorded_overshoots(&results[..RESULT_SIZE * answer.units])
+}
+
+pub(crate) fn recorded_overshoots(results: &[u8]) -> Vec<[u32; 4]> {
     let of_record = |record: &[u8]| {
         [16, 20, 24, 28].map(|at| u32::from_be_bytes(record[at..at + 4].try_into().unwrap()))
     };
-    results.chunks_exact(RESULT_SIZE).take(answer.units).map(of_record).collect()
+    results.chunks_exact(RESULT_SIZE).map(of_record).collect()
 }
 
 /// Of each unit the overshoot in one class, the others being zero.
@@ -310,7 +317,7 @@ fn in_step_3() {
 
 /// S/T/L at A, B, C for falls: T+L is 2, 6 and 10, and a CuSum differs after a start at B, at C, from L
 /// of B and from L of C.
-const STEPS: [[i64; 3]; 3] = [[0, 10, 10], [10, 30, 30], [20, 50, 50]];
+pub(crate) const STEPS: [[i64; 3]; 3] = [[0, 10, 10], [10, 30, 30], [20, 50, 50]];
 
 /// What comes after two 4s, which fail A within T+L of B and begin step 3 at B.
 fn at_b(script: &str) -> String {
