@@ -43,7 +43,13 @@ pub const STOPPING: bool = true;
 pub const PASSING_ALL: bool = false;
 
 // Writes what is recorded of a unit under the designated plan.
-fn write_graded(place: Place, designated: u8, unit: SampleUnit, grading: Grading, results: &mut [u8])
+fn write_graded(
+    place: Place,
+    designated: u8,
+    unit: SampleUnit,
+    grading: Grading,
+    results: &mut [u8],
+)
     requires { ⌜ resultSize * place .units + resultSize ≤ length (now results) ⌝ }
     ensures { λ _. ⌜ now (results .exit) ≡ sets (now (results .entry)) (resultSize * place .units) (resultBytes ungraded (resultUnder designated unit grading)) ⌝ }
 {

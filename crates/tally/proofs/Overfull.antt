@@ -27,7 +27,7 @@ use Rattle.sheet.specs.Refusals.{anyNumbers}
 use Rattle.sheet.proofs.Accepted.{Facts}
 use Rattle.sheet.proofs.Ranges.{cell-limit-le, limit-le}
 use Rattle.recording.specs.Sheet.{sheetOf}
-use Rattle.tally.specs.Outcome.{anyTooLarge, overfullBy, overfullBefore, limitTooLarge}
+use Rattle.tally.specs.Outcome.{anyTooLarge, overfullBy, overfullAmong, overfullBefore, limitTooLarge}
 
 -- the CuSum of a class behind a unit
 pub cusum-graded : (sheet : Sheet) (i : ℕ) (unit : SampleUnit) (class : ℕ) → class < length classes
@@ -43,11 +43,38 @@ unfolding graded newOvershoots
 overshoot-graded sheet i unit class inside =
     map-at (length classes) (classOvershoot (sheet .table) (inForceAt sheet i) (before sheet i .cusums) (tenthsOf unit)) 0 class inside
 
-by-entry : (sheet : Sheet) (i : ℕ) (entry : Entry) → ((unit : SampleUnit) → anyTooLarge (gradedAt sheet i unit .cusums) ≡ false) → overfullBy sheet i entry ≡ false
-unfolding overfullBy
-by-entry sheet i (UnitRecord unit) fit = fit unit
-by-entry sheet i (Redesignation new) fit = refl
-by-entry sheet i Break fit = refl
+-- ---- whatever CuSums the units make
+
+module _ (cusums : ℕ → SampleUnit → List Cusum) where
+  by-entry : (i : ℕ) (entry : Entry) → ((unit : SampleUnit) → anyTooLarge (cusums i unit) ≡ false) → overfullBy cusums i entry ≡ false
+  unfolding overfullBy
+  by-entry i (UnitRecord unit) fit = fit unit
+  by-entry i (Redesignation new) fit = refl
+  by-entry i Break fit = refl
+
+  module _ (entry : ℕ → Entry) where
+    -- none is overfull where all fit
+    pub none-among : ((i : ℕ) (unit : SampleUnit) → anyTooLarge (cusums i unit) ≡ false) → (k : ℕ) → overfullAmong cusums entry k ≡ false
+    unfolding overfullAmong
+    none-among fit zero = refl
+    none-among fit (suc k) = rw (none-among fit k) (by-entry k (entry k) (fit k))
+
+    not-overfull : (n : ℕ) → overfullAmong cusums entry n ≡ false → (i : ℕ) → i < n → overfullBy cusums i (entry i) ≡ false
+    unfolding overfullAmong
+    not-overfull zero none i below = absurd (omega arith)
+    not-overfull (suc n) none i below = go (eq-or-lt-of-le (le-of-suc-le-suc below)) (not-overfull n (or-first _ _ none) i)
+      where
+        go : (i ≡ n) ⊎ (i < n) → (i < n → overfullBy cusums i (entry i) ≡ false) → overfullBy cusums i (entry i) ≡ false
+        go (inl same) earlier = rw same (or-second (overfullAmong cusums entry n) _ none)
+        go (inr less) earlier = earlier less
+
+    -- and where none is overfull each fits
+    pub fits-among : (n : ℕ) → overfullAmong cusums entry n ≡ false → (i : ℕ) → i < n → (unit : SampleUnit) → entry i ≡ UnitRecord unit
+        → (class : ℕ) → class < length classes → tenthsIn (cusums i unit) class ≤ largestTenths
+    unfolding overfullBy anyTooLarge
+    fits-among n none i below unit is-unit class inside =
+        let here : anyTooLarge (cusums i unit) ≡ false = sym (ap (overfullBy cusums i) is-unit) ∙ not-overfull n none i below in
+        ltb-false largestTenths (tenthsIn (cusums i unit) class) (in-none (length classes) _ here class inside)
 
 -- ---- no accepted plan and no counts lead to it
 
@@ -69,29 +96,12 @@ module _ (bytes : List ℕ) (n : ℕ) (facts : Facts bytes n) where
       (omega (arith, cusum-graded sheet i unit class inside, at-most, limit-le bytes n facts (inForceAt sheet i) class)))
 
   pub none-overfull : (k : ℕ) → overfullBefore (sheetOf bytes n) k ≡ false
-  unfolding overfullBefore
-  none-overfull zero = refl
-  none-overfull (suc k) = rw (none-overfull k) (by-entry (sheetOf bytes n) k (sheetOf bytes n .entry k) (cusums-fit k))
+  none-overfull k = none-among (λ i unit. gradedAt (sheetOf bytes n) i unit .cusums) (sheetOf bytes n .entry) cusums-fit k
 
 -- ---- and so every CuSum fits in two bytes
-
-none-too-large : (cusums : List Cusum) → anyTooLarge cusums ≡ false → (class : ℕ) → class < length classes → tenthsIn cusums class ≤ largestTenths
-unfolding anyTooLarge
-none-too-large cusums none class inside = ltb-false largestTenths (tenthsIn cusums class) (in-none (length classes) _ none class inside)
-
-not-overfull : (sheet : Sheet) (n : ℕ) → overfullBefore sheet n ≡ false → (i : ℕ) → i < n → overfullBy sheet i (sheet .entry i) ≡ false
-unfolding overfullBefore
-not-overfull sheet zero none i below = absurd (omega arith)
-not-overfull sheet (suc n) none i below = go (eq-or-lt-of-le (le-of-suc-le-suc below)) (not-overfull sheet n (or-first _ _ none) i)
-  where
-    go : (i ≡ n) ⊎ (i < n) → (i < n → overfullBy sheet i (sheet .entry i) ≡ false) → overfullBy sheet i (sheet .entry i) ≡ false
-    go (inl same) earlier = rw same (or-second (overfullBefore sheet n) _ none)
-    go (inr less) earlier = earlier less
 
 -- in a sheet of which no record is overfull
 pub cusum-fits : (sheet : Sheet) (n : ℕ) → overfullBefore sheet n ≡ false → (i : ℕ) → i < n
     → (unit : SampleUnit) → sheet .entry i ≡ UnitRecord unit → (class : ℕ) → class < length classes
     → tenthsIn (gradedAt sheet i unit .cusums) class ≤ largestTenths
-unfolding overfullBy
-cusum-fits sheet n none i below unit is-unit class inside =
-    none-too-large (gradedAt sheet i unit .cusums) (sym (ap (overfullBy sheet i) is-unit) ∙ not-overfull sheet n none i below) class inside
+cusum-fits sheet n = fits-among (λ i unit. gradedAt sheet i unit .cusums) (sheet .entry) n

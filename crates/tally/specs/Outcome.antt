@@ -9,6 +9,7 @@ use Rattle.cusum.specs.declared.Cusum.{Cusum}
 use Rattle.cusum.specs.Step.{largestTenths}
 use Rattle.units.specs.Conditions.{any, pick}
 use Rattle.units.specs.Words.{classes, tenthsIn}
+use Rattle.units.specs.declared.SampleUnit.{SampleUnit}
 use Rattle.units.specs.declared.Entry.{Entry}
 use Rattle.units.specs.declared.Entry.the-variants.{UnitRecord, Redesignation, Break}
 use Rattle.rules.specs.Sheet.{Sheet, gradedAt, codeGrade}
@@ -26,15 +27,20 @@ use Rattle.outcome.specs.Outcome.{Outcome, refusal}
 unfoldable pub anyTooLarge : List Cusum → Bool
 anyTooLarge cusums = any (λ class. ltb largestTenths (tenthsIn cusums class)) classes
 
--- at a record, and at one of the first n records
-unfoldable pub overfullBy : Sheet → ℕ → Entry → Bool
-overfullBy sheet i (UnitRecord unit) = anyTooLarge (gradedAt sheet i unit .cusums)
-overfullBy sheet i (Redesignation new) = false
-overfullBy sheet i Break = false
+-- at a record, and at one of the first n records, by the CuSums that each unit makes
+module _ (cusums : ℕ → SampleUnit → List Cusum) where
+  unfoldable pub overfullBy : ℕ → Entry → Bool
+  overfullBy i (UnitRecord unit) = anyTooLarge (cusums i unit)
+  overfullBy i (Redesignation new) = false
+  overfullBy i Break = false
 
-unfoldable pub overfullBefore : Sheet → ℕ → Bool
-overfullBefore sheet zero = false
-overfullBefore sheet (suc n) = overfullBefore sheet n || overfullBy sheet n (sheet .entry n)
+  unfoldable pub overfullAmong : (ℕ → Entry) → ℕ → Bool
+  overfullAmong entry zero = false
+  overfullAmong entry (suc n) = overfullAmong entry n || overfullBy n (entry n)
+
+-- of a sheet, as its units are graded
+abbrev pub overfullBefore : Sheet → ℕ → Bool
+overfullBefore sheet n = overfullAmong (λ i unit. gradedAt sheet i unit .cusums) (sheet .entry) n
 
 -- ---- the outcome
 
