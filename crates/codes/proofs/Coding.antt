@@ -2,12 +2,12 @@
 -- portion grades, and what it leaves is what the records write with the worst recorded portion grade of each code.
 -- By induction on the records, each result record read back where it stands.
 use Prim.Native.Nat.{ℕ, zero, suc, _+_, _*_, _≤_, _<_}
-use mathlib.Core.Path.{_≡_, refl, _∙_, ap, subst}
+use mathlib.Core.Path.{_≡_, refl, sym, _∙_, ap, ap₂, subst, subst₂}
 use mathlib.Core.List.{List, [], _++_, append-assoc, append-nil}
 use native.Mathlib.Nat.{add-zero}
 use native.Mathlib.Numerals.{add-one}
 use native.Mathlib.Omega.{arith}
-use lib.ListN.{length, set}
+use lib.ListN.{length, set, length-append}
 use Rattle.units.specs.Words.{worse, substandard}
 use Rattle.units.specs.Records.{unitsOf, unitsAmong, portionGradeWith, worstBefore}
 use Rattle.units.specs.declared.SampleUnit.{SampleUnit}
@@ -138,3 +138,21 @@ module _ (recording : ℕ → SampleUnit → ResultRecord) (entry : ℕ → Entr
       (λ i inside unit is-unit.
       ap (λ (code : ℕ). worstIn buffer code (unitsAmong entry n)) (code-read-back i inside unit is-unit)
       ∙ worst-is (unit .code) n (omega arith))
+
+-- ---- as the code has it: a buffer with what the records have written, no code graded yet, and so many units
+
+module _ (recording : ℕ → SampleUnit → ResultRecord) (entry : ℕ → Entry) (n : ℕ) (rest : List ℕ)
+    (gradable : (i : ℕ) → i < n → (unit : SampleUnit) → entry i ≡ UnitRecord unit → Gradable unit (recording i unit))
+    {units : ℕ} (counted : units ≡ unitsAmong entry n)
+    {raw : List ℕ} (is-raw : raw ≡ written recording (λ code. ungraded) entry n ++ rest) where
+  -- the pass can begin
+  pub ready-for-codes : (resultSize * units ≤ length raw) × Ungraded raw units
+  ready-for-codes =
+      subst₂ (λ (l : List ℕ) (k : ℕ). (resultSize * k ≤ length l) × Ungraded l k) (sym is-raw) (sym counted) (
+        simp length-append (omega (arith, length-written recording (λ code. ungraded) entry n)),
+        ungraded-yet recording entry n rest gradable,
+      )
+
+  pub codes-done : codesGraded raw units
+      ≡ written recording (λ code. worstBefore (λ i unit. recording i unit .portion) entry code n) entry n ++ rest
+  codes-done = ap₂ codesGraded is-raw counted ∙ codes-are recording entry n rest gradable

@@ -3,6 +3,7 @@ ghost use mathlib.Core.Path.{_≡_};
 ghost use Rattle.outcome.specs.Outcome.{Outcome};
 ghost use Rattle.mold.specs.Outcome.{moldOutcome};
 ghost use Rattle.tally.specs.Outcome.{outcome};
+ghost use Rattle.regrade.specs.Outcome.{regradeOutcome};
 use outcome::Answer;
 
 // Grades a tally sheet into a result buffer; see tally::grade. A slice passes as a pointer and then a length.
@@ -19,4 +20,12 @@ pub extern "C" fn hatmuyon_grade_mold(sheet: &[u8], results: &mut [u8]) -> Answe
     ensures { λ r. ⌜ _≡_ {A = Outcome} (record { answer = r; buffer = now (results .exit) }) (moldOutcome (now (sheet .entry)) (now (results .entry))) ⌝ }
 {
     mold::grade_mold(sheet, results)
+}
+
+// Grades a recorded tally sheet again under a second plan record, into a result buffer; see regrade::regrade.
+#[no_mangle]
+pub extern "C" fn hatmuyon_regrade(sheet: &[u8], plan: &[u8], results: &mut [u8]) -> Answer
+    ensures { λ r. ⌜ _≡_ {A = Outcome} (record { answer = r; buffer = now (results .exit) }) (regradeOutcome (now (sheet .entry)) (now (plan .entry)) (now (results .entry))) ⌝ }
+{
+    regrade::regrade(sheet, plan, results)
 }

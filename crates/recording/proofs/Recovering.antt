@@ -25,7 +25,7 @@ use Rattle.results.specs.Record.{resultSize, portionGradeOffset, standingOffset
 use Rattle.results.specs.Written.{bytesBy, written}
 use Rattle.results.specs.declared.ResultRecord.{ResultRecord}
 use Rattle.results.proofs.Stores.{set-behind}
-use Rattle.results.proofs.Written.{written-alike, length-written, written-none, written-unit, unit-added}
+use Rattle.results.proofs.Written.{written-alike, length-written, own-added, none-added}
 use Rattle.codes.specs.Codes.{ungraded}
 use Rattle.recording.specs.Sheet.{resultWith, resultIf, resultOf}
 use Rattle.recording.specs.Recovering.{endedAt, recoveredSoFar, recordingSoFar, writtenAt, writtenSoFar, recoveredIn}
@@ -86,14 +86,9 @@ module _ (sheet : Sheet) where
         ≡ writtenAt sheet old m (suc m)
     unfolding writtenAt recordingSoFar
     unit-written unit is-unit room =
-        let recording = recordingSoFar sheet m in
-        let before = written recording (λ code. ungraded) (sheet .entry) m in
-        let bytes = resultBytes ungraded (resultIf sheet m unit false) in
-        let behind = drop (resultSize * unitsAmong (sheet .entry) (suc m)) old in
-        unit-added recording (λ code. ungraded) (sheet .entry) m unit is-unit old room ungraded (resultIf sheet m unit false)
-        ∙ sym (append-assoc before bytes behind)
-        ∙ ap (λ (flag : Bool). (before ++ resultBytes ungraded (resultIf sheet m unit flag)) ++ behind) (sym (not-yet m unit))
-        ∙ sym (ap (λ (w : List ℕ). w ++ behind) (written-unit recording (λ code. ungraded) (sheet .entry) m unit is-unit))
+        ap (λ (flag : Bool). sets (writtenSoFar sheet old m) (resultSize * unitsAmong (sheet .entry) m) (resultBytes ungraded (resultIf sheet m unit flag)))
+        (sym (not-yet m unit))
+        ∙ own-added (recordingSoFar sheet m) (λ code. ungraded) (sheet .entry) m unit is-unit old room
 
     -- where step 3 does not end, that is all
     pub nothing-recovered : stepThreeEndsAt sheet m ≡ false → writtenAt sheet old m (suc m) ≡ writtenSoFar sheet old (suc m)
@@ -105,12 +100,8 @@ module _ (sheet : Sheet) where
 
     -- a record that is no unit writes nothing
     pub none-written : unitsOf (sheet .entry m) ≡ 0 → stepThreeEndsAt sheet m ≡ false → writtenSoFar sheet old m ≡ writtenSoFar sheet old (suc m)
-    unfolding writtenAt unitsAmong
-    none-written none stays =
-        let same : unitsAmong (sheet .entry) m + unitsOf (sheet .entry m) ≡ unitsAmong (sheet .entry) m = omega (arith, none) in
-        ap₂ (λ (w : List ℕ) (units : ℕ). w ++ drop (resultSize * units) old)
-        (sym (written-none (recordingSoFar sheet m) (λ code. ungraded) (sheet .entry) m none)) (sym same)
-        ∙ unfold writtenAt unitsAmong in nothing-recovered stays
+    unfolding writtenAt
+    none-written none stays = none-added (recordingSoFar sheet m) (λ code. ungraded) (sheet .entry) m none old ∙ nothing-recovered stays
 
   -- ---- when all records are done
 

@@ -86,6 +86,27 @@ module _ (recording : ℕ → SampleUnit → ResultRecord) (grades : ℕ → ℕ
           omega (arith, length-written n, length-result codeGrade result, units-next entry n unit is-unit) in
           rw (← start, ← end) (appended before bytes old (omega (arith, end)) ∙ append-assoc before bytes (drop (length before + length bytes) old))
 
+    -- and its own result record: what one record more writes, and behind it the rest of what was there
+    pub own-added : (n : ℕ) (unit : SampleUnit) → entry n ≡ UnitRecord unit → (old : List ℕ) → resultSize * unitsAmong entry (suc n) ≤ length old
+        → sets (written recording grades entry n ++ drop (resultSize * unitsAmong entry n) old) (resultSize * unitsAmong entry n)
+        (resultBytes (grades (unit .code)) (recording n unit))
+        ≡ written recording grades entry (suc n) ++ drop (resultSize * unitsAmong entry (suc n)) old
+    own-added n unit is-unit old room =
+        let bytes = resultBytes (grades (unit .code)) (recording n unit) in
+        let behind = drop (resultSize * unitsAmong entry (suc n)) old in
+        unit-added n unit is-unit old room (grades (unit .code)) (recording n unit)
+        ∙ sym (append-assoc (written recording grades entry n) bytes behind)
+        ∙ sym (ap (λ (w : List ℕ). w ++ behind) (written-unit n unit is-unit))
+
+    -- a record that is no unit adds nothing
+    pub none-added : (n : ℕ) → unitsOf (entry n) ≡ 0 → (old : List ℕ)
+        → written recording grades entry n ++ drop (resultSize * unitsAmong entry n) old
+        ≡ written recording grades entry (suc n) ++ drop (resultSize * unitsAmong entry (suc n)) old
+    unfolding unitsAmong
+    none-added n none old =
+        let same : unitsAmong entry n + unitsOf (entry n) ≡ unitsAmong entry n = omega (arith, none) in
+        ap₂ (λ (w : List ℕ) (units : ℕ). w ++ drop (resultSize * units) old) (sym (written-none n none)) (sym same)
+
     -- ---- where each result record stands
 
     -- what n records write begins with what those before record i write, then what record i writes

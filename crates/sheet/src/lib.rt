@@ -129,7 +129,7 @@ fn table_refusal(plan: Plan) -> u8
 }
 
 // The number of the first ground that the plan meets, or 0.
-fn plan_refusal(bytes: &[u8]) -> u8
+pub fn plan_refusal(bytes: &[u8]) -> u8
     ensures { λ r. ⌜ r ≡ planRefusal (now (bytes .entry)) ⌝ }
 {
     if bytes.len() < PLAN_SIZE {

@@ -1,11 +1,11 @@
 -- The outcome of a sheet that passes refusals 1 to 12, case by case as the code takes them: 13, 14, accepted.
 -- Each case rewrites the outcome with the tests on the way; the accepted buffer comes from the writing pass and the code grading.
 use Prim.Native.Nat.{ℕ, _*_, _≤_, _<_}
-use mathlib.Core.Path.{_≡_, refl, sym, _∙_, ap, ap₂, subst⁻¹}
+use mathlib.Core.Path.{_≡_, refl, sym, _∙_, ap}
 use mathlib.Core.Bool.{true, true≢false}
 use mathlib.Core.List.{List, _++_}
 use native.Mathlib.Omega.{arith}
-use lib.ListN.{length, drop, length-append}
+use lib.ListN.{length, drop}
 use borrow.Author.Tests.{lt-ltb, le-ltb}
 use Rattle.encoding.specs.Bytes.{byte}
 use Rattle.units.specs.Conditions.{pick}
@@ -24,9 +24,8 @@ use Rattle.sheet.proofs.Accepted.{Facts, facts}
 use Rattle.sheet.proofs.Ranges.{units-most}
 use Rattle.results.specs.Record.{resultSize}
 use Rattle.results.specs.Written.{written}
-use Rattle.results.proofs.Written.{length-written}
 use Rattle.codes.specs.Codes.{ungraded, codesGraded, Ungraded}
-use Rattle.codes.proofs.Coding.{Gradable, ungraded-yet, codes-are}
+use Rattle.codes.proofs.Coding.{Gradable, ready-for-codes, codes-done}
 use Rattle.recording.specs.Sheet.{sheetOf, resultWith, resultOf}
 use Rattle.writing.specs.Writable.{Writable}
 use Rattle.outcome.specs.Outcome.{Outcome, refusal}
@@ -90,20 +89,13 @@ module _ (bytes buffer : List ℕ) (records units : ℕ) (accepted : verdict byt
           }
 
       module _ (raw : List ℕ) (is-raw : raw ≡ written (resultOf sheet) (λ code. ungraded) (entryAt bytes) records ++ behind) where
-        pub ready-for-codes : (resultSize * units ≤ length raw) × Ungraded raw units
-        ready-for-codes =
-            subst⁻¹ (λ (l : List ℕ). (resultSize * units ≤ length l) × Ungraded l units) is-raw
-            (subst⁻¹ (λ (n : ℕ). (resultSize * n ≤ length (written (resultOf sheet) (λ code. ungraded) (entryAt bytes) records ++ behind))
-            × Ungraded (written (resultOf sheet) (λ code. ungraded) (entryAt bytes) records ++ behind) n) units-in-sheet (
-              simp length-append (omega (arith, length-written (resultOf sheet) (λ code. ungraded) (entryAt bytes) records)),
-              ungraded-yet (resultOf sheet) (entryAt bytes) records behind gradable,
-            ))
+        pub ready : (resultSize * units ≤ length raw) × Ungraded raw units
+        ready = ready-for-codes (resultOf sheet) (entryAt bytes) records behind gradable units-in-sheet is-raw
 
-        codes-done : codesGraded raw units ≡ resultsOf (sheetOf bytes records) ++ drop (resultSize * units) buffer
+        graded-is : codesGraded raw units ≡ resultsOf (sheetOf bytes records) ++ drop (resultSize * units) buffer
         unfolding codeGrade sheetOf portionGrade resultOf resultWith
-        codes-done =
-            ap₂ codesGraded is-raw units-in-sheet
-            ∙ codes-are (resultOf sheet) (entryAt bytes) records behind gradable
+        graded-is =
+            codes-done (resultOf sheet) (entryAt bytes) records behind gradable units-in-sheet is-raw
             ∙ ap (λ (n : ℕ). resultsOf (sheetOf bytes records) ++ drop (resultSize * n) buffer) (sym units-counted)
 
         pub done : (graded : List ℕ) → graded ≡ codesGraded raw units
@@ -112,4 +104,4 @@ module _ (bytes buffer : List ℕ) (records units : ℕ) (accepted : verdict byt
         unfolding outcomeBy pick acceptance
         done graded is-graded =
             rw (le-ltb (length buffer) (resultSize * units) room, none-overfull bytes records sheet-facts records)
-            (ap (λ (l : List ℕ). record { answer = record { number = 0; units = units; offset = length bytes }; buffer = l }) (is-graded ∙ codes-done))
+            (ap (λ (l : List ℕ). record { answer = record { number = 0; units = units; offset = length bytes }; buffer = l }) (is-graded ∙ graded-is))

@@ -25,7 +25,7 @@ fn limit_too_large(numbers: PlanNumbers) -> bool
     Cusum::LARGEST_TENTHS < limit
 }
 
-fn any_limit_too_large(plan: Plan) -> bool
+pub fn any_limit_too_large(plan: Plan) -> bool
     ensures { λ r. ⌜ r ≡ anyNumbers limitTooLarge plan ⌝ }
 {
     let numbers = plan.numbers;

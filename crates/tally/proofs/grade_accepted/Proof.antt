@@ -6,7 +6,7 @@ use Rattle.units.specs.declared.Plan.{Plan}
 use Rattle.sheet.specs.Refusals.{anyNumbers}
 use Rattle.outcome.specs.declared.Answer.{Answer}
 use Rattle.tally.specs.Outcome.{limitTooLarge}
-use Rattle.tally.proofs.Cases.{units-few, plan-here, too-short, never-overfull, writable, ready-for-codes, done}
+use Rattle.tally.proofs.Cases.{units-few, plan-here, too-short, never-overfull, writable, ready, done}
 use borrow.Author.Needs.{needs}
 use Rattle.tally.proofs.grade_accepted.Statement.{statement}
 use Rattle.tally.proofs.grade_accepted.Tie as tie
@@ -62,7 +62,7 @@ grade-codes-requires c κs =
     let short = written .before .before .before .before .before .before in
     let known = short .before .before in
     let start = known .before in
-    ready-for-codes _ _ _ _ (start .pre) (short .if1 .left) (λ at. omega (arith, known .shared-slice-known .given at)) _ (written .write-records .ensures)
+    ready _ _ _ _ (start .pre) (short .if1 .left) (λ at. omega (arith, known .shared-slice-known .given at)) _ (written .write-records .ensures)
 
 same-length : tie.Need-same-length
 same-length c = search needs

@@ -1,0 +1,41 @@
+-- A second plan that is none of 18 is, for itself, a sheet without records that passes the check: so what holds of the plan of such a sheet
+-- holds of it.
+use Prim.Native.Nat.{ℕ, _<_}
+use mathlib.Core.Path.{_≡_, refl, sym, _∙_}
+use mathlib.Core.Bool.{Bool, true, false, not}
+use mathlib.Core.List.{List}
+use native.Mathlib.Omega.{arith}
+use lib.Dec.{eqb}
+use lib.ListN.{length}
+use borrow.Author.Tests.{eqb-true, lt-ltb}
+use Rattle.units.specs.Words.{substandard, hasPlan}
+use Rattle.units.proofs.Tests.{or-first, or-second}
+use Rattle.layout.specs.Layout.{planSize, planOf, offset}
+use Rattle.sheet.specs.Refusals.{planRefusal}
+use Rattle.sheet.proofs.Accepted.{Facts}
+use Rattle.sheet.proofs.Ranges.{designated-le}
+use Rattle.regrade.specs.Outcome.{secondPlanWrong}
+
+not-false : (test : Bool) → not test ≡ false → test ≡ true
+not-false true e = refl
+not-false false e = sym e
+
+module _ (plan : List ℕ) (right : secondPlanWrong plan ≡ false) where
+  pub plan-length : length plan ≡ planSize
+  unfolding secondPlanWrong
+  plan-length = eqb-true (length plan) planSize (not-false _ (or-first (not (eqb (length plan) planSize)) _ right))
+
+  pub plan-facts : Facts plan 0
+  unfolding secondPlanWrong offset
+  plan-facts =
+      record {
+        plan = eqb-true (planRefusal plan) 0 (not-false _ (or-second (not (eqb (length plan) planSize)) _ right));
+        end = sym plan-length;
+        within = λ j below. absurd (omega arith);
+        whole = λ j below. absurd (omega arith);
+      }
+
+  -- its designated grade has a plan
+  pub designated-planned : hasPlan (planOf plan .designated) ≡ true
+  unfolding hasPlan
+  designated-planned = lt-ltb (planOf plan .designated) substandard (omega (arith, designated-le plan 0 plan-facts))

@@ -1,0 +1,3 @@
+pub mod Regrading
+pub mod Outcome
+pub mod Regradable
