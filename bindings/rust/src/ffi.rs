@@ -77,4 +77,19 @@ extern "C" {
         results: *mut u8,
         results_length: usize,
     ) -> Answer;
+
+    /// Grades a recorded tally sheet again under a second plan record, into a result buffer.
+    ///
+    /// # Safety
+    ///
+    /// As for [`hatmuyon_grade`]; `plan` must be valid for reads of `plan_length` bytes in the same
+    /// way, and may overlap the sheet, but not the results.
+    pub fn hatmuyon_regrade(
+        sheet: *const u8,
+        sheet_length: usize,
+        plan: *const u8,
+        plan_length: usize,
+        results: *mut u8,
+        results_length: usize,
+    ) -> Answer;
 }
