@@ -24,9 +24,8 @@ use results::RESULT_SIZE;
 use sheet::Verdict;
 use sheet::check;
 use sheet::plan_refusal;
-use single_plan::PASSING_ALL;
 use single_plan::Reached;
-use single_plan::write_under;
+use single_plan::write_through;
 use tally::any_limit_too_large;
 use units::Plan;
 use units::row_of;
@@ -54,15 +53,7 @@ fn write_regraded(bytes: &[u8], records: usize, plan: Plan, results: &mut [u8])
         place: Place::first(),
         cusums: started,
     };
-    write_under(
-        bytes,
-        records,
-        table,
-        plan.designated,
-        PASSING_ALL,
-        opening,
-        results,
-    );
+    write_through(bytes, records, table, plan.designated, opening, results);
 }
 
 // Regrades a sheet that passes refusals 1 to 12.

@@ -1,15 +1,16 @@
 // Writing the result records of units that are graded one after the other under one plan, no code graded yet: a break starts every class
 // at its S, and nothing else does.
 ghost use mathlib.Core.Path.{_≡_};
-ghost use mathlib.Core.Bool.{false};
-ghost use Prim.Native.Nat.{_+_, _*_, _≤_};
+ghost use mathlib.Core.Bool.{true, false, cond};
+ghost use Prim.Native.Nat.{suc, _+_, _*_, _≤_, _<_};
 ghost use lib.ListN.{length};
 ghost use lib.Seq.{sets};
-ghost use Rattle.units.specs.Words.{noOvershoots};
+ghost use Rattle.units.specs.Words.{hasPlan, tenthsOf};
+ghost use Rattle.units.specs.Unit.{bestLower, gradingOf};
 ghost use Rattle.results.specs.Record.{resultSize, resultBytes};
 ghost use Rattle.codes.specs.Codes.{ungraded};
 ghost use Rattle.single_plan.specs.SinglePlan.{resultUnder};
-ghost use Rattle.single_plan.specs.Passing.{gradingBy, Passable, Further};
+ghost use Rattle.single_plan.specs.Passing.{Passable, Further};
 use layout::Mark;
 use layout::Place;
 use layout::mark_at;
@@ -24,7 +25,6 @@ use units::CLASSES;
 use units::Cusums;
 use units::Grading;
 use units::SampleUnit;
-use units::SteppedClasses;
 use units::Table;
 use units::best_lower;
 use units::row_of;
@@ -36,11 +36,6 @@ pub struct Reached {
     pub place: Place,
     pub cusums: Cusums,
 }
-
-// Whether the writing stops at a unit that fails and at a redesignation, or passes them, too.
-pub const STOPPING: bool = true;
-
-pub const PASSING_ALL: bool = false;
 
 // Writes what is recorded of a unit under the designated plan.
 fn write_graded(
@@ -67,53 +62,54 @@ fn write_graded(
     );
 }
 
-// The same by the unit's step in every class. Where no class fails none is over.
-fn write_stepped(
+// The defect grade of a unit under the plan of a grade, by whether it fails.
+pub fn defect_grade(table: Table, grade: u8, fails: bool, unit: SampleUnit) -> u8
+    ensures { λ r. ⌜ r ≡ cond fails (bestLower table grade (tenthsOf unit)) grade ⌝ }
+{
+    if fails {
+        return best_lower(table, grade, unit);
+    }
+    grade
+}
+
+// Grades a unit under the designated plan, whether it meets or fails, and writes what is recorded of it: its grading.
+pub fn write_unit(
     table: Table,
     designated: u8,
     place: Place,
+    before: Cusums,
     unit: SampleUnit,
-    stepped: SteppedClasses,
     results: &mut [u8],
-)
-    requires { ⌜ (resultSize * place .units + resultSize ≤ length (now results)) × (stepped .fails ≡ false → stepped .overshoots ≡ noOvershoots) ⌝ }
-    ensures { λ _. ⌜ now (results .exit) ≡ sets (now (results .entry)) (resultSize * place .units) (resultBytes ungraded (resultUnder designated unit (gradingBy table designated unit stepped))) ⌝ }
+) -> Grading
+    requires { ⌜ (resultSize * place .units + resultSize ≤ length (now results)) × (hasPlan designated ≡ true) ⌝ }
+    ensures grading { λ r. ⌜ r ≡ gradingOf table designated before (tenthsOf unit) ⌝ }
+    ensures buffer { λ r. ⌜ now (results .exit) ≡ sets (now (results .entry)) (resultSize * place .units) (resultBytes ungraded (resultUnder designated unit (gradingOf table designated before (tenthsOf unit)))) ⌝ }
 {
+    let stepped = step_classes(row_of(table, designated), before, unit);
     let new = stepped.cusums;
-    if stepped.fails {
-        let over = stepped.overshoots;
-        let failed = Grading {
-            cusums: new,
-            overshoots: over,
-            fails: true,
-            grade: best_lower(table, designated, unit),
-        };
-        write_graded(place, designated, unit, failed, results);
-    } else {
-        let met = Grading {
-            cusums: new,
-            overshoots: [0; CLASSES],
-            fails: false,
-            grade: designated,
-        };
-        write_graded(place, designated, unit, met, results);
-    }
+    let over = stepped.overshoots;
+    let grading = Grading {
+        cusums: new,
+        overshoots: over,
+        fails: stepped.fails,
+        grade: defect_grade(table, designated, stepped.fails, unit),
+    };
+    write_graded(place, designated, unit, grading, results);
+    grading
 }
 
-// Writes what the records write from where it stands, under the plan of the designated grade, whose row is picked once: to the last record,
-// or up to a unit that fails or a redesignation, if it stops there.
-pub fn write_under(
+// Writes what units that meet the designated plan write, and goes past them and past breaks: up to a unit that fails, a redesignation or the
+// end. Most records of most sheets are such; this loop picks the row of their plan once. Where no class fails none is over.
+pub fn write_meeting(
     bytes: &[u8],
     records: usize,
     table: Table,
     designated: u8,
-    stops: bool,
     start: Reached,
     results: &mut [u8],
 ) -> Reached
     requires { ⌜ Passable (now bytes) records designated start (length (now results)) ⌝ }
-    ensures further { λ r. ⌜ Further (now (bytes .entry)) records table designated stops start (now (results .entry)) r (now (results .exit)) ⌝ }
-    ensures all { λ r. ⌜ (stops ≡ false → r .place .index ≡ records) ⌝ }
+    ensures { λ r. ⌜ Further (now (bytes .entry)) records table designated true start (now (results .entry)) r (now (results .exit)) ⌝ }
 {
     let mut place = start.place;
     let mut cusums = start.cusums;
@@ -124,24 +120,27 @@ pub fn write_under(
             Mark::UnitMark => {
                 let unit = sample_unit_at(bytes, place.at);
                 let stepped = step_classes(row, cusums, unit);
-                if stepped.fails & stops {
+                if stepped.fails {
                     return Reached {
                         place: place,
                         cusums: cusums,
                     };
                 }
-                write_stepped(table, designated, place, unit, stepped, results);
                 cusums = stepped.cusums;
+                let met = Grading {
+                    cusums: cusums,
+                    overshoots: [0; CLASSES],
+                    fails: false,
+                    grade: designated,
+                };
+                write_graded(place, designated, unit, met, results);
                 place = place.past(mark);
             }
             Mark::RedesignationMark => {
-                if stops {
-                    return Reached {
-                        place: place,
-                        cusums: cusums,
-                    };
-                }
-                place = place.past(mark);
+                return Reached {
+                    place: place,
+                    cusums: cusums,
+                };
             }
             _ => {
                 cusums = starts(row);
@@ -153,4 +152,67 @@ pub fn write_under(
         place: place,
         cusums: cusums,
     }
+}
+
+// Writes what the record writes at which the writing stands, and goes past it, whatever it is: a redesignation is passed over.
+fn write_here(
+    bytes: &[u8],
+    records: usize,
+    table: Table,
+    designated: u8,
+    here: Reached,
+    results: &mut [u8],
+) -> Reached
+    requires { ⌜ Passable (now bytes) records designated here (length (now results)) × (here .place .index < records) ⌝ }
+    ensures further { λ r. ⌜ Further (now (bytes .entry)) records table designated false here (now (results .entry)) r (now (results .exit)) ⌝ }
+    ensures one { λ r. ⌜ r .place .index ≡ suc (here .place .index) ⌝ }
+{
+    let place = here.place;
+    let before = here.cusums;
+    let mark = mark_at(bytes, place.at);
+    match mark {
+        Mark::UnitMark => {
+            let unit = sample_unit_at(bytes, place.at);
+            let grading = write_unit(table, designated, place, before, unit, results);
+            let new = grading.cusums;
+            Reached {
+                place: place.past(mark),
+                cusums: new,
+            }
+        }
+        Mark::RedesignationMark => Reached {
+            place: place.past(mark),
+            cusums: before,
+        },
+        _ => Reached {
+            place: place.past(mark),
+            cusums: starts(row_of(table, designated)),
+        },
+    }
+}
+
+// Writes what all records write from where it stands to the last, under the plan of the designated grade.
+pub fn write_through(
+    bytes: &[u8],
+    records: usize,
+    table: Table,
+    designated: u8,
+    start: Reached,
+    results: &mut [u8],
+) -> Reached
+    requires { ⌜ Passable (now bytes) records designated start (length (now results)) ⌝ }
+    ensures further { λ r. ⌜ Further (now (bytes .entry)) records table designated false start (now (results .entry)) r (now (results .exit)) ⌝ }
+    ensures all { λ r. ⌜ r .place .index ≡ records ⌝ }
+{
+    let mut here = start;
+    let mut done = here.place.index;
+    while done < records {
+        here = write_meeting(bytes, records, table, designated, here, results);
+        done = here.place.index;
+        if done < records {
+            here = write_here(bytes, records, table, designated, here, results);
+            done += 1;
+        }
+    }
+    here
 }

@@ -26,16 +26,14 @@ use Rattle.layout.specs.Layout.{planOf, entryAt, unitsBefore}
 use Rattle.layout.specs.Walk.{placeAt, Walk}
 use Rattle.layout.specs.declared.Place.{Place}
 use Rattle.results.specs.Record.{resultSize, resultBytes}
-use Rattle.results.specs.declared.ResultRecord.{ResultRecord}
 use Rattle.codes.specs.Codes.{ungraded}
-use Rattle.recording.specs.Sheet.{sheetOf, resultWith}
+use Rattle.recording.specs.Sheet.{sheetOf}
 use Rattle.single_plan.specs.SinglePlan.{resultUnder}
 use Rattle.single_plan.specs.Passing.{Passed, none, unit, restart, over, Passable}
-use Rattle.single_plan.proofs.Passing.{result-outside}
 use Rattle.writing.specs.declared.Position.{Position}
 use Rattle.writing.specs.Writing.{UnitHere, RecordHere, positionAt, OneMore, Underway, Further}
 use Rattle.writing.proofs.Passing.{nothing-more, further-none, further-one, underway-on, record-here}
-use Rattle.writing.proofs.Writing.{designated-done}
+use Rattle.writing.proofs.Writing.{unit-under-designated}
 
 -- outside step 3, with no failure just before
 abbrev pub outside : ℕ → List Cusum → State
@@ -83,21 +81,16 @@ module _ {bytes : List ℕ} {n : ℕ} {table : Table} {from : ℕ} {results₀ :
         let grading = gradingOf table designated cusums (tenthsOf here) in
         Gone bytes n from results₀ designated (suc i) (grading .cusums)
         (sets results (resultSize * unitsBefore bytes i) (resultBytes ungraded (resultUnder designated here grading)))
-    unfolding graded inForceIn
     past-unit here reads meets =
-        let grading = gradingOf table designated cusums (tenthsOf here) in
         let state = before (sheetOf bytes n) i in
         let unit-here : UnitHere bytes n table (placeAt bytes i) state here (length results) =
         record { stands = at-record .stands; is-unit = reads; room = at-record .room } in
-        let same : graded table state here ≡ grading = ap (λ (s : State). graded table s here) (gone .same-state) in
-        let recorded : resultUnder designated here grading ≡ resultWith state here (graded table state here) false
-        = sym (result-outside (outside designated cusums) here grading refl)
-        ∙ sym (ap₂ (λ (s : State) (g : _). resultWith s here g false) (gone .same-state) same) in
+        let recorded : State → List ℕ =
+        λ (s : State). sets results (resultSize * unitsBefore bytes i)
+        (resultBytes ungraded (resultUnder (s .designated) here (gradingOf table (s .designated) (s .cusums) (tenthsOf here)))) in
         on reads (behind-unit table designated cusums here meets)
-        (designated-done unit-here (graded table state here) refl results _ refl
-        (ap (λ (r : ResultRecord). sets results (resultSize * unitsBefore bytes i) (resultBytes ungraded r)) recorded)
-        (ap (λ (s : State). s .phase) (gone .same-state)))
-        (length-sets results (resultSize * unitsBefore bytes i) (resultBytes ungraded (resultUnder designated here grading)))
+        (unit-under-designated results unit-here (ap (λ (s : State). s .phase) (gone .same-state)) refl (sym (ap recorded (gone .same-state))) refl .1)
+        (length-sets results (resultSize * unitsBefore bytes i) (resultBytes ungraded (resultUnder designated here (gradingOf table designated cusums (tenthsOf here)))))
 
     past-break : entryAt bytes i ≡ Break → Gone bytes n from results₀ designated (suc i) (restarted table designated Designated .cusums) results
     unfolding restarted unitsOf

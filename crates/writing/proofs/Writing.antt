@@ -7,15 +7,13 @@ use mathlib.Core.List.{List}
 use native.Mathlib.Omega.{arith}
 use lib.ListN.{length}
 use lib.Seq.{sets}
-use Rattle.cusum.specs.declared.PlanNumbers.{PlanNumbers}
-use Rattle.units.specs.Words.{hasPlan, Table, rowOf, tenthsOf}
-use Rattle.units.specs.Unit.{bestLower, defectGrade, qualifies, steppedUnder, steppedIn}
+use Rattle.units.specs.Words.{hasPlan, Table, tenthsOf}
+use Rattle.units.specs.Unit.{bestLower, defectGrade, qualifies, gradingOf, steppedUnder}
 use Rattle.units.specs.Records.{isUnitThat, unitsAmong}
 use Rattle.units.specs.declared.SampleUnit.{SampleUnit}
 use Rattle.units.specs.declared.SteppedClasses.{SteppedClasses}
 use Rattle.units.specs.declared.Grading.{Grading}
 use Rattle.units.specs.declared.Entry.the-variants.{UnitRecord}
-use Rattle.units.proofs.Planned.{stepped-under}
 use Rattle.rules.specs.StepThree.{inStepThree, inForceIn, inForce, endsStepThree, graded, qualifiesWith, qualifiesIn, afterUnit, next, recordEndsStepThree}
 use Rattle.rules.specs.Sheet.{Sheet, before, designatedAt, stepThreeEndsAt}
 use Rattle.rules.specs.declared.Phase.{Phase}
@@ -33,6 +31,8 @@ use Rattle.codes.specs.Codes.{ungraded}
 use Rattle.recording.specs.Sheet.{sheetOf, resultWith, resultIf}
 use Rattle.recording.specs.Recovering.{writtenAt, writtenSoFar, recoveredIn, ThreeHere, threeRecovered}
 use Rattle.writing.specs.Writing.{UnitHere, OneMore}
+use Rattle.single_plan.specs.SinglePlan.{resultUnder}
+use Rattle.single_plan.proofs.Passing.{result-outside}
 use Rattle.recording.proofs.Recovering.{unit-written, nothing-recovered, run-recovered}
 
 -- ---- the grading of a unit, as the code makes it
@@ -43,17 +43,13 @@ gradingBy stepped failed grade =
     record { cusums = stepped .cusums; overshoots = stepped .overshoots; fails = failed; grade = grade }
 
 -- under the designated plan
-pub graded-designated : (table : Table) (state : State) (unit : SampleUnit) (stepped : SteppedClasses) (grade : ℕ)
-    → state .phase ≡ Designated → hasPlan (state .designated) ≡ true
-    → stepped ≡ steppedIn (rowOf table (state .designated)) (state .cusums) (tenthsOf unit)
-    → grade ≡ cond (stepped .fails) (bestLower table (state .designated) (tenthsOf unit)) (state .designated)
-    → gradingBy stepped (stepped .fails) grade ≡ graded table state unit
-unfolding graded defectGrade inForceIn
-graded-designated table state unit stepped grade outside planned steps grades =
-    rw (outside, grades, steps, stepped-under table (state .designated) (state .cusums) (tenthsOf unit) planned)
+graded-designated : (table : Table) (state : State) (unit : SampleUnit) → state .phase ≡ Designated
+    → gradingOf table (state .designated) (state .cusums) (tenthsOf unit) ≡ graded table state unit
+unfolding graded inForceIn
+graded-designated table state unit outside = rw outside
 
 -- in step 3
-pub graded-lower : (table : Table) (state : State) (unit : SampleUnit) (stepped : SteppedClasses) (lower grade : ℕ) → lower ≡ inForce state
+graded-lower : (table : Table) (state : State) (unit : SampleUnit) (stepped : SteppedClasses) (lower grade : ℕ) → lower ≡ inForce state
     → stepped ≡ steppedUnder table lower (state .cusums) (tenthsOf unit)
     → grade ≡ cond (stepped .fails) (bestLower table lower (tenthsOf unit)) lower
     → gradingBy stepped (stepped .fails) grade ≡ graded table state unit
@@ -106,7 +102,10 @@ module _ {bytes : List ℕ} {n : ℕ} {table : Table} {place : Place} {state : S
   unfolding sheetOf
   room-in-sheet = omega (arith, here .room, units-among bytes (suc i))
 
-  -- there is room for its record
+  -- its designated grade has a plan, and there is room for its record
+  pub planned-here : hasPlan (state .designated) ≡ true
+  planned-here = here .stands .planned
+
   pub room-for-record : resultSize * place .units + resultSize ≤ size
   room-for-record = omega (arith, here .room, next-units bytes i has-mark, units-are bytes n place (here .stands .walk))
 
@@ -139,7 +138,7 @@ module _ {bytes : List ℕ} {n : ℕ} {table : Table} {place : Place} {state : S
     unit-added stays old so-far same-length = record-added old so-far same-length ∙ nothing-recovered sheet old i stays
 
     -- under the designated plan
-    pub designated-done : state .phase ≡ Designated → OneMore sheet i results behind
+    designated-done : state .phase ≡ Designated → OneMore sheet i results behind
     unfolding endsStepThree
     designated-done outside = unit-added (ends-is ∙ ap (λ (phase : Phase). endsStepThree phase (qualifiesIn table state unit)) outside)
 
@@ -242,25 +241,19 @@ module _ {bytes : List ℕ} {n : ℕ} {table : Table} {place : Place} {state : S
 -- under the designated plan, whether it fails or meets
 pub unit-under-designated : {bytes : List ℕ} {n : ℕ} {table : Table} {place : Place} {state : State} {unit : SampleUnit} (results : List ℕ)
     → UnitHere bytes n table place state unit (length results) → state .phase ≡ Designated
-    → {row : List PlanNumbers} → row ≡ rowOf table (state .designated)
-    → {stepped : SteppedClasses} → stepped ≡ steppedIn row (state .cusums) (tenthsOf unit)
-    → {failed : Bool} → stepped .fails ≡ failed
-    → {grade : ℕ} → grade ≡ cond failed (bestLower table (state .designated) (tenthsOf unit)) (state .designated)
-    → {result : ResultRecord} → result ≡ resultWith state unit (gradingBy stepped failed grade) false
-    → {behind : List ℕ} → behind ≡ sets results (resultSize * place .units) (resultBytes ungraded result)
-    → {after : State} → after ≡ afterUnit table state (gradingBy stepped failed grade) false
+    → {grading : Grading} → grading ≡ gradingOf table (state .designated) (state .cusums) (tenthsOf unit)
+    → {behind : List ℕ} → behind
+    ≡ sets results (resultSize * place .units)
+    (resultBytes ungraded (resultUnder (state .designated) unit (gradingOf table (state .designated) (state .cusums) (tenthsOf unit))))
+    → {after : State} → after ≡ afterUnit table state grading false
     → (after ≡ next table state (UnitRecord unit)) × OneMore (sheetOf bytes n) (place .index) results behind
-unit-under-designated {bytes} {n} {table} {place} {state} {unit} results here outside {row} is-row {stepped} steps {failed} is-failed {grade} is-grade
-    {result} is-result {behind} stored {after} is-after =
-    let grading : Grading = gradingBy stepped failed grade in
-    let grades : grading ≡ graded table state unit =
-    ap (λ (f : Bool). gradingBy stepped f grade) (sym is-failed)
-    ∙ graded-designated table state unit stepped grade outside (here .stands .planned)
-    (steps ∙ ap (λ (r : List PlanNumbers). steppedIn r (state .cusums) (tenthsOf unit)) is-row)
-    (is-grade ∙ ap (λ (f : Bool). cond f (bestLower table (state .designated) (tenthsOf unit)) (state .designated)) (sym is-failed)) in
-    let same-result = ap (λ (r : ResultRecord). sets results (resultSize * place .units) (resultBytes ungraded r)) is-result in (
+unit-under-designated {bytes} {n} {table} {place} {state} {unit} results here outside {grading} is-grading {behind} stored {after} is-after =
+    let grades : grading ≡ graded table state unit = is-grading ∙ graded-designated table state unit outside in
+    let recorded : resultUnder (state .designated) unit (gradingOf table (state .designated) (state .cusums) (tenthsOf unit)) ≡ resultWith state unit grading false
+    = sym (ap (λ (g : Grading). resultWith state unit g false) is-grading ∙ result-outside state unit _ outside) in (
       next-by table state unit grading false after grades (outside-none table state unit outside) is-after,
-      designated-done here grading grades results behind refl (stored ∙ same-result) outside,
+      designated-done here grading grades results behind refl
+          (stored ∙ ap (λ (r : ResultRecord). sets results (resultSize * place .units) (resultBytes ungraded r)) recorded) outside,
     )
 
 -- in step 3: its grading and whether it qualifies are those of the state

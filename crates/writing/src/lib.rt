@@ -1,6 +1,6 @@
 // Writing the result records of a sheet, no code graded yet.
 ghost use mathlib.Core.Path.{_≡_};
-ghost use mathlib.Core.Bool.{true, cond};
+ghost use mathlib.Core.Bool.{true};
 ghost use Prim.Native.Nat.{suc, _*_};
 ghost use mathlib.Core.List.{_++_};
 ghost use lib.ListN.{length, drop};
@@ -8,8 +8,6 @@ ghost use Rattle.rules.specs.StepThree.{next, inStepThree};
 ghost use Rattle.units.specs.declared.Entry.the-variants.{UnitRecord};
 ghost use Rattle.rules.specs.declared.Phase.the-variants.{Designated};
 ghost use Rattle.rules.specs.declared.Previous.the-variants.{NoFailure};
-ghost use Rattle.units.specs.Words.{tenthsOf};
-ghost use Rattle.units.specs.Unit.{bestLower};
 ghost use Rattle.layout.specs.Layout.{entryAt, unitsBefore};
 ghost use Rattle.results.specs.Record.{resultSize};
 ghost use Rattle.results.specs.Written.{written};
@@ -29,32 +27,18 @@ use rules::Phase;
 use rules::Previous;
 use rules::State;
 use single_plan::Reached;
-use single_plan::STOPPING;
-use single_plan::write_under;
+use single_plan::defect_grade;
 use units::Entry;
 use units::Grading;
 use units::SampleUnit;
 use units::Table;
-use units::best_lower;
 use units::qualifies_with;
-use units::row_of;
-use units::step_classes;
 use units::step_in_force;
 
 // Where the writing stands: before a record, with the state of the grading there.
 struct Position {
     place: Place,
     state: State,
-}
-
-// The defect grade of a unit under the plan of a grade, by whether it fails.
-fn defect_grade(table: Table, grade: u8, fails: bool, unit: SampleUnit) -> u8
-    ensures { λ r. ⌜ r ≡ cond fails (bestLower table grade (tenthsOf unit)) grade ⌝ }
-{
-    if fails {
-        return best_lower(table, grade, unit);
-    }
-    grade
 }
 
 // Writes what is recorded of a unit under the designated plan: the state after it.
@@ -72,17 +56,7 @@ fn write_designated(
     ensures buffer { λ r. ⌜ OneMore (sheetOf (now (bytes .entry)) records) (place .index) (now (results .entry)) (now (results .exit)) ⌝ }
 {
     let before = state.cusums;
-    let stepped = step_classes(row_of(table, state.designated), before, unit);
-    let new = stepped.cusums;
-    let over = stepped.overshoots;
-    let start = RESULT_SIZE * place.units;
-    let grading = Grading {
-        cusums: new,
-        overshoots: over,
-        fails: stepped.fails,
-        grade: defect_grade(table, state.designated, stepped.fails, unit),
-    };
-    write_at(results, start, result_of(state, unit, grading));
+    let grading = single_plan::write_unit(table, state.designated, place, before, unit, results);
     state.after_unit(table, grading, false)
 }
 
@@ -180,7 +154,7 @@ fn write_here(
 
 // Goes past units that meet the designated plan, with what they write, and past breaks: up to a unit that fails, a redesignation or the
 // end. Most records of most sheets are such.
-fn write_meeting(
+fn write_while_met(
     bytes: &[u8],
     records: usize,
     table: Table,
@@ -197,12 +171,11 @@ fn write_meeting(
         place: from,
         cusums: before,
     };
-    let reached = write_under(
+    let reached = single_plan::write_meeting(
         bytes,
         records,
         table,
         state.designated,
-        STOPPING,
         standing,
         results,
     );
@@ -237,7 +210,7 @@ fn past_meeting(
     let previous = state.previous;
     match phase {
         Phase::Designated => match previous {
-            Previous::NoFailure => write_meeting(bytes, records, table, position, results),
+            Previous::NoFailure => write_while_met(bytes, records, table, position, results),
             Previous::Failure(_) => position,
         },
         Phase::StepThree { lower: _, run: _ } => position,

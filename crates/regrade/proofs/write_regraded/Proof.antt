@@ -1,5 +1,4 @@
 -- All records passed from the opening on write what is recorded of their units.
-use mathlib.Core.Path.{refl}
 use Rattle.regrade.proofs.Rewritten.{passable, all-passed}
 use borrow.Author.Needs.{needs}
 use Rattle.regrade.proofs.write_regraded.Statement.{statement}
@@ -17,8 +16,8 @@ starts-requires c κs = search needs
 first-requires : tie.Need-first-requires
 first-requires c κs = search needs
 
-write-under-requires : tie.Need-write-under-requires
-write-under-requires c κs =
+write-through-requires : tie.Need-write-through-requires
+write-through-requires c κs =
     let start = c .before .before .before .before .before .before .before in
     passable _ _ _ (start .args .results .now) (start .pre) (c .before .first .ensures)
 
@@ -34,7 +33,7 @@ returns c =
     let table = row .before in
     let start = table .before .before .before in
     all-passed _ _ _ (start .args .results .now) (start .pre) (table .table .ensures) (row .row-of .ensures) (first .first .ensures) (started .starts .ensures)
-    (written .write-under .ensures .0) (written .write-under .ensures .1 refl)
+    (written .write-through .ensures .0) (written .write-through .ensures .1)
 
 pub write-regraded-spec : {M : Type 1} → statement M
 write-regraded-spec =
@@ -44,6 +43,6 @@ write-regraded-spec =
     row-of-requires
     starts-requires
     first-requires
-    write-under-requires
+    write-through-requires
     same-length
     returns)

@@ -1,7 +1,7 @@
 -- A unit that fails gets the best lower grade, one that meets the grade of its plan.
 use borrow.Author.Needs.{needs}
-use Rattle.writing.proofs.defect_grade.Statement.{statement}
-use Rattle.writing.proofs.defect_grade.Tie as tie
+use Rattle.single_plan.proofs.defect_grade.Statement.{statement}
+use Rattle.single_plan.proofs.defect_grade.Tie as tie
 
 best-lower-requires : tie.Need-best-lower-requires
 best-lower-requires c κs = search needs
