@@ -56,14 +56,11 @@ unfolding defectGrade
 grading-is table grade cusums here planned steps = rw (steps, stepped-under table grade cusums (tenthsOf here) planned)
 
 -- as the code makes it, by the row of the grade
-pub stepped-grading : (table : Table) (grade : ℕ) (cusums : List Cusum) (here : SampleUnit) {row : List PlanNumbers} {stepped : SteppedClasses} {defects : ℕ}
-    → hasPlan grade ≡ true → row ≡ rowOf table grade → stepped ≡ steppedIn row cusums (tenthsOf here)
-    → defects ≡ cond (stepped .fails) (bestLower table grade (tenthsOf here)) grade
-    → record { cusums = stepped .cusums; overshoots = stepped .overshoots; fails = stepped .fails; grade = defects }
-    ≡ gradingOf table grade cusums (tenthsOf here)
-stepped-grading table grade cusums here {row} {stepped} planned is-row by-row is-grade =
-    ap (λ (g : ℕ). record { cusums = stepped .cusums; overshoots = stepped .overshoots; fails = stepped .fails; grade = g }) is-grade
-    ∙ grading-is table grade cusums here planned (by-row ∙ ap (λ (r : List PlanNumbers). steppedIn r cusums (tenthsOf here)) is-row)
+pub stepped-grading : (table : Table) (grade : ℕ) (cusums : List Cusum) (here : SampleUnit) {row : List PlanNumbers} {stepped : SteppedClasses} {grading : Grading}
+    → hasPlan grade ≡ true → row ≡ rowOf table grade → stepped ≡ steppedIn row cusums (tenthsOf here) → grading ≡ gradingBy table grade here stepped
+    → grading ≡ gradingOf table grade cusums (tenthsOf here)
+stepped-grading table grade cusums here planned is-row by-row is-grading =
+    is-grading ∙ grading-is table grade cusums here planned (by-row ∙ ap (λ (r : List PlanNumbers). steppedIn r cusums (tenthsOf here)) is-row)
 
 -- of one that meets: where no class fails none is over
 pub met-is : (table : Table) (grade : ℕ) (cusums : List Cusum) (here : SampleUnit) {row : List PlanNumbers} {stepped : SteppedClasses} → hasPlan grade ≡ true
@@ -110,6 +107,9 @@ module _ {bytes : List ℕ} {n : ℕ} {place : Place} (walk : Walk bytes n place
     pub fits-past : length bytes ≤ largestOffset → RoomPast place m
     fits-past fits = subst⁻¹ (RoomPast place) is-mark (room-past bytes n place walk below fits)
 
+    pub walk-past : {past : Place} → past ≡ placeAfter place m → Walk bytes n past
+    walk-past {past} is-past = walk-on bytes n place walk below past (is-past ∙ ap (placeAfter place) is-mark)
+
     module _ (is-unit : m ≡ UnitMark) where
       pub unit-within : place .at + unitSize ≤ length bytes
       unfolding sizeOf
@@ -142,7 +142,7 @@ module _ {bytes : List ℕ} {n : ℕ} {table : Table} {designated : ℕ} {stops 
       → length behind ≡ length results → Further bytes n table designated stops start results₀ (record { place = past; cusums = later }) behind
   goes-on {later} {behind} passed same =
       record {
-        walk = walk-on bytes n place (so-far .walk) below past (is-past ∙ ap (placeAfter place) is-mark);
+        walk = walk-past (so-far .walk) below is-mark is-past;
         passed =
             subst (λ (i : ℕ). Passed bytes table designated stops (start .place .index) (start .cusums) results₀ i later behind)
             (sym (ap (λ (p : Place). p .index) is-past ∙ add-one (place .index))) passed;

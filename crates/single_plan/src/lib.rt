@@ -5,12 +5,12 @@ ghost use mathlib.Core.Bool.{true, false, cond};
 ghost use Prim.Native.Nat.{suc, _+_, _*_, _≤_, _<_};
 ghost use lib.ListN.{length};
 ghost use lib.Seq.{sets};
-ghost use Rattle.units.specs.Words.{hasPlan, tenthsOf};
+ghost use Rattle.units.specs.Words.{hasPlan, Table, rowOf, tenthsOf};
 ghost use Rattle.units.specs.Unit.{bestLower, gradingOf};
 ghost use Rattle.results.specs.Record.{resultSize, resultBytes};
 ghost use Rattle.codes.specs.Codes.{ungraded};
 ghost use Rattle.single_plan.specs.SinglePlan.{resultUnder};
-ghost use Rattle.single_plan.specs.Passing.{Passable, Further};
+ghost use Rattle.single_plan.specs.Passing.{gradingBy, Passable, Further};
 use layout::Mark;
 use layout::Place;
 use layout::mark_at;
@@ -24,7 +24,9 @@ use rules::State;
 use units::CLASSES;
 use units::Cusums;
 use units::Grading;
+use units::Row;
 use units::SampleUnit;
+use units::SteppedClasses;
 use units::Table;
 use units::best_lower;
 use units::row_of;
@@ -63,7 +65,7 @@ fn write_graded(
 }
 
 // The defect grade of a unit under the plan of a grade, by whether it fails.
-pub fn defect_grade(table: Table, grade: u8, fails: bool, unit: SampleUnit) -> u8
+fn defect_grade(table: Table, grade: u8, fails: bool, unit: SampleUnit) -> u8
     ensures { λ r. ⌜ r ≡ cond fails (bestLower table grade (tenthsOf unit)) grade ⌝ }
 {
     if fails {
@@ -72,8 +74,22 @@ pub fn defect_grade(table: Table, grade: u8, fails: bool, unit: SampleUnit) -> u
     grade
 }
 
+// The grading of a unit under the plan of a grade, by its step in every class.
+pub fn graded_by(table: Table, grade: u8, unit: SampleUnit, stepped: SteppedClasses) -> Grading
+    ensures { λ r. ⌜ r ≡ gradingBy table grade unit stepped ⌝ }
+{
+    let new = stepped.cusums;
+    let over = stepped.overshoots;
+    Grading {
+        cusums: new,
+        overshoots: over,
+        fails: stepped.fails,
+        grade: defect_grade(table, grade, stepped.fails, unit),
+    }
+}
+
 // Grades a unit under the designated plan, whether it meets or fails, and writes what is recorded of it: its grading.
-pub fn write_unit(
+fn write_unit(
     table: Table,
     designated: u8,
     place: Place,
@@ -86,34 +102,27 @@ pub fn write_unit(
     ensures buffer { λ r. ⌜ now (results .exit) ≡ sets (now (results .entry)) (resultSize * place .units) (resultBytes ungraded (resultUnder designated unit (gradingOf table designated before (tenthsOf unit)))) ⌝ }
 {
     let stepped = step_classes(row_of(table, designated), before, unit);
-    let new = stepped.cusums;
-    let over = stepped.overshoots;
-    let grading = Grading {
-        cusums: new,
-        overshoots: over,
-        fails: stepped.fails,
-        grade: defect_grade(table, designated, stepped.fails, unit),
-    };
+    let grading = graded_by(table, designated, unit, stepped);
     write_graded(place, designated, unit, grading, results);
     grading
 }
 
 // Writes what units that meet the designated plan write, and goes past them and past breaks: up to a unit that fails, a redesignation or the
-// end. Most records of most sheets are such; this loop picks the row of their plan once. Where no class fails none is over.
+// end. Most records of most sheets are such; this loop has the row of their plan alone, and not the table, which it would keep in memory. Where
+// no class fails none is over.
 pub fn write_meeting(
     bytes: &[u8],
     records: usize,
-    table: Table,
+    row: Row,
     designated: u8,
     start: Reached,
     results: &mut [u8],
 ) -> Reached
     requires { ⌜ Passable (now bytes) records designated start (length (now results)) ⌝ }
-    ensures { λ r. ⌜ Further (now (bytes .entry)) records table designated true start (now (results .entry)) r (now (results .exit)) ⌝ }
+    ensures { λ r. ⌜ ((table : Table) → row ≡ rowOf table designated → Further (now (bytes .entry)) records table designated true start (now (results .entry)) r (now (results .exit))) ⌝ }
 {
     let mut place = start.place;
     let mut cusums = start.cusums;
-    let row = row_of(table, designated);
     while place.index < records {
         let mark = mark_at(bytes, place.at);
         match mark {
@@ -204,10 +213,11 @@ pub fn write_through(
     ensures further { λ r. ⌜ Further (now (bytes .entry)) records table designated false start (now (results .entry)) r (now (results .exit)) ⌝ }
     ensures all { λ r. ⌜ r .place .index ≡ records ⌝ }
 {
+    let row = row_of(table, designated);
     let mut here = start;
     let mut done = here.place.index;
     while done < records {
-        here = write_meeting(bytes, records, table, designated, here, results);
+        here = write_meeting(bytes, records, row, designated, here, results);
         done = here.place.index;
         if done < records {
             here = write_here(bytes, records, table, designated, here, results);

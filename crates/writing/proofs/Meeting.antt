@@ -29,6 +29,7 @@ use Rattle.results.specs.Record.{resultSize, resultBytes}
 use Rattle.codes.specs.Codes.{ungraded}
 use Rattle.recording.specs.Sheet.{sheetOf}
 use Rattle.single_plan.specs.SinglePlan.{resultUnder}
+use Rattle.single_plan.proofs.Passing.{result-outside}
 use Rattle.single_plan.specs.Passing.{Passed, none, unit, restart, over, Passable}
 use Rattle.writing.specs.declared.Position.{Position}
 use Rattle.writing.specs.Writing.{UnitHere, RecordHere, positionAt, OneMore, Underway, Further}
@@ -85,11 +86,13 @@ module _ {bytes : List ℕ} {n : ℕ} {table : Table} {from : ℕ} {results₀ :
         let state = before (sheetOf bytes n) i in
         let unit-here : UnitHere bytes n table (placeAt bytes i) state here (length results) =
         record { stands = at-record .stands; is-unit = reads; room = at-record .room } in
+        let grading = gradingOf table (state .designated) (state .cusums) (tenthsOf here) in
+        let phase = ap (λ (s : State). s .phase) (gone .same-state) in
         let recorded : State → List ℕ =
         λ (s : State). sets results (resultSize * unitsBefore bytes i)
         (resultBytes ungraded (resultUnder (s .designated) here (gradingOf table (s .designated) (s .cusums) (tenthsOf here)))) in
         on reads (behind-unit table designated cusums here meets)
-        (unit-under-designated results unit-here (ap (λ (s : State). s .phase) (gone .same-state)) refl (sym (ap recorded (gone .same-state))) refl .1)
+        (unit-under-designated results unit-here phase refl (sym (result-outside state here grading phase)) (sym (ap recorded (gone .same-state))) refl .1)
         (length-sets results (resultSize * unitsBefore bytes i) (resultBytes ungraded (resultUnder designated here (gradingOf table designated cusums (tenthsOf here)))))
 
     past-break : entryAt bytes i ≡ Break → Gone bytes n from results₀ designated (suc i) (restarted table designated Designated .cusums) results

@@ -8,7 +8,7 @@ use native.Mathlib.Omega.{arith}
 use lib.ListN.{length}
 use lib.Seq.{sets}
 use Rattle.units.specs.Words.{hasPlan, Table, tenthsOf}
-use Rattle.units.specs.Unit.{bestLower, defectGrade, qualifies, gradingOf, steppedUnder}
+use Rattle.units.specs.Unit.{defectGrade, qualifies, gradingOf, steppedUnder}
 use Rattle.units.specs.Records.{isUnitThat, unitsAmong}
 use Rattle.units.specs.declared.SampleUnit.{SampleUnit}
 use Rattle.units.specs.declared.SteppedClasses.{SteppedClasses}
@@ -31,16 +31,10 @@ use Rattle.codes.specs.Codes.{ungraded}
 use Rattle.recording.specs.Sheet.{sheetOf, resultWith, resultIf}
 use Rattle.recording.specs.Recovering.{writtenAt, writtenSoFar, recoveredIn, ThreeHere, threeRecovered}
 use Rattle.writing.specs.Writing.{UnitHere, OneMore}
-use Rattle.single_plan.specs.SinglePlan.{resultUnder}
-use Rattle.single_plan.proofs.Passing.{result-outside}
+use Rattle.single_plan.specs.Passing.{gradingBy}
 use Rattle.recording.proofs.Recovering.{unit-written, nothing-recovered, run-recovered}
 
 -- ---- the grading of a unit, as the code makes it
-
--- by the step in every class
-abbrev pub gradingBy : SteppedClasses → Bool → ℕ → Grading
-gradingBy stepped failed grade =
-    record { cusums = stepped .cusums; overshoots = stepped .overshoots; fails = failed; grade = grade }
 
 -- under the designated plan
 graded-designated : (table : Table) (state : State) (unit : SampleUnit) → state .phase ≡ Designated
@@ -49,12 +43,10 @@ unfolding graded inForceIn
 graded-designated table state unit outside = rw outside
 
 -- in step 3
-graded-lower : (table : Table) (state : State) (unit : SampleUnit) (stepped : SteppedClasses) (lower grade : ℕ) → lower ≡ inForce state
-    → stepped ≡ steppedUnder table lower (state .cusums) (tenthsOf unit)
-    → grade ≡ cond (stepped .fails) (bestLower table lower (tenthsOf unit)) lower
-    → gradingBy stepped (stepped .fails) grade ≡ graded table state unit
+graded-lower : (table : Table) (state : State) (unit : SampleUnit) (stepped : SteppedClasses) (lower : ℕ) → lower ≡ inForce state
+    → stepped ≡ steppedUnder table lower (state .cusums) (tenthsOf unit) → gradingBy table lower unit stepped ≡ graded table state unit
 unfolding graded defectGrade
-graded-lower table state unit stepped lower grade in-force steps grades = rw (grades, steps, in-force)
+graded-lower table state unit stepped lower in-force steps = rw (steps, in-force)
 
 -- ---- the state behind it
 
@@ -242,18 +234,15 @@ module _ {bytes : List ℕ} {n : ℕ} {table : Table} {place : Place} {state : S
 pub unit-under-designated : {bytes : List ℕ} {n : ℕ} {table : Table} {place : Place} {state : State} {unit : SampleUnit} (results : List ℕ)
     → UnitHere bytes n table place state unit (length results) → state .phase ≡ Designated
     → {grading : Grading} → grading ≡ gradingOf table (state .designated) (state .cusums) (tenthsOf unit)
-    → {behind : List ℕ} → behind
-    ≡ sets results (resultSize * place .units)
-    (resultBytes ungraded (resultUnder (state .designated) unit (gradingOf table (state .designated) (state .cusums) (tenthsOf unit))))
+    → {result : ResultRecord} → result ≡ resultWith state unit grading false
+    → {behind : List ℕ} → behind ≡ sets results (resultSize * place .units) (resultBytes ungraded result)
     → {after : State} → after ≡ afterUnit table state grading false
     → (after ≡ next table state (UnitRecord unit)) × OneMore (sheetOf bytes n) (place .index) results behind
-unit-under-designated {bytes} {n} {table} {place} {state} {unit} results here outside {grading} is-grading {behind} stored {after} is-after =
+unit-under-designated {bytes} {n} {table} {place} {state} {unit} results here outside {grading} is-grading {result} is-result {behind} stored {after} is-after =
     let grades : grading ≡ graded table state unit = is-grading ∙ graded-designated table state unit outside in
-    let recorded : resultUnder (state .designated) unit (gradingOf table (state .designated) (state .cusums) (tenthsOf unit)) ≡ resultWith state unit grading false
-    = sym (ap (λ (g : Grading). resultWith state unit g false) is-grading ∙ result-outside state unit _ outside) in (
+    let same-result = ap (λ (r : ResultRecord). sets results (resultSize * place .units) (resultBytes ungraded r)) is-result in (
       next-by table state unit grading false after grades (outside-none table state unit outside) is-after,
-      designated-done here grading grades results behind refl
-          (stored ∙ ap (λ (r : ResultRecord). sets results (resultSize * place .units) (resultBytes ungraded r)) recorded) outside,
+      designated-done here grading grades results behind refl (stored ∙ same-result) outside,
     )
 
 -- in step 3: its grading and whether it qualifies are those of the state
@@ -261,18 +250,15 @@ module _ {bytes : List ℕ} {n : ℕ} {table : Table} {place : Place} {state : S
     (here : UnitHere bytes n table place state unit (length results)) (inside : inStepThree (state .phase) ≡ true)
     {lower : ℕ} (is-lower : lower ≡ inForce state) {stepped : SteppedClasses}
     (steps : stepped ≡ steppedUnder table lower (state .cusums) (tenthsOf unit))
-    {grade : ℕ} (is-grade : grade ≡ cond (stepped .fails) (bestLower table lower (tenthsOf unit)) lower)
-    {qualifying : Bool} (tests : qualifying ≡ qualifies table (state .designated) (stepped .cusums) (tenthsOf unit)) where
-  abbrev grading : Grading
-  grading = gradingBy stepped (stepped .fails) grade
-
+    {grading : Grading} (is-grading : grading ≡ gradingBy table lower unit stepped)
+    {qualifying : Bool} (tests : qualifying ≡ qualifies table (state .designated) (grading .cusums) (tenthsOf unit)) where
   grades : grading ≡ graded table state unit
-  grades = graded-lower table state unit stepped lower grade is-lower steps is-grade
+  grades = is-grading ∙ graded-lower table state unit stepped lower is-lower steps
 
   qualifies-is : qualifying ≡ qualifiesIn table state unit
   qualifies-is = tests ∙ inside-test table state unit grading inside grades
 
-  pub state-behind : {after : State} → after ≡ afterUnit table state (gradingBy stepped (stepped .fails) grade) qualifying
+  pub state-behind : {after : State} → after ≡ afterUnit table state grading qualifying
       → after ≡ next table state (UnitRecord unit)
   state-behind {after} is-after = next-by table state unit grading qualifying after grades qualifies-is is-after
 
@@ -285,7 +271,7 @@ module _ {bytes : List ℕ} {n : ℕ} {table : Table} {place : Place} {state : S
   three-to-recover is-test ends size same-size =
       subst⁻¹ (ThreeHere bytes place) same-size (three-here here (ends-as-tested is-test ∙ ends))
 
-  module _ {result : ResultRecord} (is-result : result ≡ resultWith state unit (gradingBy stepped (stepped .fails) grade) false) {added : List ℕ}
+  module _ {result : ResultRecord} (is-result : result ≡ resultWith state unit grading false) {added : List ℕ}
       (stored : added ≡ sets results (resultSize * place .units) (resultBytes ungraded result))
       {test : Bool} (is-test : test ≡ endsStepThree (state .phase) qualifying) where
     stored-as : added ≡ sets results (resultSize * place .units) (resultBytes ungraded (resultWith state unit grading false))

@@ -27,12 +27,14 @@ use rules::Phase;
 use rules::Previous;
 use rules::State;
 use single_plan::Reached;
-use single_plan::defect_grade;
+use single_plan::graded_by;
+use single_plan::write_meeting;
 use units::Entry;
-use units::Grading;
 use units::SampleUnit;
 use units::Table;
 use units::qualifies_with;
+use units::row_of;
+use units::step_classes;
 use units::step_in_force;
 
 // Where the writing stands: before a record, with the state of the grading there.
@@ -56,7 +58,13 @@ fn write_designated(
     ensures buffer { λ r. ⌜ OneMore (sheetOf (now (bytes .entry)) records) (place .index) (now (results .entry)) (now (results .exit)) ⌝ }
 {
     let before = state.cusums;
-    let grading = single_plan::write_unit(table, state.designated, place, before, unit, results);
+    let stepped = step_classes(row_of(table, state.designated), before, unit);
+    let grading = graded_by(table, state.designated, unit, stepped);
+    write_at(
+        results,
+        RESULT_SIZE * place.units,
+        result_of(state, unit, grading),
+    );
     state.after_unit(table, grading, false)
 }
 
@@ -79,14 +87,8 @@ fn write_step_three(
     let before = state.cusums;
     let lower = state.in_force();
     let stepped = step_in_force(table, lower, before, unit);
-    let new = stepped.cusums;
-    let over = stepped.overshoots;
-    let grading = Grading {
-        cusums: new,
-        overshoots: over,
-        fails: stepped.fails,
-        grade: defect_grade(table, lower, stepped.fails, unit),
-    };
+    let grading = graded_by(table, lower, unit, stepped);
+    let new = grading.cusums;
     let qualifies = qualifies_with(table, state.designated, new, unit);
     let after = state.after_unit(table, grading, qualifies);
     write_at(results, start, result_of(state, unit, grading));
@@ -167,18 +169,12 @@ fn write_while_met(
     let from = start.place;
     let state = start.state;
     let before = state.cusums;
+    let row = row_of(table, state.designated);
     let standing = Reached {
         place: from,
         cusums: before,
     };
-    let reached = single_plan::write_meeting(
-        bytes,
-        records,
-        table,
-        state.designated,
-        standing,
-        results,
-    );
+    let reached = write_meeting(bytes, records, row, state.designated, standing, results);
     let place = reached.place;
     let cusums = reached.cusums;
     let outside = State {

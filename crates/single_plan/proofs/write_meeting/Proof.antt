@@ -1,44 +1,42 @@
 -- The invariant is `Further`: the passing has gone on from the start to the loop's place, each record by the law of its kind. The loop has the
 -- row of the designated grade alone, so that the invariant is about any table that has it.
-use Prim.Native.Nat.{_*_, _-_}
-use mathlib.Core.Path.{_≡_, sym, _∙_, ap}
-use mathlib.Core.Bool.{true}
+use Prim.Native.Nat.{ℕ, _*_, _-_}
+use mathlib.Core.Path.{_≡_, refl, sym, _∙_, ap}
+use mathlib.Core.Bool.{true, false}
+use mathlib.Core.List.{List}
 use native.Mathlib.Omega.{arith}
-use lib.Seq.{sets}
-use Rattle.units.specs.Words.{Table, rowOf}
+use lib.ListN.{length}
+use lib.Seq.{sets, length-sets}
+use Rattle.units.specs.Words.{Table, rowOf, noOvershoots}
 use Rattle.units.specs.Unit.{starting}
 use Rattle.units.specs.declared.Grading.{Grading}
+use Rattle.layout.specs.Walk.{Walk}
 use Rattle.layout.specs.declared.Place.{Place}
 use Rattle.results.specs.Record.{resultSize, resultBytes}
 use Rattle.codes.specs.Codes.{ungraded}
 use Rattle.single_plan.specs.SinglePlan.{resultUnder}
 use Rattle.single_plan.specs.Passing.{Further}
-use Rattle.single_plan.proofs.Passing.{met-is, mark-within, fits-past, unit-within, room-for-record, past-unit, past-break, further-none}
+use Rattle.single_plan.proofs.Passing.{met-is, mark-within, fits-past, unit-within, room-for-record, walk-past, past-unit, past-break, further-none}
 use borrow.Author.Needs.{needs}
 use Rattle.single_plan.proofs.write_meeting.Statement.{statement}
 use Rattle.single_plan.proofs.write_meeting.Tie as tie
 
 abbrev Inv-loop : tie.InvT-loop
-Inv-loop bytes records designated results₀ place₀ cusums₀ row results place cusums =
-    (table : Table) → row ≡ rowOf table designated
-    → Further bytes records table designated true (record { place = place₀; cusums = cusums₀ }) results₀ (record { place = place; cusums = cusums }) results
+Inv-loop bytes records row designated results₀ place₀ cusums₀ results place cusums =
+    Walk bytes records place × (length results ≡ length results₀)
+    × ((table : Table) → row ≡ rowOf table designated
+    → Further bytes records table designated true (record { place = place₀; cusums = cusums₀ }) results₀ (record { place = place; cusums = cusums }) results)
 
 abbrev μ-loop : tie.MeasureT-loop
-μ-loop bytes records designated results₀ place₀ cusums₀ row results place cusums = records - place .index
-
-row-of-requires : tie.Need-row-of-requires Inv-loop μ-loop
-row-of-requires c κs = search needs
+μ-loop bytes records row designated results₀ place₀ cusums₀ results place cusums = records - place .index
 
 loop-holds : tie.Need-loop-holds Inv-loop μ-loop
 loop-holds c =
-    let start = c .before .before .before .before .before in
-    λ table is-row. further-none (start .pre .walk) (start .args .results .now)
+    let start = c .before .before .before .before in
+    (start .pre .walk, refl, λ table is-row. further-none (start .pre .walk) (start .args .results .now))
 
 mark-at-requires : tie.Need-mark-at-requires Inv-loop μ-loop
-mark-at-requires c κs =
-    let loop = c .before .before in
-    let row = loop .before in
-    mark-within (loop .loop .inv (row .before .before .before .before .before .args .table) (row .row-of .ensures) .walk) (omega arith)
+mark-at-requires c κs = mark-within (c .before .before .loop .inv .0) (omega arith)
 
 enum-told : tie.Need-enum-told Inv-loop μ-loop
 enum-told c = search needs
@@ -47,10 +45,9 @@ enum-told c = search needs
 
 sample-unit-at-requires : tie.Need-sample-unit-at-requires Inv-loop μ-loop
 sample-unit-at-requires c κs =
-    let read = c .before .before in
-    let loop = read .before .before .before in
-    let row = loop .before in
-    unit-within (loop .loop .inv (row .before .before .before .before .before .args .table) (row .row-of .ensures) .walk) (omega arith) (read .mark-at .ensures) (c .enum-told .given .1)
+    let mark = c .before .before in
+    let loop = mark .before .before .before in
+    unit-within (loop .loop .inv .0) (omega arith) (mark .mark-at .ensures) (c .enum-told .given .1)
 
 step-classes-requires : tie.Need-step-classes-requires Inv-loop μ-loop
 step-classes-requires c κs = search needs
@@ -58,14 +55,12 @@ step-classes-requires c κs = search needs
 same-length : tie.Need-same-length Inv-loop μ-loop
 same-length c =
     let loop = c .before .before .before .before .before .before .before .before in
-    let row = loop .before in
-    loop .loop .inv (row .before .before .before .before .before .args .table) (row .row-of .ensures) .same-length
+    loop .loop .inv .1
 
 returns : tie.Need-returns Inv-loop μ-loop
 returns c =
     let loop = c .before .before .before .before .before .before .before .before in
-    let row = loop .before in
-    loop .loop .inv (row .before .before .before .before .before .args .table) (row .row-of .ensures)
+    loop .loop .inv .2
 
 write-graded-requires : tie.Need-write-graded-requires Inv-loop μ-loop
 write-graded-requires c κs =
@@ -73,19 +68,16 @@ write-graded-requires c κs =
     let told = unit .before in
     let mark = told .before .before in
     let loop = mark .before .before .before in
-    let row = loop .before in
-    let start = row .before .before .before .before .before in
-    let inv = loop .loop .inv (start .args .table) (row .row-of .ensures) in
-    room-for-record (inv .walk) (omega arith) (mark .mark-at .ensures) (told .enum-told .given .1) (unit .sample-unit-at .ensures)
-    (omega (arith, start .pre .room, inv .same-length))
+    let start = loop .before .before .before .before .before in
+    room-for-record (loop .loop .inv .0) (omega arith) (mark .mark-at .ensures) (told .enum-told .given .1) (unit .sample-unit-at .ensures)
+    (omega (arith, start .pre .room, loop .loop .inv .1))
 
 past-requires : tie.Need-past-requires Inv-loop μ-loop
 past-requires c κs =
     let mark = c .before .before .before .before .before .before .before .before .before .before in
     let loop = mark .before .before .before in
-    let row = loop .before in
-    let start = row .before .before .before .before .before in
-    fits-past (loop .loop .inv (start .args .table) (row .row-of .ensures) .walk) (omega arith) (mark .mark-at .ensures) (omega (arith, start .good))
+    let start = loop .before .before .before .before .before in
+    fits-past (loop .loop .inv .0) (omega arith) (mark .mark-at .ensures) (omega (arith, start .good))
 
 loop-less : tie.Need-loop-less Inv-loop μ-loop
 loop-less c =
@@ -101,15 +93,21 @@ loop-again c =
     let told = unit .before in
     let mark = told .before .before in
     let loop = mark .before .before .before in
-    let row = loop .before in
-    let start = row .before .before .before .before .before in
-    λ table is-row.
-    let met = met-is table _ _ (unit .sample-unit-at .result) (start .pre .planned) is-row (stepped .step-classes .ensures) (tested .if2 .left) in
-    past-unit (loop .loop .inv table is-row) (omega arith) (mark .mark-at .ensures) (c .past .ensures) (told .enum-told .given .1)
-    (unit .sample-unit-at .ensures) (ap (λ (g : Grading). g .cusums) met) (λ stopping. sym (ap (λ (g : Grading). g .fails) met))
-    (written .write-graded .ensures
-    ∙ ap (λ (g : Grading). sets (loop .loop .results) (resultSize * loop .loop .place .units)
-    (resultBytes ungraded (resultUnder (start .args .designated) (unit .sample-unit-at .result) g))) met)
+    let start = loop .before .before .before .before .before in
+    let designated = start .args .designated in
+    let met-grading : Grading =
+    record { cusums = stepped .step-classes .result .cusums; overshoots = noOvershoots; fails = false; grade = designated } in
+    let recorded : Grading → List ℕ = λ (g : Grading). resultBytes ungraded (resultUnder designated (unit .sample-unit-at .result) g) in (
+      walk-past (loop .loop .inv .0) (omega arith) (mark .mark-at .ensures) (c .past .ensures),
+      ap length (written .write-graded .ensures) ∙ length-sets (loop .loop .results) (resultSize * loop .loop .place .units) (recorded met-grading)
+          ∙ loop .loop .inv .1,
+      λ table is-row.
+          let met = met-is table _ _ (unit .sample-unit-at .result) (start .pre .planned) is-row (stepped .step-classes .ensures) (tested .if2 .left) in
+          past-unit (loop .loop .inv .2 table is-row) (omega arith) (mark .mark-at .ensures) (c .past .ensures) (told .enum-told .given .1)
+          (unit .sample-unit-at .ensures) (ap (λ (g : Grading). g .cusums) met) (λ stopping. sym (ap (λ (g : Grading). g .fails) met))
+          (written .write-graded .ensures
+          ∙ ap (λ (g : Grading). sets (loop .loop .results) (resultSize * loop .loop .place .units) (recorded g)) met),
+    )
 
 -- ---- a redesignation
 
@@ -117,16 +115,10 @@ enum-told-2 : tie.Need-enum-told-2 Inv-loop μ-loop
 enum-told-2 c = search needs
 
 same-length-2 : tie.Need-same-length-2 Inv-loop μ-loop
-same-length-2 c =
-    let loop = c .before .before .before .before .before in
-    let row = loop .before in
-    loop .loop .inv (row .before .before .before .before .before .args .table) (row .row-of .ensures) .same-length
+same-length-2 c = c .before .before .before .before .before .loop .inv .1
 
 returns-2 : tie.Need-returns-2 Inv-loop μ-loop
-returns-2 c =
-    let loop = c .before .before .before .before .before in
-    let row = loop .before in
-    loop .loop .inv (row .before .before .before .before .before .args .table) (row .row-of .ensures)
+returns-2 c = c .before .before .before .before .before .loop .inv .2
 
 -- ---- a break
 
@@ -137,9 +129,8 @@ past-requires-2 : tie.Need-past-requires-2 Inv-loop μ-loop
 past-requires-2 c κs =
     let mark = c .before .before in
     let loop = mark .before .before .before in
-    let row = loop .before in
-    let start = row .before .before .before .before .before in
-    fits-past (loop .loop .inv (start .args .table) (row .row-of .ensures) .walk) (omega arith) (mark .mark-at .ensures) (omega (arith, start .good))
+    let start = loop .before .before .before .before .before in
+    fits-past (loop .loop .inv .0) (omega arith) (mark .mark-at .ensures) (omega (arith, start .good))
 
 loop-less-2 : tie.Need-loop-less-2 Inv-loop μ-loop
 loop-less-2 c =
@@ -151,22 +142,19 @@ loop-again-2 c =
     let started = c .before in
     let match = started .before in
     let mark = match .before in
-    let loop = mark .before .before .before in
-    λ table is-row.
-    past-break (loop .loop .inv table is-row) (omega arith) (mark .mark-at .ensures) (c .past2 .ensures) (match .match .keys3)
-    (started .starts .ensures ∙ ap starting is-row)
+    let loop = mark .before .before .before in (
+      walk-past (loop .loop .inv .0) (omega arith) (mark .mark-at .ensures) (c .past2 .ensures),
+      loop .loop .inv .1,
+      λ table is-row.
+          past-break (loop .loop .inv .2 table is-row) (omega arith) (mark .mark-at .ensures) (c .past2 .ensures) (match .match .keys3)
+          (started .starts .ensures ∙ ap starting is-row),
+    )
 
 same-length-3 : tie.Need-same-length-3 Inv-loop μ-loop
-same-length-3 c =
-    let loop = c .before .before in
-    let row = loop .before in
-    loop .loop .inv (row .before .before .before .before .before .args .table) (row .row-of .ensures) .same-length
+same-length-3 c = c .before .before .loop .inv .1
 
 returns-3 : tie.Need-returns-3 Inv-loop μ-loop
-returns-3 c =
-    let loop = c .before .before in
-    let row = loop .before in
-    loop .loop .inv (row .before .before .before .before .before .args .table) (row .row-of .ensures)
+returns-3 c = c .before .before .loop .inv .2
 
 pub write-meeting-spec : {M : Type 1} → statement M
 write-meeting-spec =
@@ -174,7 +162,6 @@ write-meeting-spec =
     (tie.spec
     Inv-loop
     μ-loop
-    row-of-requires
     loop-holds
     mark-at-requires
     enum-told

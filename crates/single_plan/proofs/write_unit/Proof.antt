@@ -17,8 +17,8 @@ row-of-requires c κs = search needs
 step-classes-requires : tie.Need-step-classes-requires
 step-classes-requires c κs = search needs
 
-defect-grade-requires : tie.Need-defect-grade-requires
-defect-grade-requires c κs = search needs
+graded-by-requires : tie.Need-graded-by-requires
+graded-by-requires c κs = search needs
 
 write-graded-requires : tie.Need-write-graded-requires
 write-graded-requires c κs = search needs
@@ -30,10 +30,10 @@ returns : tie.Need-returns
 returns c =
     let written = c .before .before in
     let graded = written .before .before in
-    let stepped = graded .before .before .before in
+    let stepped = graded .before in
     let row = stepped .before in
     let start = row .before .before in
-    let same = stepped-grading _ _ _ (start .args .unit) (start .pre .1) (row .row-of .ensures) (stepped .step-classes .ensures) (graded .defect-grade .ensures) in (
+    let same = stepped-grading _ _ _ (start .args .unit) (start .pre .1) (row .row-of .ensures) (stepped .step-classes .ensures) (graded .graded-by .ensures) in (
       same,
       written .write-graded .ensures
           ∙ ap (λ (g : Grading). sets (start .args .results .now) (resultSize * start .args .place .units) (resultBytes ungraded (resultUnder (start .args .designated) (start .args .unit) g))) same,
@@ -45,7 +45,7 @@ write-unit-spec =
     (tie.spec
     row-of-requires
     step-classes-requires
-    defect-grade-requires
+    graded-by-requires
     write-graded-requires
     same-length
     returns)

@@ -16,8 +16,8 @@ in-force-requires c κs = search needs
 step-in-force-requires : tie.Need-step-in-force-requires
 step-in-force-requires c κs = search needs
 
-defect-grade-requires : tie.Need-defect-grade-requires
-defect-grade-requires c κs = search needs
+graded-by-requires : tie.Need-graded-by-requires
+graded-by-requires c κs = search needs
 
 qualifies-with-requires : tie.Need-qualifies-with-requires
 qualifies-with-requires c κs = search needs
@@ -29,7 +29,7 @@ result-of-requires : tie.Need-result-of-requires
 result-of-requires c κs = search needs
 
 write-at-requires : tie.Need-write-at-requires
-write-at-requires c κs = room-for-record (c .before .before .before .before .before .before .before .before .before .before .before .before .before .pre .0)
+write-at-requires c κs = room-for-record (c .before .before .before .before .before .before .before .before .before .before .before .before .pre .0)
 
 ends-step-three-requires : tie.Need-ends-step-three-requires
 ends-step-three-requires c κs = search needs
@@ -40,13 +40,13 @@ recover-three-requires c κs =
     let result = written .before in
     let after = result .before .before in
     let tests = after .before in
-    let grade = tests .before in
-    let stepped = grade .before .before .before in
+    let graded = tests .before .before in
+    let stepped = graded .before in
     let lower = stepped .before in
     let start = lower .before .before .before .before .before in
     let ends = c .before in
     three-to-recover (start .args .results .now) (start .pre .0) (start .pre .1) (lower .in-force .ensures) (stepped .step-in-force .ensures)
-    (grade .defect-grade .ensures) (tests .qualifies-with .ensures)
+    (graded .graded-by .ensures) (tests .qualifies-with .ensures)
     (ends .before .ends-step-three .ensures) (ends .if1 .taken) _ (omega arith)
 
 same-length : tie.Need-same-length
@@ -58,15 +58,15 @@ returns c =
     let result = written .before in
     let after = result .before .before in
     let tests = after .before in
-    let grade = tests .before in
-    let stepped = grade .before .before .before in
+    let graded = tests .before .before in
+    let stepped = graded .before in
     let lower = stepped .before in
     let start = lower .before .before .before .before .before in
     let ends = c .before .before .before .before in (
       state-behind (start .args .results .now) (start .pre .0) (start .pre .1) (lower .in-force .ensures) (stepped .step-in-force .ensures)
-          (grade .defect-grade .ensures) (tests .qualifies-with .ensures) (after .after-unit .ensures),
+          (graded .graded-by .ensures) (tests .qualifies-with .ensures) (after .after-unit .ensures),
       written-at-end (start .args .results .now) (start .pre .0) (start .pre .1) (lower .in-force .ensures) (stepped .step-in-force .ensures)
-          (grade .defect-grade .ensures) (tests .qualifies-with .ensures) (result .result-of .ensures) (written .write-at .ensures)
+          (graded .graded-by .ensures) (tests .qualifies-with .ensures) (result .result-of .ensures) (written .write-at .ensures)
           (ends .before .ends-step-three .ensures) (ends .if1 .taken) (c .before .before .recover-three .ensures),
     )
 
@@ -79,14 +79,14 @@ returns-2 c =
     let result = written .before in
     let after = result .before .before in
     let tests = after .before in
-    let grade = tests .before in
-    let stepped = grade .before .before .before in
+    let graded = tests .before .before in
+    let stepped = graded .before in
     let lower = stepped .before in
     let start = lower .before .before .before .before .before in (
       state-behind (start .args .results .now) (start .pre .0) (start .pre .1) (lower .in-force .ensures) (stepped .step-in-force .ensures)
-          (grade .defect-grade .ensures) (tests .qualifies-with .ensures) (after .after-unit .ensures),
+          (graded .graded-by .ensures) (tests .qualifies-with .ensures) (after .after-unit .ensures),
       written-going-on (start .args .results .now) (start .pre .0) (start .pre .1) (lower .in-force .ensures) (stepped .step-in-force .ensures)
-          (grade .defect-grade .ensures) (tests .qualifies-with .ensures) (result .result-of .ensures) (written .write-at .ensures)
+          (graded .graded-by .ensures) (tests .qualifies-with .ensures) (result .result-of .ensures) (written .write-at .ensures)
           (c .before .ends-step-three .ensures) (c .if1 .left),
     )
 
@@ -97,7 +97,7 @@ write-step-three-spec =
     mul-start
     in-force-requires
     step-in-force-requires
-    defect-grade-requires
+    graded-by-requires
     qualifies-with-requires
     after-unit-requires
     result-of-requires
