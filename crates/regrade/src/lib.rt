@@ -16,7 +16,6 @@ ghost use Rattle.regrade.specs.Outcome.{sheetUnder, secondPlanWrong, reg
 ghost use Rattle.regrade.specs.Regradable.{Regradable};
 use codes::grade_codes;
 use layout::PLAN_SIZE;
-use layout::Place;
 use layout::plan_of;
 use outcome::Answer;
 use outcome::refused_as;
@@ -24,12 +23,9 @@ use results::RESULT_SIZE;
 use sheet::Verdict;
 use sheet::check;
 use sheet::plan_refusal;
-use single_plan::Reached;
-use single_plan::write_through;
 use tally::any_limit_too_large;
 use units::Plan;
-use units::row_of;
-use units::starts;
+use writing::write_again;
 
 // Whether the second plan is not exactly one plan record free of 2 to 5.
 fn second_plan_wrong(plan: &[u8]) -> bool
@@ -47,13 +43,7 @@ fn write_regraded(bytes: &[u8], records: usize, plan: Plan, results: &mut [u8])
     requires { ⌜ Regradable (now bytes) records plan (length (now results)) ⌝ }
     ensures { λ _. ⌜ now (results .exit) ≡ written (regradedResult (sheetUnder (now (bytes .entry)) plan records)) (λ code. ungraded) (entryAt (now (bytes .entry))) records ++ drop (resultSize * unitsBefore (now (bytes .entry)) records) (now (results .entry)) ⌝ }
 {
-    let table = plan.table();
-    let started = starts(row_of(table, plan.designated));
-    let opening = Reached {
-        place: Place::first(),
-        cusums: started,
-    };
-    write_through(bytes, records, table, plan.designated, opening, results);
+    write_again(bytes, records, plan.table(), plan.designated, results);
 }
 
 // Regrades a sheet that passes refusals 1 to 12.

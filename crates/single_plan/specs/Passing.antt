@@ -13,7 +13,7 @@ use Rattle.units.specs.declared.SteppedClasses.{SteppedClasses}
 use Rattle.units.specs.declared.Grading.{Grading}
 use Rattle.units.specs.declared.Entry.the-variants.{UnitRecord, Redesignation, Break}
 use Rattle.layout.specs.Layout.{entryAt, unitsBefore}
-use Rattle.layout.specs.Walk.{Walk}
+use Rattle.layout.specs.Walk.{firstPlace, Walk}
 use Rattle.results.specs.Record.{resultSize, resultBytes}
 use Rattle.codes.specs.Codes.{ungraded}
 use Rattle.single_plan.specs.SinglePlan.{resultUnder}
@@ -58,3 +58,12 @@ pub record Further (bytes : List ℕ) (records : ℕ) (table : Table) (designate
   pub walk : Walk bytes records (here .place)
   pub passed : Passed bytes table designated stops (start .place .index) (start .cusums) results₀ (here .place .index) (here .cusums) results
   pub same-length : length results ≡ length results₀
+
+-- every class of the plan at its S, before the first record
+abbrev pub openingUnder : Table → ℕ → Reached
+openingUnder table designated = record { place = firstPlace; cusums = starting (rowOf table designated) }
+
+-- so many records of a sheet are passed from the opening on
+pub record Through (bytes : List ℕ) (records : ℕ) (table : Table) (designated : ℕ) (results₀ results : List ℕ) : Type 0 where
+  pub cusums : List Cusum
+  pub passed : Passed bytes table designated false 0 (starting (rowOf table designated)) results₀ records cusums results

@@ -164,7 +164,7 @@ pub fn write_meeting(
 }
 
 // Writes what the record writes at which the writing stands, and goes past it, whatever it is: a redesignation is passed over.
-fn write_here(
+pub fn write_here(
     bytes: &[u8],
     records: usize,
     table: Table,
@@ -198,31 +198,4 @@ fn write_here(
             cusums: starts(row_of(table, designated)),
         },
     }
-}
-
-// Writes what all records write from where it stands to the last, under the plan of the designated grade.
-pub fn write_through(
-    bytes: &[u8],
-    records: usize,
-    table: Table,
-    designated: u8,
-    start: Reached,
-    results: &mut [u8],
-) -> Reached
-    requires { ⌜ Passable (now bytes) records designated start (length (now results)) ⌝ }
-    ensures further { λ r. ⌜ Further (now (bytes .entry)) records table designated false start (now (results .entry)) r (now (results .exit)) ⌝ }
-    ensures all { λ r. ⌜ r .place .index ≡ records ⌝ }
-{
-    let row = row_of(table, designated);
-    let mut here = start;
-    let mut done = here.place.index;
-    while done < records {
-        here = write_meeting(bytes, records, row, designated, here, results);
-        done = here.place.index;
-        if done < records {
-            here = write_here(bytes, records, table, designated, here, results);
-            done += 1;
-        }
-    }
-    here
 }

@@ -1,3 +1,4 @@
 pub mod Writing
 pub mod Passing
 pub mod Meeting
+pub mod Passes

@@ -32,13 +32,10 @@ use Rattle.single_plan.specs.SinglePlan.{resultUnder}
 use Rattle.single_plan.proofs.Passing.{result-outside}
 use Rattle.single_plan.specs.Passing.{Passed, none, unit, restart, over, Passable}
 use Rattle.writing.specs.declared.Position.{Position}
+use Rattle.writing.specs.Passes.{reachedAt, outside, Met, some, none as nothing}
 use Rattle.writing.specs.Writing.{UnitHere, RecordHere, positionAt, OneMore, Underway, Further}
 use Rattle.writing.proofs.Passing.{nothing-more, further-none, further-one, underway-on, record-here}
 use Rattle.writing.proofs.Writing.{unit-under-designated}
-
--- outside step 3, with no failure just before
-abbrev pub outside : ℕ → List Cusum → State
-outside designated cusums = stateOf designated NoFailure Designated cusums
 
 -- so it stays behind a unit that meets and behind a break
 behind-unit : (table : Table) (designated : ℕ) (cusums : List Cusum) (here : SampleUnit) → unitFails table designated cusums (tenthsOf here) ≡ false
@@ -120,7 +117,7 @@ passable {bytes} {n} {table} {start} underway =
     }
 
 -- as the code stands before and behind these records
-pub met-on : {bytes : List ℕ} {n : ℕ} {table : Table} {start : Position} {results₀ : List ℕ} → Underway bytes n table start (length results₀)
+met-on : {bytes : List ℕ} {n : ℕ} {table : Table} {start : Position} {results₀ : List ℕ} → Underway bytes n table start (length results₀)
     → start .state .phase ≡ Designated → start .state .previous ≡ NoFailure
     → {place : Place} {cusums : List Cusum} {results : List ℕ} → Walk bytes n place
     → Passed bytes table (start .state .designated) true (start .place .index) (start .state .cusums) results₀ (place .index) cusums results
@@ -135,3 +132,11 @@ met-on {bytes} {n} {table} {start} {results₀} underway phase previous {place} 
     let same : record { place = place; state = outside (start .state .designated) cusums } ≡ positionAt bytes n (place .index)
     = ap₂ (λ (p : Place) (s : State). record { place = p; state = s }) (walk .here) (sym (gone .same-state)) in
     subst⁻¹ (λ (p : Position). Further bytes n from results₀ p results) same (gone .further)
+
+pub met-further : {bytes : List ℕ} {n : ℕ} {table : Table} {start : Position} {results₀ : List ℕ} → Underway bytes n table start (length results₀)
+    → {here : Position} {results : List ℕ} → Met bytes n table start results₀ here results → Further bytes n (start .place .index) results₀ here results
+met-further {bytes} {n} {table} {start} {results₀} underway {here} {results} (some phase previous same-state gone) =
+    subst⁻¹ (λ (s : State). Further bytes n (start .place .index) results₀ (record { place = here .place; state = s }) results) same-state
+    (met-on underway phase previous (gone .walk) (gone .passed))
+met-further {bytes} {n} {table} {start} {results₀} underway {here} {results} (nothing same same-results) =
+    rw (same, same-results) (further-none (underway .within) (underway .stands-at) results₀)

@@ -1,7 +1,7 @@
 // Writing the result records of a sheet, no code graded yet.
 ghost use mathlib.Core.Path.{_≡_};
 ghost use mathlib.Core.Bool.{true};
-ghost use Prim.Native.Nat.{suc, _*_};
+ghost use Prim.Native.Nat.{suc, _*_, _<_};
 ghost use mathlib.Core.List.{_++_};
 ghost use lib.ListN.{length, drop};
 ghost use Rattle.rules.specs.StepThree.{next, inStepThree};
@@ -13,7 +13,9 @@ ghost use Rattle.results.specs.Record.{resultSize};
 ghost use Rattle.results.specs.Written.{written};
 ghost use Rattle.codes.specs.Codes.{ungraded};
 ghost use Rattle.recording.specs.Sheet.{sheetOf, resultOf};
-ghost use Rattle.writing.specs.Writing.{UnitHere, RecordHere, positionAt, OneMore, Underway, Further};
+ghost use Rattle.single_plan.specs.Passing.{Passable, openingUnder, Through};
+ghost use Rattle.writing.specs.Writing.{UnitHere, RecordHere, positionAt, OneMore};
+ghost use Rattle.writing.specs.Passes.{reachedAt, Met, GoneAgain, NextReady, NextDone, Ready, Done};
 ghost use Rattle.writing.specs.Writable.{Writable};
 use layout::Mark;
 use layout::Place;
@@ -36,6 +38,11 @@ use units::qualifies_with;
 use units::row_of;
 use units::step_classes;
 use units::step_in_force;
+
+// Whether a sheet is graded by its own plan, or again under a second one.
+const ONCE: bool = false;
+
+const AGAIN: bool = true;
 
 // Where the writing stands: before a record, with the state of the grading there.
 struct Position {
@@ -163,8 +170,8 @@ fn write_while_met(
     start: Position,
     results: &mut [u8],
 ) -> Position
-    requires { ⌜ Underway (now bytes) records table start (length (now results)) × (start .state .phase ≡ Designated) × (start .state .previous ≡ NoFailure) ⌝ }
-    ensures { λ r. ⌜ Further (now (bytes .entry)) records (start .place .index) (now (results .entry)) r (now (results .exit)) ⌝ }
+    requires { ⌜ Passable (now bytes) records (start .state .designated) (reachedAt start) (length (now results)) × (start .state .phase ≡ Designated) × (start .state .previous ≡ NoFailure) ⌝ }
+    ensures { λ r. ⌜ Met (now (bytes .entry)) records table start (now (results .entry)) r (now (results .exit)) ⌝ }
 {
     let from = start.place;
     let state = start.state;
@@ -198,8 +205,8 @@ fn past_meeting(
     position: Position,
     results: &mut [u8],
 ) -> Position
-    requires { ⌜ Underway (now bytes) records table position (length (now results)) ⌝ }
-    ensures { λ r. ⌜ Further (now (bytes .entry)) records (position .place .index) (now (results .entry)) r (now (results .exit)) ⌝ }
+    requires { ⌜ Passable (now bytes) records (position .state .designated) (reachedAt position) (length (now results)) ⌝ }
+    ensures { λ r. ⌜ Met (now (bytes .entry)) records table position (now (results .entry)) r (now (results .exit)) ⌝ }
 {
     let state = position.state;
     let phase = state.phase;
@@ -213,10 +220,77 @@ fn past_meeting(
     }
 }
 
-// Writes the result records of a sheet, one after the other from the buffer's start, no code graded yet.
-pub fn write_records(bytes: &[u8], records: usize, table: Table, designated: u8, results: &mut [u8])
-    requires { ⌜ Writable (now bytes) records table designated (length (now results)) ⌝ }
-    ensures { λ _. ⌜ now (results .exit) ≡ written (resultOf (sheetOf (now (bytes .entry)) records)) (λ code. ungraded) (entryAt (now (bytes .entry))) records ++ drop (resultSize * unitsBefore (now (bytes .entry)) records) (now (results .entry)) ⌝ }
+// Writes what the record at a position writes where a sheet is graded again, and goes past it: the designated plan stays in force, and no
+// failure is remembered.
+fn write_again_here(
+    bytes: &[u8],
+    records: usize,
+    table: Table,
+    position: Position,
+    results: &mut [u8],
+) -> Position
+    requires { ⌜ Passable (now bytes) records (position .state .designated) (reachedAt position) (length (now results)) × (position .place .index < records) ⌝ }
+    ensures { λ r. ⌜ GoneAgain (now (bytes .entry)) records table position (now (results .entry)) r (now (results .exit)) ⌝ }
+{
+    let from = position.place;
+    let state = position.state;
+    let before = state.cusums;
+    let standing = Reached {
+        place: from,
+        cusums: before,
+    };
+    let reached = single_plan::write_here(
+        bytes,
+        records,
+        table,
+        state.designated,
+        standing,
+        results,
+    );
+    let place = reached.place;
+    let cusums = reached.cusums;
+    let outside = State {
+        designated: state.designated,
+        previous: Previous::NoFailure,
+        phase: Phase::Designated,
+        cusums: cusums,
+    };
+    Position {
+        place: place,
+        state: outside,
+    }
+}
+
+// Writes what the record at a position writes, graded once or again, and goes past it.
+fn write_next(
+    bytes: &[u8],
+    records: usize,
+    table: Table,
+    position: Position,
+    again: bool,
+    results: &mut [u8],
+) -> Position
+    requires { ⌜ NextReady again (now bytes) records table position (length (now results)) ⌝ }
+    ensures { λ r. ⌜ NextDone again (now (bytes .entry)) records table position (now (results .entry)) r (now (results .exit)) ⌝ }
+{
+    if again {
+        return write_again_here(bytes, records, table, position, results);
+    }
+    write_here(bytes, records, table, position, results)
+}
+
+// Writes the result records of a sheet, one after the other from the buffer's start, no code graded yet. Where it is graded again, failures
+// in a row and redesignations mean nothing.
+fn write_pass(
+    bytes: &[u8],
+    records: usize,
+    table: Table,
+    designated: u8,
+    again: bool,
+    results: &mut [u8],
+)
+    requires { ⌜ Ready again (now bytes) records table designated (length (now results)) ⌝ }
+    ensures { λ _. ⌜ Done again (now (bytes .entry)) records table designated (now (results .entry)) (now (results .exit)) ⌝ }
 {
     let mut position = Position {
         place: Place::first(),
@@ -228,8 +302,24 @@ pub fn write_records(bytes: &[u8], records: usize, table: Table, designated: u8,
         let place = position.place;
         done = place.index;
         if done < records {
-            position = write_here(bytes, records, table, position, results);
+            position = write_next(bytes, records, table, position, again, results);
             done += 1;
         }
     }
+}
+
+// Writes the result records of a sheet as it is graded.
+pub fn write_records(bytes: &[u8], records: usize, table: Table, designated: u8, results: &mut [u8])
+    requires { ⌜ Writable (now bytes) records table designated (length (now results)) ⌝ }
+    ensures { λ _. ⌜ now (results .exit) ≡ written (resultOf (sheetOf (now (bytes .entry)) records)) (λ code. ungraded) (entryAt (now (bytes .entry))) records ++ drop (resultSize * unitsBefore (now (bytes .entry)) records) (now (results .entry)) ⌝ }
+{
+    write_pass(bytes, records, table, designated, ONCE, results);
+}
+
+// The same where it is graded again under this plan, from the opening on.
+pub fn write_again(bytes: &[u8], records: usize, table: Table, designated: u8, results: &mut [u8])
+    requires { ⌜ Passable (now bytes) records designated (openingUnder table designated) (length (now results)) ⌝ }
+    ensures { λ _. ⌜ Through (now (bytes .entry)) records table designated (now (results .entry)) (now (results .exit)) ⌝ }
+{
+    write_pass(bytes, records, table, designated, AGAIN, results);
 }
