@@ -1,7 +1,10 @@
 /*
- * Grades a tally sheet, or a mold sheet, and prints the answer and the result records.
+ * Grades a tally sheet, a recorded one again under the plan of a new buyer, or a mold sheet, and
+ * prints the answer and the result records.
  *
- *   grade [-mold] [FILE]    reads standard input if no file is named
+ *   grade [FILE]                      reads standard input if no file is named
+ *   grade -regrade PLANFILE [FILE]    the buyer's plan is in PLANFILE, one plan record
+ *   grade -mold [FILE]
  *
  * The first line has number, units and offset; then comes a line for each result record, its fields
  * in hexadecimal. The exit status is 0 for an accepted sheet, 2 for a refused one, and 1 if the
@@ -15,8 +18,8 @@
 
 #include "hatmuyon.h"
 
-/* The bytes of a file to its end, or NULL; never NULL for an empty file. */
-static uint8_t *read_all(FILE *file, size_t *length)
+/* The bytes of an open file to its end, or NULL; never NULL for an empty file. */
+static uint8_t *read_open(FILE *file, size_t *length)
 {
     size_t room = 65536, filled = 0;
     uint8_t *bytes = malloc(room);
@@ -36,6 +39,23 @@ static uint8_t *read_all(FILE *file, size_t *length)
         bytes = NULL;
     }
     *length = filled;
+    return bytes;
+}
+
+/* The bytes of a file, or of standard input if the name is NULL; ends the program if they cannot be
+ * read. */
+static uint8_t *read_all(const char *name, size_t *length)
+{
+    FILE *file = name != NULL ? fopen(name, "rb") : stdin;
+    uint8_t *bytes = file != NULL ? read_open(file, length) : NULL;
+
+    if (bytes == NULL) {
+        fprintf(stderr, "grade: cannot read %s: %s\n", name != NULL ? name : "standard input",
+                strerror(errno));
+        exit(1);
+    }
+    if (name != NULL)
+        fclose(file);
     return bytes;
 }
 
@@ -77,25 +97,27 @@ int main(int argc, char **argv)
     /* Of a mold sheet the result records are smaller. */
     static uint8_t results[HATMUYON_RESULT_SIZE * HATMUYON_MOST_UNITS];
     int mold = argc > 1 && strcmp(argv[1], "-mold") == 0;
-    const char *name = argc > 1 + mold ? argv[1 + mold] : NULL;
+    int regrade = argc > 1 && strcmp(argv[1], "-regrade") == 0;
+    /* The arguments before the name of the sheet, that of the program among them. */
+    int before = mold ? 2 : regrade ? 3 : 1;
 
-    if (argc > 2 + mold) {
-        fprintf(stderr, "usage: grade [-mold] [FILE]\n");
+    if (argc < before || argc > before + 1) {
+        fprintf(stderr, "usage: grade [-mold | -regrade PLANFILE] [FILE]\n");
         return 1;
     }
-    FILE *file = name != NULL ? fopen(name, "rb") : stdin;
-    size_t length = 0;
-    uint8_t *sheet = file != NULL ? read_all(file, &length) : NULL;
-    if (sheet == NULL) {
-        fprintf(stderr, "grade: cannot read %s: %s\n", name != NULL ? name : "standard input",
-                strerror(errno));
-        return 1;
-    }
+    size_t sheet_length, plan_length = 0;
+    uint8_t *plan = regrade ? read_all(argv[2], &plan_length) : NULL;
+    uint8_t *sheet = read_all(argc > before ? argv[before] : NULL, &sheet_length);
 
-    struct hatmuyon_answer answer =
-        mold ? hatmuyon_grade_mold(sheet, length, results, sizeof results)
-             : hatmuyon_grade(sheet, length, results, sizeof results);
+    struct hatmuyon_answer answer;
+    if (mold)
+        answer = hatmuyon_grade_mold(sheet, sheet_length, results, sizeof results);
+    else if (regrade)
+        answer = hatmuyon_regrade(sheet, sheet_length, plan, plan_length, results, sizeof results);
+    else
+        answer = hatmuyon_grade(sheet, sheet_length, results, sizeof results);
     free(sheet);
+    free(plan);
 
     printf("number %lu, units %zu, offset %zu\n", (unsigned long)answer.number, answer.units,
            answer.offset);

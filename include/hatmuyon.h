@@ -1,6 +1,7 @@
 /*
  * hatmuyon: grades the tally sheet of an on-line inspection, and the mold sheet of a tomato line,
- * under the USDA cumulative sum plan, File Code 120 A-6 of August 1978.
+ * under the USDA cumulative sum plan, File Code 120 A-6 of August 1978; and a recorded tally sheet
+ * again, under a second plan.
  *
  * Link with libhatmuyon.a, which `rt staticlib hatmuyon` writes to target/staticlib (x86-64).
  * The archive needs no other library. The header is C99 and C++11.
@@ -20,9 +21,9 @@ extern "C" {
  * and of the functions and types in C or Rust. A program, the header and the archive of one version
  * belong together. The archive does not carry its version, so that nothing notices another one.
  */
-#define HATMUYON_VERSION "0.5.0"
+#define HATMUYON_VERSION "0.6.0"
 #define HATMUYON_VERSION_MAJOR 0
-#define HATMUYON_VERSION_MINOR 5
+#define HATMUYON_VERSION_MINOR 6
 #define HATMUYON_VERSION_PATCH 0
 
 /*
@@ -100,6 +101,22 @@ enum hatmuyon_standing {
 };
 
 /*
+ * A recorded tally sheet may be graded again under a second plan, that of a new buyer: exactly one
+ * plan record, mark and all, of HATMUYON_PLAN_SIZE bytes. The sheet's own plan is checked, and not
+ * graded by. As in appendix 7 of the manual:
+ *
+ *   - Every unit of the sheet is graded in its order under the second plan's designated grade, also
+ *     one that failed or fails, and has its result record at its place. Lower grades are the second
+ *     plan's, too.
+ *   - A break restarts: each class is at its S. A redesignation is passed over, and restarts nothing.
+ *   - Two failures in a row mean nothing: there is no step 3, and recoverable is not looked at.
+ *   - Prerequisites and codes count as before.
+ *
+ * The result records have the same fields. The plan grade is the second plan's designated grade
+ * throughout, and the standing HATMUYON_MET or HATMUYON_FAILED.
+ */
+
+/*
  * A mold sheet is an opening and then sample units, with marks and numbers as on a tally sheet.
  *
  *   opening        4D 44, level row (1)
@@ -143,13 +160,17 @@ enum hatmuyon_standing {
 #define HATMUYON_MOLD_RESULT_CUSUM 3 /* 2 bytes: the CuSum in tenths of a field */
 
 /*
- * The number of an answer: 0, or the ground on which the sheet is refused. The place is 0 for 1 to 5
- * and 16, the offset of the record's mark for 6 to 12 and 17, and the sheet's length for 13 and 14.
- * The first ground met is the answer.
+ * The number of an answer: 0, or the ground on which the sheet is refused. The place is 0 for 1 to 5,
+ * 16 and 18, the offset of the record's mark for 6 to 12 and 17, and the sheet's length for 13 and
+ * 14. The first ground met is the answer.
  *
  * A tally sheet is refused by 1 to 14. The plan is checked first, for 1 to 5 in turn; then the
  * records from left to right, each wholly before the next, for 6, 7, 12, 8, 9, 10, 11 in this order;
  * then the result buffer, for 13 and 14.
+ *
+ * A regrading is refused by these and 18. The sheet is checked first in the same way, its own plan
+ * and its records, for 1 to 12; then the second plan, for 18: its length is not HATMUYON_PLAN_SIZE,
+ * its mark not that of a plan, or one of 2 to 5 applies to it; then the result buffer, for 13 and 14.
  *
  * A mold sheet is refused by 1, 6, 7, 12, 13, 16 and 17. The opening is checked first, for 1 and 16;
  * then the records in the same way, for 6, 7, 12, 17 in this order; then the result buffer, for 13.
@@ -163,75 +184,83 @@ enum hatmuyon_standing {
  */
 enum hatmuyon_number {
     HATMUYON_ACCEPTED = 0,
-    HATMUYON_REFUSED_NO_PLAN = 1,                  /* shorter than 75 bytes, or first mark not 50 4C */
-    HATMUYON_REFUSED_BAD_DESIGNATED_GRADE = 2,     /* designated grade above 2 */
-    HATMUYON_REFUSED_PLAN_NUMBER_TOO_LARGE = 3,    /* an S, T or L above 9,999 */
-    HATMUYON_REFUSED_START_ABOVE_LIMIT = 4,        /* an S above its L */
-    HATMUYON_REFUSED_SMALLER_AT_LOWER_GRADE = 5,   /* in a class, T or T+L smaller at B than at A, or at C than at B */
-    HATMUYON_REFUSED_UNKNOWN_MARK = 6,             /* one byte left, or a mark not of a unit, redesignation or break */
-    HATMUYON_REFUSED_CUT_SHORT = 7,                /* record cut short */
-    HATMUYON_REFUSED_COUNT_TOO_LARGE = 8,          /* a count above 2,000 */
-    HATMUYON_REFUSED_BAD_UNIT_FIELD = 9,           /* prerequisite above 3 or recoverable above 1 */
-    HATMUYON_REFUSED_BAD_NEW_GRADE = 10,           /* new grade above 2 */
-    HATMUYON_REFUSED_SAME_GRADE = 11,              /* new grade equals the one designated just before this record */
-    HATMUYON_REFUSED_TOO_MANY_UNITS = 12,          /* a unit after the 1,000th */
-    HATMUYON_REFUSED_RESULT_BUFFER_TOO_SHORT = 13, /* result buffer shorter than 32 times the units */
-    HATMUYON_REFUSED_CUSUM_TOO_LARGE = 14,         /* a CuSum too large for two bytes; no sheet leads to it */
-    HATMUYON_REFUSED_BAD_LEVEL_ROW = 16,           /* level row above 5 */
-    HATMUYON_REFUSED_TOO_MANY_POSITIVE_FIELDS = 17 /* positive fields above 25 */
+    HATMUYON_REFUSED_NO_PLAN = 1,                   /* shorter than 75 bytes, or first mark not 50 4C */
+    HATMUYON_REFUSED_BAD_DESIGNATED_GRADE = 2,      /* designated grade above 2 */
+    HATMUYON_REFUSED_PLAN_NUMBER_TOO_LARGE = 3,     /* an S, T or L above 9,999 */
+    HATMUYON_REFUSED_START_ABOVE_LIMIT = 4,         /* an S above its L */
+    HATMUYON_REFUSED_SMALLER_AT_LOWER_GRADE = 5,    /* in a class, T or T+L smaller at B than at A, or at C than at B */
+    HATMUYON_REFUSED_UNKNOWN_MARK = 6,              /* one byte left, or a mark not of a unit, redesignation or break */
+    HATMUYON_REFUSED_CUT_SHORT = 7,                 /* record cut short */
+    HATMUYON_REFUSED_COUNT_TOO_LARGE = 8,           /* a count above 2,000 */
+    HATMUYON_REFUSED_BAD_UNIT_FIELD = 9,            /* prerequisite above 3 or recoverable above 1 */
+    HATMUYON_REFUSED_BAD_NEW_GRADE = 10,            /* new grade above 2 */
+    HATMUYON_REFUSED_SAME_GRADE = 11,               /* new grade equals the one designated just before this record */
+    HATMUYON_REFUSED_TOO_MANY_UNITS = 12,           /* a unit after the 1,000th */
+    HATMUYON_REFUSED_RESULT_BUFFER_TOO_SHORT = 13,  /* result buffer shorter than 32 times the units */
+    HATMUYON_REFUSED_CUSUM_TOO_LARGE = 14,          /* a CuSum too large for two bytes; no sheet leads to it */
+    HATMUYON_REFUSED_BAD_LEVEL_ROW = 16,            /* level row above 5 */
+    HATMUYON_REFUSED_TOO_MANY_POSITIVE_FIELDS = 17, /* positive fields above 25 */
+    HATMUYON_REFUSED_BAD_SECOND_PLAN = 18           /* second plan not exactly one plan record free of 2 to 5 */
 };
 
-/* What the grading answers. */
+/* What each function answers. */
 struct hatmuyon_answer {
     uint32_t number; /* an enum hatmuyon_number */
     size_t units;    /* accepted: the sample units, which is the number of result records; refused: 0 */
-    size_t offset;   /* accepted: the sheet's length; refused: the place in the sheet */
+    size_t offset;   /* accepted: the sheet's length; refused: the place, see above */
 };
 
 /*
- * Either function needs at most 2 KiB of stack, its return address among them. This is measured and
- * not proved: hatmuyon_grade, disassembled, takes about 900 bytes, in frames of fixed size and
- * without recursion, and a test of bindings/rust fails if either takes more than this of a painted
- * stack.
+ * Each function needs at most 2 KiB of stack, its return address among them. This is measured and
+ * not proved: hatmuyon_grade, disassembled, takes about 1,600 bytes and hatmuyon_regrade about 900,
+ * in frames of fixed size and without recursion, and a test of bindings/rust fails if one takes more
+ * than this of a painted stack.
  */
 #define HATMUYON_STACK_SIZE 2048
 
 /*
- * hatmuyon_grade grades a tally sheet, hatmuyon_grade_mold a mold sheet, into a result buffer: one
- * result record for each sample unit, in their order. The size of a result record, below, is
- * HATMUYON_RESULT_SIZE, and for a mold sheet HATMUYON_MOLD_RESULT_SIZE.
+ * hatmuyon_grade grades a tally sheet, hatmuyon_grade_mold a mold sheet, and hatmuyon_regrade a
+ * recorded tally sheet under the second plan `plan`, into a result buffer: one result record for each
+ * sample unit, in their order. The size of a result record, below, is HATMUYON_RESULT_SIZE, and for a
+ * mold sheet HATMUYON_MOLD_RESULT_SIZE.
  *
  * The caller owes:
- *   - `sheet` may be read for `sheet_length` bytes, `results` may be read and written for
- *     `results_length` bytes;
- *   - neither pointer is null, also where its length is 0;
- *   - the two buffers do not overlap;
- *   - during the call no other thread writes to the sheet, and none reads or writes the results.
- * Nothing is owed of the bytes: any sheet may be passed, and any result buffer.
+ *   - `sheet` may be read for `sheet_length` bytes and `plan` for `plan_length` bytes, `results` may
+ *     be read and written for `results_length` bytes;
+ *   - no pointer is null, also where its length is 0;
+ *   - the results overlap neither the sheet nor the plan; these two are only read, and may overlap
+ *     each other;
+ *   - during the call no other thread writes to the sheet or the plan, and none reads or writes the
+ *     results.
+ * Nothing is owed of the bytes: any sheet may be passed, any second plan, and any result buffer.
  *
- * Either function promises:
- *   - it accepts the sheet, or refuses it by one of the numbers for such a sheet with the place, and
+ * Each function promises:
+ *   - it accepts the sheet, or refuses it by one of the numbers for this function with the place, and
  *     refuses none to which no ground applies;
  *   - refused: every byte of `results` is kept;
  *   - accepted: the first size * units bytes of `results` are the result records, and every byte
  *     behind them is kept;
- *   - no byte of the sheet is changed, no other memory is touched but the stack, nothing is
- *     allocated, and nothing is kept from one call to the next;
+ *   - no byte of the sheet or the plan is changed, no other memory is touched but the stack, nothing
+ *     is allocated, and nothing is kept from one call to the next;
  *   - it always returns.
  */
 struct hatmuyon_answer hatmuyon_grade(const uint8_t *sheet, size_t sheet_length,
                                       uint8_t *results, size_t results_length);
 struct hatmuyon_answer hatmuyon_grade_mold(const uint8_t *sheet, size_t sheet_length,
                                            uint8_t *results, size_t results_length);
+struct hatmuyon_answer hatmuyon_regrade(const uint8_t *sheet, size_t sheet_length,
+                                        const uint8_t *plan, size_t plan_length,
+                                        uint8_t *results, size_t results_length);
 
 /*
- * The same two, but where a length is 0 nothing is owed of its pointer: it may be null, as that of
+ * The same three, but where a length is 0 nothing is owed of its pointer: it may be null, as that of
  * an empty vector in C++ may be. The address of a local byte is passed on in its place.
  *
  * Where a length is not 0, all is owed that is asked above: the pointer is not null and valid for
- * its length, the two buffers do not overlap, and other threads keep away as said there. The
- * promises are the same: a sheet of length 0 is refused by number 1, and a result buffer of length 0
- * is long enough for a sheet without a unit.
+ * its length, the results overlap no other buffer, and other threads keep away as said there. The
+ * promises are the same: a sheet of length 0 is refused by number 1, a second plan of length 0 by 18
+ * if the sheet is not refused by 1 to 12, and a result buffer of length 0 is long enough for a sheet
+ * without a unit.
  */
 static inline struct hatmuyon_answer hatmuyon_grade_nullable(const uint8_t *sheet,
                                                              size_t sheet_length, uint8_t *results,
@@ -252,6 +281,20 @@ static inline struct hatmuyon_answer hatmuyon_grade_mold_nullable(const uint8_t 
 
     return hatmuyon_grade_mold(sheet_length == 0 ? &no_byte : sheet, sheet_length,
                                results_length == 0 ? &no_byte : results, results_length);
+}
+
+static inline struct hatmuyon_answer hatmuyon_regrade_nullable(const uint8_t *sheet,
+                                                               size_t sheet_length,
+                                                               const uint8_t *plan,
+                                                               size_t plan_length,
+                                                               uint8_t *results,
+                                                               size_t results_length)
+{
+    uint8_t no_byte = 0;
+
+    return hatmuyon_regrade(sheet_length == 0 ? &no_byte : sheet, sheet_length,
+                            plan_length == 0 ? &no_byte : plan, plan_length,
+                            results_length == 0 ? &no_byte : results, results_length);
 }
 
 #ifdef __cplusplus

@@ -1,5 +1,5 @@
-//! The boundary as `include/hatmuyon.h` declares it. [`grade`](crate::grade) and
-//! [`grade_mold`](crate::grade_mold) are the safe ways in.
+//! The boundary as `include/hatmuyon.h` declares it. [`grade`](crate::grade),
+//! [`grade_mold`](crate::grade_mold) and [`regrade`](crate::regrade) are the safe ways in.
 
 /// Offset of the production code in a result record, 2 bytes with the high byte first.
 pub const RESULT_CODE: usize = 2;
@@ -33,8 +33,8 @@ pub const MOLD_RESULT_MET: usize = 2;
 /// Offset of the CuSum of positive fields, 2 bytes, tenths.
 pub const MOLD_RESULT_CUSUM: usize = 3;
 
-/// Bytes of stack that [`hatmuyon_grade`] and [`hatmuyon_grade_mold`] need at most; the header says
-/// how they were measured.
+/// Bytes of stack that [`hatmuyon_grade`], [`hatmuyon_grade_mold`] and [`hatmuyon_regrade`] need at
+/// most; the header says how they were measured.
 pub const STACK_SIZE: usize = 2048;
 
 /// `struct hatmuyon_answer`.
@@ -46,7 +46,8 @@ pub struct Answer {
     pub number: u32,
     /// Accepted: the number of sample units. Refused: 0.
     pub units: usize,
-    /// Accepted: the sheet's length. Refused: the place in the sheet.
+    /// Accepted: the sheet's length. Refused: the place, which is that of a
+    /// [`Refusal`](crate::Refusal), or of a [`MoldRefusal`](crate::MoldRefusal) for a mold sheet.
     pub offset: usize,
 }
 
@@ -82,8 +83,8 @@ extern "C" {
     ///
     /// # Safety
     ///
-    /// As for [`hatmuyon_grade`]; `plan` must be valid for reads of `plan_length` bytes in the same
-    /// way, and may overlap the sheet, but not the results.
+    /// As for [`hatmuyon_grade`]. What is asked of the sheet is asked of `plan`, with `plan_length`
+    /// bytes, too: it may overlap the sheet, but not the results.
     pub fn hatmuyon_regrade(
         sheet: *const u8,
         sheet_length: usize,

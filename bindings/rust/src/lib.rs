@@ -1,5 +1,6 @@
 //! Grades the tally sheet of an on-line inspection, and the mold sheet of a tomato line, under the
-//! USDA cumulative sum plan, File Code 120 A-6 of August 1978.
+//! USDA cumulative sum plan, File Code 120 A-6 of August 1978; and a recorded tally sheet again, under
+//! a second plan.
 //!
 //! A tally sheet is bytes: a plan record, and then sample units, redesignations and breaks in any
 //! order. `include/hatmuyon.h` describes them. [`grade`] takes any bytes, and either grades the sheet
@@ -40,9 +41,13 @@
 //! # Ok::<(), hatmuyon::Refusal>(())
 //! ```
 //!
-//! [`grade_mold`] does the same with a mold sheet, which counts positive fields. They and defects are
-//! never to be added or compared, and neither are their CuSums; records, refusals and grounds of the
-//! two sheets are of types apart.
+//! [`regrade`] grades a recorded tally sheet again under a second plan record, that of a new buyer. Its
+//! records, refusals and grounds are those of [`grade`], with one ground more,
+//! [`Ground::BadSecondPlan`].
+//!
+//! [`grade_mold`] does the same as [`grade`] with a mold sheet, which counts positive fields. They and
+//! defects are never to be added or compared, and neither are their CuSums; records, refusals and
+//! grounds of the two sheets are of types apart.
 //!
 //! The grading itself is the proved library `libhatmuyon.a`, which `rt staticlib hatmuyon` writes
 //! (x86-64). The build links it from target/staticlib of the repository, or from the folder that
@@ -71,10 +76,12 @@ use std::slice::ChunksExact;
 
 pub mod ffi;
 mod mold;
+mod regrade;
 
 pub use mold::{grade_mold, GradedMold, MoldGround, MoldRecord, MoldRefusal};
 pub use mold::{MOLD_LEVELS, MOLD_OPENING_SIZE, MOLD_RESULT_SIZE, MOLD_UNIT_SIZE};
 pub use mold::{MOLD_RESULT_MARK, MOLD_SHEET_MARK, MOLD_UNIT_MARK, MOST_POSITIVE_FIELDS};
+pub use regrade::regrade;
 use sealed::ResultRecord;
 
 /// The version of the crate, which is `HATMUYON_VERSION` of the header: raised with each change of a
@@ -327,7 +334,8 @@ impl fmt::Display for Grade {
     }
 }
 
-/// How a unit stands to the designated plan.
+/// How a unit stands to the designated plan; in a regrading, to that of the second plan, where it met
+/// or failed and there is no step 3.
 #[derive(Clone, Copy, Debug, PartialEq, Eq, Hash)]
 #[repr(u8)]
 pub enum Standing {
@@ -352,7 +360,7 @@ impl Standing {
     }
 }
 
-/// A refused tally sheet: the number of the ground, and the place.
+/// A refused tally sheet, or a refused regrading of one: the number of the ground, and the place.
 ///
 /// ```
 /// let refusal = hatmuyon::grade(&[], &mut []).unwrap_err();
@@ -363,10 +371,11 @@ impl Standing {
 /// ```
 #[derive(Clone, Copy, Debug, PartialEq, Eq, Hash)]
 pub struct Refusal {
-    /// The number of the first ground met, 1 to 14 from an archive of this version.
+    /// The number of the first ground met. From an archive of this version it is 1 to 14, and from
+    /// [`regrade`] also 18.
     pub number: u32,
-    /// 0 for a ground in the plan, the offset of the record's mark for one in a record, and the
-    /// sheet's length for one in the result buffer.
+    /// 0 for a ground in the plan or in the second plan, the offset of the record's mark for one in a
+    /// record, and the sheet's length for one in the result buffer.
     pub offset: usize,
 }
 
@@ -400,11 +409,11 @@ fn say_refused(
     }
 }
 
-/// A ground on which a tally sheet is refused.
+/// A ground on which a tally sheet, or a regrading of one, is refused.
 ///
 /// The plan is checked first, for grounds 1 to 5 in turn; then the records from left to right, each
-/// wholly before the next, for 6, 7, 12, 8, 9, 10, 11 in this order; then the result buffer. More
-/// grounds may follow.
+/// wholly before the next, for 6, 7, 12, 8, 9, 10, 11 in this order; then, by [`regrade`] alone, the
+/// second plan, for 18; then the result buffer. More grounds may follow.
 #[derive(Clone, Copy, Debug, PartialEq, Eq, Hash)]
 #[repr(u32)]
 #[non_exhaustive]
@@ -437,6 +446,10 @@ pub enum Ground {
     ResultBufferTooShort = 13,
     /// A CuSum is too large for two bytes; no sheet leads to it.
     CusumTooLarge = 14,
+    /// The second plan is not exactly one plan record free of 2 to 5: it has another length than
+    /// [`PLAN_SIZE`] or another mark than [`PLAN_MARK`], or one of these grounds applies to it. From
+    /// [`regrade`] alone, never from [`grade`].
+    BadSecondPlan = 18,
 }
 
 impl Ground {
@@ -456,9 +469,10 @@ impl Ground {
         Ground::TooManyUnits,
         Ground::ResultBufferTooShort,
         Ground::CusumTooLarge,
+        Ground::BadSecondPlan,
     ];
 
-    /// The number of the refusal, 1 to 14.
+    /// The number of the refusal, 1 to 14 or 18.
     pub fn number(self) -> u32 {
         self as u32
     }
@@ -495,6 +509,7 @@ impl fmt::Display for Ground {
             Ground::TooManyUnits => "a unit after the 1,000th",
             Ground::ResultBufferTooShort => "result buffer shorter than 32 times the units",
             Ground::CusumTooLarge => "a CuSum too large for two bytes",
+            Ground::BadSecondPlan => "second plan not exactly one plan record free of 2 to 5",
         })
     }
 }
@@ -519,7 +534,7 @@ mod tests {
 
     #[test]
     fn a_number_of_the_other_sheet() {
-        for number in [2, 5, 8, 11, 14] {
+        for number in [2, 5, 8, 11, 14, 18] {
             assert_eq!(MoldRefusal { number, offset: 0 }.ground(), None);
         }
         for number in [16, 17] {

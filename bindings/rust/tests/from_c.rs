@@ -10,6 +10,7 @@ use std::process::Command;
 
 const HEADER: &str = include_str!("../../../include/hatmuyon.h");
 const LAYOUT: &str = include_str!("layout.c");
+const FFI: &str = include_str!("../src/ffi.rs");
 
 /// What a program of this folder prints, compiled by a compiler with this standard of its language.
 fn printed_by(source: &str, compiler: &str, standard: &str, arguments: &[String]) -> String {
@@ -129,6 +130,46 @@ fn every_name_is_compared() {
     assert_eq!(names(LAYOUT), names(HEADER));
 }
 
+/// Functions and their parameters, each with its type, by the words between two marks of a
+/// declaration. `read` takes a parameter apart.
+fn declarations<'t>(
+    text: &'t str,
+    (before, after): (&str, &str),
+    read: impl Fn(&'t str) -> (&'t str, &'t str),
+) -> BTreeMap<&'t str, Vec<(&'t str, &'t str)>> {
+    text.split(before)
+        .skip(1)
+        .filter_map(|rest| rest.split_once(after))
+        .filter_map(|(declaration, _)| declaration.split_once('('))
+        .map(|(name, parameters)| {
+            let parameters = parameters.split(',').map(str::trim).filter(|word| !word.is_empty());
+            (name, parameters.map(&read).collect())
+        })
+        .collect()
+}
+
+/// The functions are declared here as in the header.
+#[test]
+fn same_declarations_as_in_c() {
+    let in_c = declarations(HEADER, ("\nstruct hatmuyon_answer ", ");"), |parameter| {
+        let at = parameter.rfind([' ', '*']).expect("no type") + 1;
+        let (c_type, name) = parameter.split_at(at);
+        let rust_type = match c_type.trim_end() {
+            "const uint8_t *" => "*const u8",
+            "uint8_t *" => "*mut u8",
+            "size_t" => "usize",
+            other => panic!("the type {other}"),
+        };
+        (name, rust_type)
+    });
+    let here = declarations(FFI, ("\n    pub fn ", ") -> Answer;"), |parameter| {
+        parameter.split_once(": ").expect("no type")
+    });
+    assert_eq!(in_c, here);
+    let names: Vec<&str> = in_c.into_keys().collect();
+    assert_eq!(names, ["hatmuyon_grade", "hatmuyon_grade_mold", "hatmuyon_regrade"]);
+}
+
 #[test]
 fn null_pointers_in_c() {
     assert_eq!(printed_by("nullable.c", "cc", "c99", &[]), "");
@@ -141,10 +182,11 @@ fn empty_vectors_in_cpp() {
 
 #[test]
 fn stack_at_most_that_of_the_header() {
-    let sheets = ["peach.sheet", "pea.sheet", "damaged.sheet", "tomato.mold"]
-        .map(|name| format!("../../examples/{name}"));
-    let text = printed_by("stack.c", "cc", "c99", &sheets);
+    let [plan, sheets @ ..] =
+        ["buyer.plan", "buyer.sheet", "peach.sheet", "pea.sheet", "damaged.sheet", "tomato.mold"]
+            .map(|name| format!("../../examples/{name}"));
+    let text = printed_by("stack.c", "cc", "c99", &[vec![plan], sheets.to_vec()].concat());
     let used: Vec<usize> = text.lines().map(|line| line.parse().expect("not a number")).collect();
-    assert_eq!(used.len(), 2 * sheets.len());
+    assert_eq!(used.len(), 3 * sheets.len());
     assert!(used.iter().all(|&used| used <= ffi::STACK_SIZE), "{used:?} bytes of stack");
 }

@@ -6,27 +6,12 @@ use hatmuyon::{
     grade_mold, MoldGround, MoldRecord, MoldRefusal, MOLD_LEVELS, MOST_POSITIVE_FIELDS,
 };
 use hatmuyon::{MOLD_RESULT_SIZE, MOST_UNITS, PLAN_SIZE, RESULT_SIZE, UNIT_SIZE};
+use sheets::{plan, refusals, sheet, unit, BREAK, PEA, PEACH};
 
-const PEACH: &[u8] = include_bytes!("../../../examples/peach.sheet");
-const PEA: &[u8] = include_bytes!("../../../examples/pea.sheet");
+mod sheets;
+
 const DAMAGED: &[u8] = include_bytes!("../../../examples/damaged.sheet");
 const TOMATO: &[u8] = include_bytes!("../../../examples/tomato.mold");
-
-const BREAK: [u8; 2] = [0x42, 0x4B];
-
-/// A plan with A designated; S is 0, T and L are 5.0 in every grade and class.
-fn plan() -> Vec<u8> {
-    let mut plan = vec![0x50, 0x4C, 0];
-    plan.extend([0, 0, 0, 50, 0, 50].repeat(12));
-    plan
-}
-
-/// A plan with one of its 36 numbers changed: S, T or L of a class of a grade.
-fn plan_with(grade: usize, class: usize, number: usize, value: u16) -> Vec<u8> {
-    let mut plan = plan();
-    put(&mut plan, 3 + 24 * grade + 6 * class + 2 * number, value);
-    plan
-}
 
 /// A plan with A designated and these S, T and L of total at A, B and C. In the other classes they
 /// are 0, and a unit with minor defects only is never over.
@@ -37,26 +22,6 @@ fn plan_of_total(grades: [[u16; 3]; 3]) -> Vec<u8> {
         plan.extend(numbers.map(u16::to_be_bytes).concat());
     }
     plan
-}
-
-fn put(bytes: &mut [u8], at: usize, value: u16) {
-    bytes[at..at + 2].copy_from_slice(&value.to_be_bytes());
-}
-
-/// A sample unit with this code and these counts of critical, severe, major and minor.
-fn unit(code: u16, counts: [u16; 4]) -> Vec<u8> {
-    let [a, b, c, d] = counts;
-    let mut unit = [0x5355, code, a, b, c, d].map(u16::to_be_bytes).concat();
-    unit.extend([0, 0]);
-    unit
-}
-
-fn redesignation(new: u8) -> Vec<u8> {
-    vec![0x52, 0x44, new]
-}
-
-fn sheet(records: &[&[u8]]) -> Vec<u8> {
-    [plan(), records.concat()].concat()
 }
 
 /// The records of a sheet that is accepted.
@@ -213,52 +178,17 @@ fn no_unit() {
 
 #[test]
 fn every_refusal() {
-    let ok = unit(1, [0, 1, 2, 3]);
-    let with = |at: usize, value: u8| {
-        let mut unit = ok.clone();
-        unit[at] = value;
-        unit
-    };
-    let full = ok.repeat(MOST_UNITS);
-    let behind_full = PLAN_SIZE + full.len();
-    let mut not_a_plan = plan();
-    not_a_plan[1] = 0x4D;
-    let mut designated = plan();
-    designated[2] = 3;
-    let cases: Vec<(u32, Vec<u8>, usize)> = vec![
-        (1, plan()[..74].to_vec(), 0),
-        (1, not_a_plan, 0),
-        (2, designated, 0),
-        (3, plan_with(2, 3, 1, 10_000), 0),
-        (4, plan_with(0, 1, 0, 51), 0),
-        (5, plan_with(1, 2, 1, 49), 0),
-        (5, plan_with(2, 0, 2, 49), 0),
-        (6, sheet(&[&ok, &[0x53]]), 89),
-        (6, sheet(&[&ok, b"PL"]), 89),
-        (7, sheet(&[&ok, &ok[..13]]), 89),
-        (7, sheet(&[&BREAK, &[0x52, 0x44]]), 77),
-        (8, sheet(&[&ok, &unit(1, [2001, 0, 0, 0])]), 89),
-        (8, sheet(&[&unit(1, [0, 2001, 0, 0])]), 75),
-        (8, sheet(&[&unit(1, [0, 0, 2001, 0])]), 75),
-        (8, sheet(&[&unit(1, [0, 0, 0, 2001])]), 75),
-        (9, sheet(&[&ok, &with(12, 4)]), 89),
-        (9, sheet(&[&ok, &with(13, 2)]), 89),
-        (10, sheet(&[&redesignation(3)]), 75),
-        (11, sheet(&[&redesignation(0)]), 75),
-        (11, sheet(&[&redesignation(2), &ok, &redesignation(2)]), 92),
-        (12, sheet(&[&full, &ok]), behind_full),
-        (12, sheet(&[&full, &with(12, 4)]), behind_full),
-    ];
+    let cases = refusals();
     for (number, sheet, offset) in &cases {
         for room in [0, RESULT_SIZE * MOST_UNITS] {
             assert_eq!(refused(sheet, room), (*number, *offset));
         }
     }
-    let two = sheet(&[&ok, &ok]);
+    let two = sheet(&[&unit(1, [0, 1, 2, 3]), &unit(1, [0; 4])]);
     for room in [0, 1, RESULT_SIZE, 2 * RESULT_SIZE - 1] {
         assert_eq!(refused(&two, room), (13, PLAN_SIZE + 2 * UNIT_SIZE));
     }
-    // Every ground but 14, to which no sheet leads.
+    // Every ground but 14, to which no sheet leads, and 18, which is that of a regrading.
     let mut met: Vec<u32> = cases.iter().map(|(number, _, _)| *number).collect();
     met.push(13);
     met.sort();
@@ -317,12 +247,15 @@ fn records_from_both_ends() {
 
 #[test]
 fn grounds_and_errors() {
-    for (number, &ground) in (1..).zip(Ground::ALL) {
+    for (number, &ground) in (1..=14).chain([18]).zip(Ground::ALL) {
         assert_eq!(ground.number(), number);
         assert_eq!(Ground::from_number(number), Some(ground));
         assert!(!ground.to_string().is_empty());
     }
-    assert_eq!(Ground::from_number(15), None);
+    assert_eq!(Ground::ALL.len(), 15);
+    for number in [0, 15, 16, 17, 19] {
+        assert_eq!(Ground::from_number(number), None);
+    }
     let error: Box<dyn std::error::Error> = Box::new(grade(DAMAGED, &mut []).unwrap_err());
     assert_eq!(error.to_string(), "refused 8 at offset 103: a count above 2,000");
 }

@@ -1,16 +1,18 @@
 /*
- * hatmuyon_grade_nullable and hatmuyon_grade_mold_nullable with null pointers and, compiled as C++,
- * with empty vectors. The first thing that is not as it should be is printed, and the exit status is
- * 1.
+ * hatmuyon_grade_nullable, hatmuyon_grade_mold_nullable and hatmuyon_regrade_nullable with null
+ * pointers and, compiled as C++, with empty vectors. The first thing that is not as it should be is
+ * printed, and the exit status is 1.
  *
- * The header's functions call watched_grade and watched_grade_mold here, which look at the pointers
- * and call the archive.
+ * The header's functions call watched_grade, watched_grade_mold and watched_regrade here, which look
+ * at the pointers and call the archive.
  */
 #define hatmuyon_grade watched_grade
 #define hatmuyon_grade_mold watched_grade_mold
+#define hatmuyon_regrade watched_regrade
 #include "hatmuyon.h"
 #undef hatmuyon_grade
 #undef hatmuyon_grade_mold
+#undef hatmuyon_regrade
 
 #include <stdio.h>
 #include <stdlib.h>
@@ -20,6 +22,7 @@
 #endif
 
 static const uint8_t *last_sheet;
+static const uint8_t *last_plan;
 static uint8_t *last_results;
 
 static void must(int holds, const char *what, int line)
@@ -40,6 +43,9 @@ typedef struct hatmuyon_answer grading(const uint8_t *sheet, size_t sheet_length
                                        uint8_t *results, size_t results_length);
 
 grading hatmuyon_grade, hatmuyon_grade_mold;
+struct hatmuyon_answer hatmuyon_regrade(const uint8_t *sheet, size_t sheet_length,
+                                        const uint8_t *plan, size_t plan_length,
+                                        uint8_t *results, size_t results_length);
 
 static struct hatmuyon_answer watched(grading *archive, const uint8_t *sheet, size_t sheet_length,
                                       uint8_t *results, size_t results_length)
@@ -61,6 +67,19 @@ struct hatmuyon_answer watched_grade_mold(const uint8_t *sheet, size_t sheet_len
                                           uint8_t *results, size_t results_length)
 {
     return watched(hatmuyon_grade_mold, sheet, sheet_length, results, results_length);
+}
+
+struct hatmuyon_answer watched_regrade(const uint8_t *sheet, size_t sheet_length,
+                                       const uint8_t *plan, size_t plan_length,
+                                       uint8_t *results, size_t results_length)
+{
+    MUST(sheet != NULL);
+    MUST(plan != NULL);
+    MUST(results != NULL);
+    last_sheet = sheet;
+    last_plan = plan;
+    last_results = results;
+    return hatmuyon_regrade(sheet, sheet_length, plan, plan_length, results, results_length);
 }
 
 #ifdef __cplusplus
@@ -114,6 +133,58 @@ static void try_with(grading *nullable, grading *archive, const uint8_t *sheet, 
 #endif
 }
 
+/* Tries hatmuyon_regrade_nullable on a sheet of one unit, whose own plan is the second plan, too. */
+static void try_regrade(const uint8_t *sheet, size_t whole)
+{
+    enum { PLAN = HATMUYON_PLAN_SIZE, RESULT = HATMUYON_RESULT_SIZE };
+    uint8_t plan[PLAN], results[RESULT], filled[RESULT], expected[RESULT];
+
+    memcpy(plan, sheet, PLAN);
+    memset(filled, 0xEE, RESULT);
+    memset(results, 0xEE, RESULT);
+    MUST(is(hatmuyon_regrade(sheet, whole, plan, PLAN, expected, RESULT), 0, 1, whole));
+
+    MUST(is(hatmuyon_regrade_nullable(NULL, 0, NULL, 0, NULL, 0), 1, 0, 0));
+    MUST(is(hatmuyon_regrade_nullable(NULL, 0, plan, PLAN, results, RESULT), 1, 0, 0));
+    MUST(last_plan == plan && last_results == results);
+    MUST(is(hatmuyon_regrade_nullable(sheet, whole, NULL, 0, results, RESULT), 18, 0, 0));
+    MUST(last_sheet == sheet && last_results == results);
+    MUST(is(hatmuyon_regrade_nullable(sheet, whole, NULL, 0, NULL, 0), 18, 0, 0));
+    MUST(is(hatmuyon_regrade_nullable(sheet, PLAN, plan, PLAN, NULL, 0), 0, 0, PLAN));
+    MUST(last_sheet == sheet && last_plan == plan);
+    MUST(is(hatmuyon_regrade_nullable(sheet, whole, plan, PLAN, NULL, 0), 13, 0, whole));
+    /* A pointer whose length is 0 need not be null. */
+    MUST(is(hatmuyon_regrade_nullable(sheet, 0, plan, 0, results, 0), 1, 0, 0));
+    MUST(last_sheet != sheet && last_plan != plan && last_results != results);
+    MUST(memcmp(results, filled, RESULT) == 0);
+    MUST(is(hatmuyon_regrade_nullable(sheet, whole, plan, PLAN, results, RESULT), 0, 1, whole));
+    MUST(last_sheet == sheet && last_plan == plan && last_results == results);
+    MUST(memcmp(results, expected, RESULT) == 0);
+    /* Sheet and plan may overlap. */
+    memset(results, 0xEE, RESULT);
+    MUST(is(hatmuyon_regrade_nullable(sheet, whole, sheet, PLAN, results, RESULT), 0, 1, whole));
+    MUST(memcmp(results, expected, RESULT) == 0);
+
+#ifdef __cplusplus
+    const std::vector<uint8_t> nothing;
+    const std::vector<uint8_t> vector_sheet(sheet, sheet + whole);
+    const std::vector<uint8_t> vector_plan(plan, plan + PLAN);
+    std::vector<uint8_t> no_results;
+    std::vector<uint8_t> vector_results(RESULT);
+    const auto regrade = [](const std::vector<uint8_t> &from, const std::vector<uint8_t> &by,
+                            std::vector<uint8_t> &to) {
+        return hatmuyon_regrade_nullable(from.data(), from.size(), by.data(), by.size(),
+                                         to.data(), to.size());
+    };
+    MUST(is(regrade(nothing, nothing, no_results), 1, 0, 0));
+    MUST(is(regrade(nothing, vector_plan, vector_results), 1, 0, 0));
+    MUST(is(regrade(vector_sheet, nothing, vector_results), 18, 0, 0));
+    MUST(is(regrade(vector_sheet, vector_plan, no_results), 13, 0, whole));
+    MUST(is(regrade(vector_sheet, vector_plan, vector_results), 0, 1, whole));
+    MUST(memcmp(vector_results.data(), expected, RESULT) == 0);
+#endif
+}
+
 int main(void)
 {
     enum { PLAN = HATMUYON_PLAN_SIZE, TALLY = PLAN + HATMUYON_UNIT_SIZE };
@@ -127,5 +198,6 @@ int main(void)
     try_with(hatmuyon_grade_nullable, hatmuyon_grade, tally, PLAN, TALLY, HATMUYON_RESULT_SIZE);
     try_with(hatmuyon_grade_mold_nullable, hatmuyon_grade_mold, mold, OPENING, MOLD,
              HATMUYON_MOLD_RESULT_SIZE);
+    try_regrade(tally, TALLY);
     return 0;
 }

@@ -1,6 +1,6 @@
 /*
- * Prints the bytes of stack that the two gradings take, hatmuyon_grade and then hatmuyon_grade_mold,
- * for each sheet named: stack FILE...
+ * Prints the bytes of stack that each grading takes, hatmuyon_grade, hatmuyon_grade_mold and then
+ * hatmuyon_regrade under the plan named, for each sheet named: stack PLANFILE FILE...
  *
  * A thread paints the unused part of its stack, grades, and looks how far down the paint is gone. It
  * counts from its own frame, so that the figure is that of the grading and a little more.
@@ -21,8 +21,10 @@ static union {
 } stack;
 static uint8_t sheet[65536];
 static size_t sheet_length;
+static uint8_t plan[65536];
+static size_t plan_length;
 static uint8_t results[HATMUYON_RESULT_SIZE * HATMUYON_MOST_UNITS];
-static struct hatmuyon_answer (*grading)(const uint8_t *, size_t, uint8_t *, size_t);
+static enum { GRADE, GRADE_MOLD, REGRADE, GRADINGS } grading;
 static size_t used;
 
 static void *grade(void *nothing)
@@ -32,7 +34,12 @@ static void *grade(void *nothing)
 
     for (byte = stack.bytes; byte < frame - UNPAINTED; byte++)
         *byte = PAINT;
-    grading(sheet, sheet_length, results, sizeof results);
+    if (grading == GRADE)
+        hatmuyon_grade(sheet, sheet_length, results, sizeof results);
+    else if (grading == GRADE_MOLD)
+        hatmuyon_grade_mold(sheet, sheet_length, results, sizeof results);
+    else
+        hatmuyon_regrade(sheet, sheet_length, plan, plan_length, results, sizeof results);
     for (byte = stack.bytes; *byte == PAINT && byte < frame - UNPAINTED; byte++)
         ;
     used = (size_t)(frame - byte);
@@ -50,13 +57,13 @@ static int measure(void)
            pthread_join(thread, NULL) == 0;
 }
 
-static int read_sheet(const char *name)
+static int read_file(const char *name, uint8_t *bytes, size_t room, size_t *length)
 {
     FILE *file = fopen(name, "rb");
 
     if (file == NULL)
         return 0;
-    sheet_length = fread(sheet, 1, sizeof sheet, file);
+    *length = fread(bytes, 1, room, file);
     fclose(file);
     return 1;
 }
@@ -64,12 +71,15 @@ static int read_sheet(const char *name)
 int main(int argc, char **argv)
 {
     size_t most = 0;
-    int file, mold;
+    int file;
 
-    for (file = 1; file < argc; file++)
-        for (mold = 0; mold <= 1; mold++) {
-            grading = mold ? hatmuyon_grade_mold : hatmuyon_grade;
-            if (!read_sheet(argv[file]) || !measure()) {
+    if (argc < 2 || !read_file(argv[1], plan, sizeof plan, &plan_length)) {
+        printf("no plan\n");
+        return 1;
+    }
+    for (file = 2; file < argc; file++)
+        for (grading = GRADE; grading < GRADINGS; grading++) {
+            if (!read_file(argv[file], sheet, sizeof sheet, &sheet_length) || !measure()) {
                 printf("cannot measure %s\n", argv[file]);
                 return 1;
             }
