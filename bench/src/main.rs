@@ -6,12 +6,13 @@
 //! table has the median over the rounds and, as other work on the machine slows some of them, the
 //! least. Before a sheet is timed the contenders must agree on it; before any is, the library and
 //! the tuned grader must agree on seeded random sheets, refused ones among them. So it is with mold
-//! sheets, which each contender grades by a function of their own.
+//! sheets and with regradings, for each of which every contender has a function of its own.
 
 use grader::generate::{self, table, Dice, PEACH};
+use grader::generate_regrade::regrade_case;
 use grader::sheet::{Record, Sheet, Unit};
 use hatmuyon::ffi::{
-    MOLD_RESULT_MET, RESULT_CODE, RESULT_CODE_GRADE, RESULT_CRITICAL_OVERSHOOT,
+    hatmuyon_regrade, MOLD_RESULT_MET, RESULT_CODE, RESULT_CODE_GRADE, RESULT_CRITICAL_OVERSHOOT,
     RESULT_PORTION_GRADE, RESULT_STANDING,
 };
 use hatmuyon::{MOLD_LEVELS, MOLD_RESULT_SIZE, MOLD_UNIT_SIZE, MOST_POSITIVE_FIELDS};
@@ -51,6 +52,21 @@ fn grader_mold(sheet: &[u8], results: &mut [u8]) -> Answer {
     (answer.number, answer.units, answer.offset)
 }
 
+fn library_regrade(sheet: &[u8], plan: &[u8], results: &mut [u8]) -> Answer {
+    let (place, room) = (results.as_mut_ptr(), results.len());
+    // Safety: a slice's pointer is not null and valid for its length, and a slice that may be written
+    // overlaps no other.
+    let answer = unsafe {
+        hatmuyon_regrade(sheet.as_ptr(), sheet.len(), plan.as_ptr(), plan.len(), place, room)
+    };
+    (answer.number, answer.units, answer.offset)
+}
+
+fn grader_regrade(sheet: &[u8], plan: &[u8], results: &mut [u8]) -> Answer {
+    let answer = grader::regrade::regrade(sheet, plan, results);
+    (answer.number, answer.units, answer.offset)
+}
+
 /// The grader without its map: the code grades are found with the library's scheme of reading.
 fn grader_reads_alike(sheet: &[u8], results: &mut [u8]) -> Answer {
     let answer = grader::grade_but_codes(sheet, results);
@@ -65,6 +81,8 @@ fn tuned_reads_alike(sheet: &[u8], results: &mut [u8]) -> Answer {
     answer
 }
 
+/// Standings.
+const FAILED: u8 = 1;
 const RECOVERED: u8 = 3;
 /// In place of the code grade while the code is not graded.
 const UNGRADED: u8 = 255;
@@ -131,6 +149,22 @@ fn compare_mold() {
         assert!(
             outcome(&mut tuned::grade_mold) == outcome(&mut library_mold),
             "the tuned grader differs on the mold sheet of seed {seed}"
+        );
+    }
+}
+
+/// The same with random regradings.
+fn compare_regradings(tuned: &mut Tuned) {
+    for seed in 0..RANDOM_SHEETS {
+        let case = regrade_case(seed);
+        let outcome = |contender: Contender| {
+            let mut buffer = vec![seed as u8; case.room];
+            (contender(&case.sheet, &mut buffer), buffer)
+        };
+        let expected = outcome(&mut |sheet, results| library_regrade(sheet, &case.plan, results));
+        assert!(
+            outcome(&mut |sheet, results| tuned.regrade(sheet, &case.plan, results)) == expected,
+            "the tuned grader differs on the regrading of seed {seed}"
         );
     }
 }
@@ -247,10 +281,31 @@ fn with_breaks() -> Vec<Record> {
     records
 }
 
+/// A sheet with five codes, a break before every 50th unit and a redesignation before every 40th. Two
+/// units in a row of every ten fail B.
+fn to_regrade() -> Vec<Record> {
+    let mut records = Vec::new();
+    for i in 0..1000 {
+        if i % 50 == 49 {
+            records.push(Record::Break);
+        }
+        if i % 40 == 39 {
+            records.push(Record::Redesignation(if i % 80 == 39 { 1 } else { 0 }));
+        }
+        records.push(unit(i % 5, if (3..5).contains(&(i % 10)) { FAILS_B } else { MEETS }));
+    }
+    records
+}
+
 /// The bytes of a sheet under the peach plan, grade A designated.
 fn bytes(records: Vec<Record>) -> Vec<u8> {
     let table = table(PEACH);
     Sheet { designated: 0, table, records }.bytes()
+}
+
+/// The second plan: the peach plan, grade B designated.
+fn second_plan() -> Vec<u8> {
+    Sheet { designated: 1, table: table(PEACH), records: Vec::new() }.bytes()
 }
 
 /// A mold sheet with a level row and units of so many positive fields, all with one code.
@@ -294,6 +349,8 @@ fn main() {
     let mut table_by_code = Tuned::new();
     compare(&mut table_by_code);
     compare_mold();
+    let mut regrader = Tuned::new();
+    compare_regradings(&mut regrader);
     let mut tuned = |sheet: &[u8], results: &mut [u8]| table_by_code.grade(sheet, results);
     println!("The library beside the independent grader and the tuned one, {rounds} rounds, tally");
     println!(
@@ -303,7 +360,7 @@ fn main() {
     println!(
         "The library and the tuned grader agree on {RANDOM_SHEETS} random sheets, and on as many"
     );
-    println!("mold sheets.");
+    println!("mold sheets and regradings.");
     println!();
 
     head("sheet", "us");
@@ -344,6 +401,18 @@ fn main() {
         results.chunks_exact(MOLD_RESULT_SIZE).filter(|record| record[MOLD_RESULT_MET] == 0);
     assert_eq!((answer.0, failed.count()), (0, 200), "mold");
     row("1,000 mold units, every fifth fails", mold.map(|time| time.per(1000.0)));
+    let plan = second_plan();
+    let contenders: [Contender; 3] = [
+        &mut |sheet, results| library_regrade(sheet, &plan, results),
+        &mut |sheet, results| grader_regrade(sheet, &plan, results),
+        &mut |sheet, results| regrader.regrade(sheet, &plan, results),
+    ];
+    let (regrading, answer, results) =
+        times(contenders, &bytes(to_regrade()), 1000, RESULT_SIZE, rounds);
+    let failed =
+        results.chunks_exact(RESULT_SIZE).filter(|record| record[RESULT_STANDING] == FAILED);
+    assert_eq!((answer.0, failed.count()), (0, 200), "regrading");
+    row("1,000 units regraded, 5 codes, 200 fail", regrading.map(|time| time.per(1000.0)));
     println!();
     println!("(*) The grader's map and the tuned grader's table are left out. The code grades are");
     println!("    found over the result records, in the library's scheme: from each code's first");

@@ -4,12 +4,13 @@
 //! code of [`Tuned`], which is made once and left cleared after each sheet.
 //!
 //! What made it faster: a path of its own for a unit of each phase, the table apart from the state,
-//! no `map` of an array in the paths, which is not inlined, and CuSums and overshoots written eight
-//! bytes at a time.
+//! no `map` of an array in the paths, which is not inlined, CuSums and overshoots written eight bytes
+//! at a time, and a table that has every code by its type, so that none is looked for behind its end.
 //!
 //! Refusal 14 is left out: no limit of an accepted plan is too large for two bytes.
 //!
-//! A mold sheet is read twice in the same way, by [`grade_mold`].
+//! A regrading, by [`Tuned::regrade`], is checked in the same way; its one path takes in the worst
+//! grade by code as it writes. A mold sheet is read twice, too, by [`grade_mold`].
 
 use crate::Answer;
 use hatmuyon::ffi::{
@@ -190,6 +191,20 @@ fn best_lower(table: &Table, grade: u8, tenths: Tenths) -> u8 {
         .unwrap_or(SUBSTANDARD)
 }
 
+/// Takes the CuSums past a unit under a plan: whether it fails, and its overshoots.
+fn step(cusums: &mut Tenths, row: &Row, tenths: Tenths) -> (bool, Tenths) {
+    let (mut any, mut overshoots) = (0, [0; CLASSES]);
+    for class in 0..CLASSES {
+        let Numbers { tolerance, limit, .. } = row[class];
+        // Zero in place of a raw value below it, which is not above L either.
+        let raw = (cusums[class] + tenths[class] - tolerance).max(0);
+        cusums[class] = raw.min(limit);
+        overshoots[class] = raw - cusums[class];
+        any |= overshoots[class];
+    }
+    (any != 0, overshoots)
+}
+
 /// Where the grading stands before a record. The table, which is indexed, is not a part of it, so
 /// that all of it can be kept in registers.
 struct State {
@@ -225,20 +240,6 @@ impl State {
         }
     }
 
-    /// Takes the CuSums past a unit under the plan in force: whether it fails, and its overshoots.
-    fn step(&mut self, row: &Row, tenths: Tenths) -> (bool, Tenths) {
-        let (mut any, mut overshoots) = (0, [0; CLASSES]);
-        for class in 0..CLASSES {
-            let Numbers { tolerance, limit, .. } = row[class];
-            // Zero in place of a raw value below it, which is not above L either.
-            let raw = (self.cusums[class] + tenths[class] - tolerance).max(0);
-            self.cusums[class] = raw.min(limit);
-            overshoots[class] = raw - self.cusums[class];
-            any |= overshoots[class];
-        }
-        (any != 0, overshoots)
-    }
-
     /// Behind a unit that failed with this defect grade: the second of two in a row starts a lower plan.
     fn failed(&mut self, table: &Table, grade: u8) {
         match self.previous {
@@ -260,7 +261,7 @@ impl State {
     /// Grades a unit under the designated plan into its result record.
     fn grade_designated(&mut self, table: &Table, unit: &[u8], record: &mut [u8]) {
         let (plan, tenths) = (self.designated, tenths(unit));
-        let (fails, overshoots) = self.step(&table[usize::from(plan)], tenths);
+        let (fails, overshoots) = step(&mut self.cusums, &table[usize::from(plan)], tenths);
         if !fails {
             write(record, unit, plan, plan, MET, self.cusums, [0; CLASSES]);
             self.previous = None;
@@ -282,7 +283,7 @@ impl State {
     ) -> bool {
         let tenths = tenths(unit);
         let (fails, overshoots) = match table.get(usize::from(lower)) {
-            Some(row) => self.step(row, tenths),
+            Some(row) => step(&mut self.cusums, row, tenths),
             None => (false, [0; CLASSES]),
         };
         let grade = if fails { best_lower(table, lower, tenths) } else { lower };
@@ -401,12 +402,12 @@ pub fn grade_but_codes(sheet: &[u8], results: &mut [u8]) -> Answer {
 
 /// The grader with its table: the worst portion grade by code, zero between sheets.
 pub struct Tuned {
-    worst: Vec<u8>,
+    worst: Box<[u8; 1 << u16::BITS]>,
 }
 
 impl Tuned {
     pub fn new() -> Tuned {
-        Tuned { worst: vec![0; 1 << u16::BITS] }
+        Tuned { worst: Box::new([0; 1 << u16::BITS]) }
     }
 
     /// Grades a sheet into a result buffer.
@@ -417,18 +418,81 @@ impl Tuned {
     }
 
     fn grade_codes(&mut self, records: &mut [u8]) {
+        for record in records.chunks_exact(RESULT_SIZE) {
+            self.take_in(record);
+        }
+        self.write_code_grades(records);
+    }
+
+    /// Takes the portion grade of a record into the table.
+    fn take_in(&mut self, record: &[u8]) {
+        let worst = &mut self.worst[number(record, RESULT_CODE) as usize];
+        *worst = record[RESULT_PORTION_GRADE].max(*worst);
+    }
+
+    /// Writes the worst grade of each code, and clears the table.
+    fn write_code_grades(&mut self, records: &mut [u8]) {
         fn code(record: &[u8]) -> usize {
             number(record, RESULT_CODE) as usize
-        }
-        for record in records.chunks_exact(RESULT_SIZE) {
-            let worst = &mut self.worst[code(record)];
-            *worst = record[RESULT_PORTION_GRADE].max(*worst);
         }
         for record in records.chunks_exact_mut(RESULT_SIZE) {
             record[RESULT_CODE_GRADE] = self.worst[code(record)];
         }
         for record in records.chunks_exact(RESULT_SIZE) {
             self.worst[code(record)] = 0;
+        }
+    }
+
+    /// Regrades a sheet under a second plan into a result buffer.
+    pub fn regrade(&mut self, sheet: &[u8], plan: &[u8], results: &mut [u8]) -> Answer {
+        answer(sheet, self.regrade_units(sheet, plan, results))
+    }
+
+    /// The number of units, or the number and the offset of a refusal.
+    fn regrade_units(
+        &mut self,
+        sheet: &[u8],
+        plan: &[u8],
+        results: &mut [u8],
+    ) -> Result<usize, (u32, usize)> {
+        check_plan(sheet).map_err(|number| (number, 0))?;
+        let units = check_records(sheet)?;
+        let second = if plan.len() == PLAN_SIZE { check_plan(plan) } else { Err(1) };
+        let table = second.map_err(|_| (18, 0))?;
+        let records = results.get_mut(..RESULT_SIZE * units).ok_or((13, sheet.len()))?;
+        self.write_regraded(sheet, &table, plan[GRADE], records);
+        self.write_code_grades(records);
+        Ok(units)
+    }
+
+    /// Regrades a sheet that was not refused into its result records, all but the code grades, and
+    /// takes the portion grades into the table.
+    fn write_regraded(&mut self, sheet: &[u8], table: &Table, plan: u8, results: &mut [u8]) {
+        let (row, start) = (table[usize::from(plan)], starts(table, plan));
+        let mut cusums = start;
+        let mut records = results.chunks_exact_mut(RESULT_SIZE);
+        let mut rest = &sheet[PLAN_SIZE..];
+        while let Some(&mark) = rest.first() {
+            if mark == UNIT_MARK[0] {
+                let (unit, behind) = rest.split_at(UNIT_SIZE);
+                let record = records.next().expect("a record for each unit");
+                rest = behind;
+                let tenths = tenths(unit);
+                let (fails, overshoots) = step(&mut cusums, &row, tenths);
+                // Each writes for itself, as the overshoots of a unit that meets are known.
+                if fails {
+                    let grade = best_lower(table, plan, tenths);
+                    write(record, unit, grade, plan, FAILED, cusums, overshoots);
+                } else {
+                    write(record, unit, plan, plan, MET, cusums, [0; CLASSES]);
+                }
+                self.take_in(record);
+            } else if mark == REDESIGNATION_MARK[0] {
+                rest = &rest[REDESIGNATION_SIZE..];
+            } else {
+                cusums = start;
+                rest = &rest[BREAK_SIZE..];
+            }
         }
     }
 }

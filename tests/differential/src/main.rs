@@ -2,18 +2,20 @@
 //! offset and every byte of the buffer with guard bytes before and behind it, on seeded random
 //! sheets, which must be kept; and both halves of demand 3, with what A.1 of paper 02 adds of
 //! overshoots, on the bytes that the library left. For every fourth case also a mold sheet (A.2 of
-//! paper 02), with the first half of demand 3. At the end every count there is (A.3).
+//! paper 02), with the first half of demand 3, and a regrading and a pair of them (A.5), with both
+//! halves. At the end every count there is (A.3).
 //!
 //! `differential [CASES [SEED]]`. A sheet on which the two differ is written to a file and named. A
 //! run of 10,000 cases or more also fails if one of the things that it counts never came up.
 
 mod counts;
 mod mold;
+mod regrade;
 
 use grader::generate::{self, seed_of, Counts, Dice};
 use grader::rules::{Graded, Row, What, RECOVERED};
 use grader::{check, failure, sheet, Answer};
-use hatmuyon::{ffi, RESULT_SIZE, UNIT_SIZE};
+use hatmuyon::{ffi, PLAN_SIZE, RESULT_SIZE, UNIT_SIZE};
 use std::fmt::Debug;
 use std::time::Instant;
 
@@ -23,27 +25,56 @@ const GUARD: usize = 32;
 const OVERSHOOTS: usize = 16;
 /// From so many cases on, everything that is counted must come up.
 const WHOLE: u64 = 10_000;
+/// Up to so many units of a tally sheet the first half of demand 3, quadratic in them, is computed.
+const MOST_COMPUTED: usize = 60;
 
-/// Kinds of sheets, each graded by a function of its own.
+/// Kinds of gradings, each by a function of its own.
 #[derive(Clone, Copy)]
-enum Kind {
+enum Kind<'a> {
     Tally,
     Mold,
+    /// Of a tally sheet, under this second plan.
+    Regrading(&'a [u8]),
 }
 
-/// Grades by the library into a buffer of `room` bytes inside a larger one; the guard bytes around it
-/// and the sheet must stay as they were.
+impl<'a> Kind<'a> {
+    fn second_plan(self) -> &'a [u8] {
+        if let Kind::Regrading(plan) = self {
+            plan
+        } else {
+            &[]
+        }
+    }
+}
+
+/// The byte that a buffer is filled with.
+fn fill(seed: u64) -> u8 {
+    (seed % 251) as u8
+}
+
+/// Room for the result records of a tally sheet, whatever its records are.
+fn most_room(sheet: &[u8]) -> usize {
+    RESULT_SIZE * sheet.len() / UNIT_SIZE
+}
+
+/// Grades by the library into a buffer of `room` bytes inside a larger one; the guard bytes around it,
+/// the sheet and the second plan must stay as they were.
 fn library(kind: Kind, seed: u64, sheet: &[u8], room: usize, fill: u8) -> (Answer, Vec<u8>) {
-    let lent = sheet.to_vec();
+    let (lent, lent_plan) = (sheet.to_vec(), kind.second_plan().to_vec());
     let mut memory = vec![fill; GUARD + room + GUARD];
-    let results = &mut memory[GUARD..GUARD + room];
-    let grade = match kind {
-        Kind::Tally => ffi::hatmuyon_grade,
-        Kind::Mold => ffi::hatmuyon_grade_mold,
+    let results = memory[GUARD..GUARD + room].as_mut_ptr();
+    let (bytes, length) = (lent.as_ptr(), lent.len());
+    let (plan, plan_length) = (lent_plan.as_ptr(), lent_plan.len());
+    // Safety: every pointer is valid for its length, and the buffers are apart.
+    let ffi::Answer { number, units, offset } = unsafe {
+        match kind {
+            Kind::Tally => ffi::hatmuyon_grade(bytes, length, results, room),
+            Kind::Mold => ffi::hatmuyon_grade_mold(bytes, length, results, room),
+            Kind::Regrading(_) => {
+                ffi::hatmuyon_regrade(bytes, length, plan, plan_length, results, room)
+            }
+        }
     };
-    // Safety: both pointers are valid for their lengths, and the two buffers are apart.
-    let ffi::Answer { number, units, offset } =
-        unsafe { grade(lent.as_ptr(), lent.len(), results.as_mut_ptr(), results.len()) };
     let (before, rest) = memory.split_at(GUARD);
     let (results, behind) = rest.split_at(room);
     if before.iter().chain(behind).any(|&byte| byte != fill) {
@@ -51,6 +82,9 @@ fn library(kind: Kind, seed: u64, sheet: &[u8], room: usize, fill: u8) -> (Answe
     }
     if lent != sheet {
         report(kind, "the sheet after grading", seed, sheet, &"changed", &"kept");
+    }
+    if lent_plan != kind.second_plan() {
+        report(kind, "the second plan after grading", seed, sheet, &"changed", &"kept");
     }
     (Answer { number, units, offset }, results.to_vec())
 }
@@ -64,13 +98,18 @@ fn report(
     ours: &dyn Debug,
     theirs: &dyn Debug,
 ) -> ! {
-    let of = if let Kind::Mold = kind { " of a mold sheet" } else { "" };
+    let of = match kind {
+        Kind::Tally => "",
+        Kind::Mold => " of a mold sheet",
+        Kind::Regrading(_) => " of a regrading",
+    };
     let what = format!("differential: {what}{of} differs at seed {seed}");
     let what = format!("{what}\n  library: {ours:?}\n  grader:  {theirs:?}");
     let file = format!("hatmuyon-differs-{seed}.sheet");
     match kind {
         Kind::Tally => failure::end(&what, &file, sheet, "target/bin/print_tally"),
         Kind::Mold => failure::end_mold(&what, &file, sheet),
+        Kind::Regrading(plan) => regrade::end(&what, &file, sheet, plan),
     }
 }
 
@@ -99,6 +138,7 @@ fn compare_with(
 fn note(counts: &mut Counts, sheet: &[u8], room: usize, answer: Answer, graded: Option<&Graded>) {
     counts.note(answer.number, graded);
     counts.note_overshoots(graded);
+    note_offset(counts, "", answer);
     let mut add = |name: &str, times: usize| counts.add(name, times);
     let needed = RESULT_SIZE * sheet::read(sheet).map_or(0, |sheet| sheet.units());
     let accepted = answer.number == 0;
@@ -106,8 +146,6 @@ fn note(counts: &mut Counts, sheet: &[u8], room: usize, answer: Answer, graded: 
     add("buffer exactly long enough", usize::from(accepted && room == needed && needed > 0));
     add("buffer one byte too short", usize::from(answer.number == 13 && room + 1 == needed));
     add("buffer without a byte and no unit", usize::from(accepted && room == 0));
-    add("sheet above 65,536 bytes, accepted", usize::from(accepted && sheet.len() > 65_536));
-    add("refused at an offset above 65,536", usize::from(!accepted && answer.offset > 65_536));
 
     let rows: &[Row] = graded.map_or(&[], |graded| &graded.rows);
     let mixed =
@@ -139,14 +177,34 @@ fn note(counts: &mut Counts, sheet: &[u8], room: usize, answer: Answer, graded: 
     add("code of recovered units only", with([true, false]));
 }
 
-/// Compares one sheet, and hands out the grader's trace with the grades, CuSums and overshoots that
-/// the library recorded.
-fn compare(seed: u64, sheet: &[u8], room: usize, counts: &mut Counts) -> Option<Graded> {
-    let fill = (seed % 251) as u8;
+/// Counts offsets that take more than two bytes, of this kind of gradings.
+fn note_offset(counts: &mut Counts, of: &str, answer: Answer) {
+    let (accepted, large) = (answer.number == 0, answer.offset > 65_536);
+    let mut add = |name: &str, is: bool| counts.add(&format!("{of}{name}"), is.into());
+    add("sheet above 65,536 bytes, accepted", accepted && large);
+    add("refused at an offset above 65,536", !accepted && large);
+}
+
+/// What the library did with a tally sheet, after it was compared: the answer, the buffer, and the
+/// grader's trace with the grades, CuSums and overshoots that the library recorded.
+struct Compared {
+    answer: Answer,
+    results: Vec<u8>,
+    graded: Option<Graded>,
+}
+
+/// Compares a grading of a tally sheet with what this function of the grader makes of it.
+fn compare_traced(
+    kind: Kind,
+    seed: u64,
+    sheet: &[u8],
+    room: usize,
+    grade: impl FnOnce(&mut [u8]) -> (Answer, Option<Graded>),
+) -> Compared {
+    let fill = fill(seed);
     let mut expected = vec![fill; room];
-    let (answer, mut graded) = grader::grade_traced(sheet, &mut expected, false);
-    let results = compare_with(Kind::Tally, seed, sheet, fill, answer, &expected);
-    note(counts, sheet, room, answer, graded.as_ref());
+    let (answer, mut graded) = grade(&mut expected);
+    let results = compare_with(kind, seed, sheet, fill, answer, &expected);
     let rows = graded.iter_mut().flat_map(|graded| &mut graded.rows);
     for (row, record) in rows.zip(results.chunks_exact(RESULT_SIZE)) {
         row.portion_grade = record[ffi::RESULT_PORTION_GRADE];
@@ -160,34 +218,55 @@ fn compare(seed: u64, sheet: &[u8], room: usize, counts: &mut Counts) -> Option<
             *overshoot = i64::from(u32::from_be_bytes(bytes.try_into().expect("four bytes")));
         }
     }
-    graded
+    Compared { answer, results, graded }
+}
+
+/// Compares one sheet, and its regrading under its own plan where that must be the same. Hands out the
+/// trace, as recorded.
+fn compare(seed: u64, sheet: &[u8], room: usize, counts: &mut Counts) -> Option<Graded> {
+    let grade = |results: &mut [u8]| grader::grade_traced(sheet, results, false);
+    let compared = compare_traced(Kind::Tally, seed, sheet, room, grade);
+    note(counts, sheet, room, compared.answer, compared.graded.as_ref());
+    regrade::under_own_plan(seed, sheet, &compared, counts);
+    compared.graded
 }
 
 /// Demand 3, first half, on recorded bytes: the grader's 'largest of' form, with the anchor found by
 /// its place, against the CuSums that the library recorded; and its overshoots against what follows
-/// from these CuSums and from sums of the same form.
-fn largest_of(seed: u64, sheet: &[u8], graded: &Graded) {
+/// from these CuSums and from sums of the same form. Says whether this was computed.
+fn largest_of(kind: Kind, seed: u64, sheet: &[u8], graded: Option<&Graded>) -> bool {
+    let Some(graded) = graded.filter(|graded| graded.rows.len() <= MOST_COMPUTED) else {
+        return false;
+    };
     if std::panic::catch_unwind(|| check::cusums_twice(graded)).is_err() {
-        let what = "the 'largest of' form";
-        report(Kind::Tally, what, seed, sheet, &"recorded", &"computed");
+        report(kind, "the 'largest of' form", seed, sheet, &"recorded", &"computed");
     }
     if std::panic::catch_unwind(|| check::overshoots_twice(graded)).is_err() {
-        let what = "an overshoot by sums";
-        report(Kind::Tally, what, seed, sheet, &"recorded", &"computed");
+        report(kind, "an overshoot by sums", seed, sheet, &"recorded", &"computed");
     }
+    true
 }
 
 /// Demand 3, second half, on recorded bytes of a pair.
 fn monotone(seed: u64, first: &[u8], second: &[u8], counts: &mut Counts) -> bool {
-    let sides = [first, second].map(|sheet| {
-        let room = RESULT_SIZE * sheet.len() / UNIT_SIZE;
-        compare(seed, sheet, room, counts).expect("a pair is accepted")
-    });
+    let sides = [first, second]
+        .map(|sheet| compare(seed, sheet, most_room(sheet), counts).expect("a pair is accepted"));
     counts.note_pair(&sides[0], &sides[1]);
-    check::monotone(&sides[0], &sides[1]).unwrap_or_else(|what| {
-        let what = format!("the monotone half: {what}");
-        report(Kind::Tally, &what, seed, second, &"first", &"second")
-    })
+    check::monotone(&sides[0], &sides[1])
+        .unwrap_or_else(|what| report_pair(Kind::Tally, seed, second, &what))
+}
+
+/// Says what the second half of demand 3 does not find in the records of a pair, and ends the run.
+fn report_pair(kind: Kind, seed: u64, second: &[u8], what: &str) -> ! {
+    report(kind, &format!("the monotone half: {what}"), seed, second, &"first", &"second")
+}
+
+/// Breaks behind the plan, if there is one, take the records beyond 65,536 bytes.
+fn lengthen(seed: u64, sheet: &mut Vec<u8>) {
+    if sheet.len() > PLAN_SIZE {
+        let breaks = 32_000 + Dice(seed).below(50_000);
+        sheet.splice(PLAN_SIZE..PLAN_SIZE, [0x42, 0x4B].repeat(breaks));
+    }
 }
 
 fn main() {
@@ -198,29 +277,32 @@ fn main() {
     let start = Instant::now();
     let mut counts = Counts::default();
     let (mut checked, mut pairs, mut graded_pairs, mut molds, mut molds_checked) = (0, 0, 0, 0, 0);
+    let (mut regradings, mut regradings_checked, mut regraded_pairs) = (0, 0, 0);
     for case in 0..cases {
         let seed = seed_of(seed, case);
         let long = case % 500 == 0;
         let make = if long { generate::case } else { generate::any_case };
         let mut made = make(seed);
-        if long && made.sheet.len() > 75 {
-            // Breaks behind the plan take the records beyond 65,536 bytes.
-            let breaks = 32_000 + Dice(seed).below(50_000);
-            made.sheet.splice(75..75, [0x42, 0x4B].repeat(breaks));
+        if long {
+            lengthen(seed, &mut made.sheet);
         }
         let graded = compare(seed, &made.sheet, made.room, &mut counts);
-        if let Some(graded) = graded.filter(|graded| graded.rows.len() <= 60) {
-            largest_of(seed, &made.sheet, &graded);
-            checked += 1;
-        }
+        checked += usize::from(largest_of(Kind::Tally, seed, &made.sheet, graded.as_ref()));
         if case % 4 == 0 {
             let (first, second) = generate::pair(seed);
             graded_pairs += usize::from(monotone(seed, &first, &second, &mut counts));
             pairs += 1;
-        }
-        if case % 4 == 0 {
             molds_checked += usize::from(mold::compare(seed, &mut counts));
             molds += 1;
+            regradings_checked += usize::from(regrade::compare(seed, &mut counts));
+            regradings += 1;
+            regrade::monotone(seed, &mut counts);
+            regraded_pairs += 1;
+        }
+        // More often than a long sheet, as fewer of them are refused behind the breaks.
+        if case % 200 == 0 {
+            regradings_checked += usize::from(regrade::compare_long(seed, &mut counts));
+            regradings += 1;
         }
     }
     let (defects, fields) = (counts::defects(), counts::fields());
@@ -230,6 +312,11 @@ fn main() {
     );
     println!("{pairs:>9}  pairs alike but for fewer counts, {graded_pairs} with grades compared");
     println!("{molds_checked:>9}  mold sheets whose recorded CuSums are the 'largest of' form");
+    println!(
+        "{regradings_checked:>9}  regradings whose recorded CuSums are the 'largest of' form, \
+         overshoots by sums"
+    );
+    println!("{regraded_pairs:>9}  pairs alike but for fewer counts, regraded, grades compared");
     println!("{defects:>9}  sheets with every count from 0 to 2,000 in each kind and in all kinds");
     println!("{fields:>9}  mold sheets with every number of fields from 0 to 25 at each level");
     // A short run need not have everything.
@@ -238,8 +325,8 @@ fn main() {
         std::process::exit(1);
     }
     println!(
-        "differential: {cases} sheets, {pairs} pairs and {molds} mold sheets agree, seed {seed}, \
-         {:.1} s",
+        "differential: {cases} sheets, {pairs} pairs, {molds} mold sheets, {regradings} regradings \
+         and {regraded_pairs} pairs of them agree, seed {seed}, {:.1} s",
         start.elapsed().as_secs_f64()
     );
 }

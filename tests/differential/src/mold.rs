@@ -1,6 +1,6 @@
 //! Mold sheets (A.2 of paper 02): the library against the independent grader, as for tally sheets.
 
-use crate::{compare_with, report, Kind};
+use crate::{compare_with, fill, report, Kind};
 use grader::generate::Counts;
 use grader::generate_mold::mold_case;
 use grader::mold::{cusums_twice, grade_traced, RESULT_SIZE};
@@ -10,7 +10,7 @@ use grader::mold::{cusums_twice, grade_traced, RESULT_SIZE};
 pub fn compare(seed: u64, counts: &mut Counts) -> bool {
     let made = mold_case(seed);
     let sheet = &made.sheet[..];
-    let fill = (seed % 251) as u8;
+    let fill = fill(seed);
     let mut expected = vec![fill; made.room];
     let (answer, graded) = grade_traced(sheet, &mut expected, false);
     let results = compare_with(Kind::Mold, seed, sheet, fill, answer, &expected);
