@@ -13,7 +13,7 @@ use Rattle.outcome.specs.Outcome.{refusal}
 use Rattle.regrade.specs.Outcome.{secondPlanWrong, regraded, regradeBy, regradeOutcome}
 use Rattle.regrade.proofs.Cases.{not-overfull}
 use Rattle.regrade.proofs.Computing.{computing}
-use Rattle.regrade_demands.specs.RegradeSheets.{FailureSheets, RedesignationSheets, BreakSheets, SecondPlanSheets, UnitSheets, RefusedSheets, WrongPlanSheets, RegradeSheets, recordedPlan, buyerA, buyerB, buyerC, manualPlan, manualExample, manualExampleResults, failureOfRecordedPlan, failureOfRecordedPlanResults, failureOfSecondPlan, failureOfSecondPlanResults, twoFailures, twoFailuresResults, threeFailures, threeFailuresResults, twoFailuresInDifferentClasses, twoFailuresInDifferentClassesResults, stepThreeOfRecordedPlan, stepThreeOfRecordedPlanResults, noUnitRecoverable, noUnitRecoverableResults, redesignationBetweenUnits, redesignationBetweenUnitsResults, redesignationBeforeFirstUnit, redesignationBeforeFirstUnitResults, redesignationsToEveryGrade, redesignationsToEveryGradeResults, redesignationBetweenFailures, redesignationBetweenFailuresResults, redesignationBesideBreak, redesignationBesideBreakResults, redesignationToCUnderA, redesignationToCUnderAResults, breakBetweenUnits, breakBetweenUnitsResults, breakBetweenFailures, breakBetweenFailuresResults, breakAboveZero, breakAboveZeroResults, breaksInEveryClass, breaksInEveryClassResults, secondPlanOfC, secondPlanOfCResults, secondPlanOfA, secondPlanOfAResults, everyClassUnderA, everyClassUnderAResults, everyClassUnderB, everyClassUnderBResults, everyClassUnderC, everyClassUnderCResults, lowerGradesByTotal, lowerGradesByTotalResults, lowerGradesByOtherClasses, lowerGradesByOtherClassesResults, countsThatAAdmits, countsThatAAdmitsResults, rawValueAtLimit, rawValueAtLimitResults, tenthAboveLimit, tenthAboveLimitResults, belowZero, belowZeroResults, overshootAboveTwoBytes, overshootAboveTwoBytesResults, prerequisites, prerequisitesResults, prerequisiteSubstandard, prerequisiteSubstandardResults, codeMetAgain, codeMetAgainResults, codeMetAgainLater, codeMetAgainLaterResults, codesAlikeInOneByte, codesAlikeInOneByteResults, noUnit, noUnitResults, noUnitButRecords, noUnitButRecordsResults, ground1, ground5, ground6, ground7, ground8, ground11, ground11ByRecordedPlan, bufferWithoutRoom}
+use Rattle.regrade_demands.specs.RegradeSheets.{FailureSheets, RedesignationSheets, BreakSheets, SecondPlanSheets, UnitSheets, RefusedSheets, WrongPlanSheets, RegradeSheets, recordedPlan, buyerA, buyerB, buyerC, manualPlan, manualExample, manualExampleResults, failureOfRecordedPlan, failureOfRecordedPlanResults, failureOfSecondPlan, failureOfSecondPlanResults, twoFailures, twoFailuresResults, threeFailures, threeFailuresResults, twoFailuresInDifferentClasses, twoFailuresInDifferentClassesResults, stepThreeOfRecordedPlan, stepThreeOfRecordedPlanResults, noUnitRecoverable, noUnitRecoverableResults, redesignationBetweenUnits, redesignationBetweenUnitsResults, redesignationBeforeFirstUnit, redesignationBeforeFirstUnitResults, redesignationsToEveryGrade, redesignationsToEveryGradeResults, redesignationBetweenFailures, redesignationBetweenFailuresResults, redesignationBesideBreak, redesignationBesideBreakResults, redesignationToCUnderA, redesignationToCUnderAResults, breakBetweenUnits, breakBetweenUnitsResults, breakBetweenFailures, breakBetweenFailuresResults, breakBehindZero, breakBehindZeroResults, breaksInEveryClass, breaksInEveryClassResults, secondPlanOfC, secondPlanOfCResults, secondPlanOfA, secondPlanOfAResults, everyClassUnderA, everyClassUnderAResults, everyClassUnderB, everyClassUnderBResults, everyClassUnderC, everyClassUnderCResults, lowerGradesByTotal, lowerGradesByTotalResults, lowerGradesByOtherClasses, lowerGradesByOtherClassesResults, countsThatAAdmits, countsThatAAdmitsResults, rawValueAtLimit, rawValueAtLimitResults, tenthAboveLimit, tenthAboveLimitResults, belowZero, belowZeroResults, overshootAboveTwoBytes, overshootAboveTwoBytesResults, prerequisites, prerequisitesResults, prerequisiteSubstandard, prerequisiteSubstandardResults, codeMetAgain, codeMetAgainResults, codeMetAgainLater, codeMetAgainLaterResults, codesAlikeInOneByte, codesAlikeInOneByteResults, noUnit, noUnitResults, noUnitButRecords, noUnitButRecordsResults, ground1, ground5, ground6, ground7, ground8, ground11, ground11ByRecordedPlan, bufferWithoutRoom}
 
 -- a sheet that passes is graded under a right second plan in a buffer that has room for its records, and refused with 13 in one that has not
 module _ (bytes plan buffer : List ℕ) (records units : ℕ) (passes : verdict bytes ≡ Accepted records units) (right : secondPlanWrong plan ≡ false) where
@@ -75,12 +75,12 @@ redesignation-sheets =
 
 break-sheets : BreakSheets
 unfolding computing recordedPlan buyerA buyerB buyerC breakBetweenUnits breakBetweenUnitsResults breakBetweenFailures
-    breakBetweenFailuresResults breakAboveZero breakAboveZeroResults breaksInEveryClass breaksInEveryClassResults
+    breakBetweenFailuresResults breakBehindZero breakBehindZeroResults breaksInEveryClass breaksInEveryClassResults
 break-sheets =
     record {
       break-between-units = λ buffer room. accepts breakBetweenUnits buyerB buffer 4 3 refl right-b room;
       break-between-failures = λ buffer room. accepts breakBetweenFailures buyerB buffer 4 3 refl right-b room;
-      break-above-zero = λ buffer room. accepts breakAboveZero buyerB buffer 7 3 refl right-b room;
+      break-behind-zero = λ buffer room. accepts breakBehindZero buyerB buffer 7 3 refl right-b room;
       breaks-in-every-class = λ buffer room. accepts breaksInEveryClass buyerC buffer 3 2 refl right-c room;
     }
 

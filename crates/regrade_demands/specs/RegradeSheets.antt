@@ -481,8 +481,8 @@ breakBetweenFailuresResults =
 
 -- A break first, two side by side and one last. Unit 2 is at 0 and unit 3 comes from S to 3: from
 -- 0 it would come to 0.5.
-unfoldable pub breakAboveZero : List ℕ
-breakAboveZero =
+unfoldable pub breakBehindZero : List ℕ
+breakBehindZero =
     recordedPlan
     ++ (0x42 ∷ 0x4B  -- break
     ∷ 0x53 ∷ 0x55 ∷ 0 ∷ 1 ∷ 0 ∷ 0 ∷ 0 ∷ 0 ∷ 0 ∷ 0 ∷ 0 ∷ 3 ∷ 0 ∷ 1  -- 1: 0,0,0,3;A;1
@@ -493,8 +493,8 @@ breakAboveZero =
     ∷ 0x42 ∷ 0x4B  -- break
     ∷ [])
 
-unfoldable pub breakAboveZeroResults : List ℕ
-breakAboveZeroResults =
+unfoldable pub breakBehindZeroResults : List ℕ
+breakBehindZeroResults =
     0x47 ∷ 0x52 ∷ 0 ∷ 1 ∷ 1 ∷ 1 ∷ 1 ∷ 0 ∷ 0 ∷ 0 ∷ 0 ∷ 0 ∷ 0 ∷ 0 ∷ 0 ∷ 0  -- 1 1 B B m B 0.0 0.0 0.0 0.0
     ∷ 0 ∷ 0 ∷ 0 ∷ 0 ∷ 0 ∷ 0 ∷ 0 ∷ 0 ∷ 0 ∷ 0 ∷ 0 ∷ 0 ∷ 0 ∷ 0 ∷ 0 ∷ 0
     ∷ 0x47 ∷ 0x52 ∷ 0 ∷ 2 ∷ 1 ∷ 1 ∷ 1 ∷ 0 ∷ 0 ∷ 0 ∷ 0 ∷ 0 ∷ 0 ∷ 0 ∷ 0 ∷ 0  -- 2 2 B B m B 0.0 0.0 0.0 0.0
@@ -523,7 +523,7 @@ breaksInEveryClassResults =
 pub record BreakSheets : Type 0 where
   pub break-between-units : Graded buyerB breakBetweenUnits 3 119 breakBetweenUnitsResults
   pub break-between-failures : Graded buyerB breakBetweenFailures 3 119 breakBetweenFailuresResults
-  pub break-above-zero : Graded buyerB breakAboveZero 3 125 breakAboveZeroResults
+  pub break-behind-zero : Graded buyerB breakBehindZero 3 125 breakBehindZeroResults
   pub breaks-in-every-class : Graded buyerC breaksInEveryClass 2 105 breaksInEveryClassResults
 
 -- ---- the second plan's grade, numbers and lower grades

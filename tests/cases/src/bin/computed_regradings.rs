@@ -164,9 +164,6 @@ impl Plan {
     /// The plan of a sheet: that under which sheets are recorded, with the bytes that differ from it.
     fn of(bytes: &[u8]) -> Plan {
         let mut plan = Plan { bytes: recorded(), text: "recordedPlan".to_string() };
-        if bytes.len() < plan.bytes.len() {
-            plan = plan.cut(bytes.len());
-        }
         for (at, &byte) in bytes.iter().enumerate() {
             if byte != plan.bytes[at] {
                 plan = plan.set(at, byte);
@@ -234,7 +231,7 @@ fn buyer_lines(designated: u8) -> String {
 
 // ---- records
 
-/// A record that need not be well formed. `counts` are critical, severe, major, minor.
+/// `counts` are critical, severe, major, minor.
 fn unit_as(code: u16, counts: [i64; 4], prerequisite: u8, recoverable: bool) -> Record {
     Record::Unit(Unit { code, counts, prerequisite, recoverable })
 }
@@ -351,7 +348,7 @@ fn groups() -> Vec<Group> {
     ]
 }
 
-/// What the units of the other classes come to where there are minor defects alone.
+/// What a unit comes to whose CuSums are zero in all classes but total.
 macro_rules! total {
     ($letters:literal, $cusum:literal) => {
         concat!($letters, " 0.0 0.0 0.0 ", $cusum)
@@ -550,7 +547,7 @@ fn breaks() -> Vec<Regrading> {
             &[(1, TOTAL, 10), (2, TOTAL, 10)],
         ),
         accepted(
-            "a break above zero",
+            "a break behind zero",
             "A break first, two side by side and one last. Unit 2 is at 0 and unit 3 comes from S to 3: from\n\
              0 it would come to 0.5.",
             &[BREAK, minor(1, 3), minor(2, 9), BREAK, BREAK, minor(3, 10), BREAK],
@@ -981,6 +978,9 @@ pub record RegradeSheets : Type 0 where
 const WRONG_PLANS: &str = "  pub wrong-plans : WrongPlanSheets\n";
 
 fn plans() -> String {
+    let numbers = recorded().into_iter().zip(buyer(A).bytes).skip(3).collect::<Vec<_>>();
+    let differ = |two: &[(u8, u8)]| two.iter().any(|(one, other)| one != other);
+    assert!(numbers.chunks(2).all(differ), "another number in every place");
     [
         "\n-- the one under which the sheets are recorded: the peach plan of paper 01, designated A\n",
         &plan_lines("recordedPlan", &recorded()),
