@@ -1,3 +1,4 @@
 pub mod Rewritten
 pub mod SecondPlan
 pub mod Cases
+pub mod Computing

@@ -97,13 +97,51 @@ impl<K: Kind> Case<K> {
     }
 }
 
-pub struct Group<K: Kind> {
+/// What is graded: a sheet, and what is given with it.
+pub trait Given {
+    type Kind: Kind;
+
+    fn case(&self) -> &Case<Self::Kind>;
+
+    /// Grades with the self check.
+    fn grade(&self, results: &mut [u8]) -> Answer;
+
+    fn print(&self) -> String;
+
+    /// What is given with the sheet, as it stands in a statement, with a space behind it.
+    fn with(&self) -> String {
+        String::new()
+    }
+}
+
+/// A sheet alone.
+impl<K: Kind> Given for Case<K> {
+    type Kind = K;
+
+    fn case(&self) -> &Case<K> {
+        self
+    }
+
+    fn grade(&self, results: &mut [u8]) -> Answer {
+        K::grade(&self.bytes(), results)
+    }
+
+    fn print(&self) -> String {
+        K::print(&self.bytes())
+    }
+}
+
+pub struct GroupOf<G: Given> {
     /// The name of its record type, and of the field of the whole.
     pub name: &'static str,
     pub field: &'static str,
     pub title: &'static str,
-    pub cases: Vec<Case<K>>,
+    pub cases: Vec<G>,
 }
+
+/// Of sheets alone; regradings have none.
+#[allow(dead_code)]
+pub type Group<K> = GroupOf<Case<K>>;
 
 /// What the grader answers, with the result records and the line printed for each.
 pub struct Graded {
@@ -112,11 +150,12 @@ pub struct Graded {
 }
 
 /// Grades a sheet, and sees that the grader does as is known by hand and keeps what it has to keep.
-pub fn graded<K: Kind>(case: &Case<K>) -> Graded {
-    let (name, sheet) = (case.name, case.bytes());
+pub fn graded<G: Given>(given: &G) -> Graded {
+    let (case, size) = (given.case(), G::Kind::RESULT_SIZE);
+    let name = case.name;
     let mut buffer = vec![0xEE; 4_096];
-    let answer = K::grade(&sheet, &mut buffer);
-    let (results, rest) = buffer.split_at(K::RESULT_SIZE * answer.units);
+    let answer = given.grade(&mut buffer);
+    let (results, rest) = buffer.split_at(size * answer.units);
     assert!(rest.iter().all(|&byte| byte == 0xEE), "{name}: bytes behind the records");
     let hold_offset = |found: usize, by_hand: Option<usize>| {
         assert_eq!(found, by_hand.unwrap_or(found), "{name}: the offset");
@@ -124,25 +163,25 @@ pub fn graded<K: Kind>(case: &Case<K>) -> Graded {
     match &case.expected {
         Expected::Accepted(by_hand) => {
             assert_eq!(answer.number, 0, "{name}");
-            let printed = K::print(&sheet);
-            K::hold(name, by_hand, results, &printed);
+            let printed = given.print();
+            G::Kind::hold(name, by_hand, results, &printed);
             let lines = printed.lines().map(str::to_string);
-            let records = results.chunks(K::RESULT_SIZE).map(<[u8]>::to_vec).zip(lines).collect();
+            let records = results.chunks(size).map(<[u8]>::to_vec).zip(lines).collect();
             Graded { answer, records }
         }
         Expected::Number(number, offset) => {
             assert_eq!(answer.number, *number, "{name}");
             hold_offset(answer.offset, *offset);
-            assert_eq!(K::grade(&sheet, &mut []), answer, "{name}: without a buffer");
+            assert_eq!(given.grade(&mut []), answer, "{name}: without a buffer");
             Graded { answer, records: Vec::new() }
         }
         Expected::WithoutRoom(number, offset) => {
             assert_eq!(answer.number, 0, "{name}");
-            let mut short = vec![0xEE; K::RESULT_SIZE * answer.units - 1];
-            let refused = K::grade(&sheet, &mut short);
+            let mut short = vec![0xEE; size * answer.units - 1];
+            let refused = given.grade(&mut short);
             assert_eq!(refused.number, *number, "{name}");
             hold_offset(refused.offset, *offset);
-            assert_eq!(K::grade(&sheet, &mut []), refused, "{name}: without a buffer");
+            assert_eq!(given.grade(&mut []), refused, "{name}: without a buffer");
             assert!(short.iter().all(|&byte| byte == 0xEE), "{name}: the buffer");
             // The units, for which there is no room.
             Graded { answer: Answer { units: answer.units, ..refused }, records: Vec::new() }
@@ -220,30 +259,28 @@ pub fn results<K: Kind>(case: &Case<K>, graded: &Graded) -> String {
 }
 
 /// The field that says what a sheet comes to.
-fn statement<K: Kind>(case: &Case<K>, graded: &Graded) -> String {
+fn statement<G: Given>(given: &G, graded: &Graded) -> String {
+    let (case, with) = (given.case(), given.with());
     let (field, name) = (case.field(), case.definition());
     let Answer { number, units, offset } = graded.answer;
-    match case.expected {
-        Expected::Accepted(_) => {
-            format!("  pub {field} : Graded {name} {units} {offset} {name}Results\n")
-        }
-        Expected::Number(..) => format!("  pub {field} : RefusedWith {number} {name} {offset}\n"),
-        Expected::WithoutRoom(..) => {
-            format!("  pub {field} : WithoutRoom {number} {name} {units} {offset}\n")
-        }
-    }
+    let said = match case.expected {
+        Expected::Accepted(_) => format!("Graded {with}{name} {units} {offset} {name}Results"),
+        Expected::Number(..) => format!("RefusedWith {with}{number} {name} {offset}"),
+        Expected::WithoutRoom(..) => format!("WithoutRoom {with}{number} {name} {units} {offset}"),
+    };
+    format!("  pub {field} : {said}\n")
 }
 
 /// The sheets of all groups, each group with its record; and the fields of the record of all groups.
-pub fn sheets<K: Kind>(groups: &[Group<K>]) -> (String, String) {
+pub fn sheets<G: Given>(groups: &[GroupOf<G>]) -> (String, String) {
     let (mut text, mut fields) = (String::new(), String::new());
-    for Group { name, field, title, cases } in groups {
+    for GroupOf { name, field, title, cases } in groups {
         text += &format!("\n-- ---- {title}\n");
         let mut record = format!("\npub record {name} : Type 0 where\n");
-        for case in cases {
-            let graded = graded(case);
-            text += &definitions(case, &graded);
-            record += &statement(case, &graded);
+        for given in cases {
+            let graded = graded(given);
+            text += &definitions(given.case(), &graded);
+            record += &statement(given, &graded);
         }
         text += &record;
         fields += &format!("  pub {field} : {name}\n");

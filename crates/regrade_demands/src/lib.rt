@@ -1,0 +1,1 @@
+// The demands on regradings. Statements in specs/, proofs in proofs/; there is no code here.
