@@ -180,9 +180,9 @@ pub data BufferRow (bytes buffer : List ℕ) : ℕ → Type 0 where
   row13 : BufferShort bytes buffer → BufferRow bytes buffer 13
   row14 : CusumAbove bytes → BufferRow bytes buffer 14
 
--- the numbers from the first row of the table to its last
+-- the numbers from the first row of the table to its last; 18 is one of regradings alone
 abbrev pub rows : List ℕ
-rows = 1 ∷ 2 ∷ 3 ∷ 4 ∷ 5 ∷ 6 ∷ 7 ∷ 12 ∷ 8 ∷ 9 ∷ 10 ∷ 11 ∷ 13 ∷ 14 ∷ []
+rows = 1 ∷ 2 ∷ 3 ∷ 4 ∷ 5 ∷ 6 ∷ 7 ∷ 12 ∷ 8 ∷ 9 ∷ 10 ∷ 11 ∷ 18 ∷ 13 ∷ 14 ∷ []
 
 -- the plan opens the sheet
 abbrev pub sheetGrounds : List ℕ → List ℕ → Grounds

@@ -1,5 +1,4 @@
 pub mod LargestOf
-pub mod AlikeSheets
 pub mod NeverWorse
 pub mod OneFewer
 pub mod AtUnits

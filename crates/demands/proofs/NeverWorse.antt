@@ -31,7 +31,7 @@ use Rattle.tally.specs.Accepted.{sheetIn, UnitAt}
 use Rattle.demands.specs.Demand3.{FewerDefects, NoHigherAt, NoLowerAt, Demand3FewerDefects}
 use Rattle.tally.proofs.AcceptedSheet.{accepted-sheet}
 use Rattle.courses.proofs.Recorded.{recorded-cusum, recorded-overshoot, recorded-portion, recorded-code-grade}
-use Rattle.demands.proofs.AlikeSheets.{same-plans, same-marks, same-records, fellows-below, no-redesignations}
+use Rattle.alike.proofs.AlikeSheets.{same-plans, same-marks, same-records, fellows-below, no-redesignations}
 
 -- behind the last record no unit fails
 never-behind : (bytes : List ℕ) (n : ℕ) → Facts bytes n → ((j : ℕ) → j < n → secondInARow (sheetOf bytes n) j ≡ false)

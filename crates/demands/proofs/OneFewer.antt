@@ -17,7 +17,8 @@ use Rattle.layout.specs.Layout.{countsOffset, redesignationSize, sizeOf, offset
 use Rattle.outcome.specs.declared.Answer.{Answer}
 use Rattle.tally.specs.Outcome.{recordsIn}
 use Rattle.tally.specs.Accepted.{AcceptedAs}
-use Rattle.demands.specs.Demand3.{InCount, Alike, FewerDefects, NeverWorse}
+use Rattle.alike.specs.Alike.{InCount, Alike}
+use Rattle.demands.specs.Demand3.{FewerDefects, NeverWorse}
 use Rattle.demands.proofs.NeverWorse.{demand3-fewer-defects}
 
 module _ (bytes bytes' : List ℕ) (place fewer : ℕ) (stored : bytes ≡ set bytes' place fewer)

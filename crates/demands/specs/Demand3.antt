@@ -6,15 +6,15 @@ use mathlib.Core.List.{List}
 use lib.ListN.{length}
 use lib.IntN.{pos}
 use Rattle.cusum.specs.LargestForm.{largestForm, anchorValue}
-use Rattle.encoding.specs.Bytes.{byte, number}
 use Rattle.units.specs.Words.{classes, hasPlan}
 use Rattle.rules.specs.Sheet.{inForceAt}
 use Rattle.anchors.specs.Anchor.{classFailsAt, tenthsFrom, Anchor, Latest}
 use Rattle.anchors.specs.TwoInARow.{secondInARow}
-use Rattle.layout.specs.Layout.{countsOffset, countOffset, kinds, prerequisiteOffset, offset, mark}
+use Rattle.layout.specs.Layout.{mark}
 use Rattle.layout.specs.declared.Mark.the-variants.{RedesignationMark}
 use Rattle.outcome.specs.declared.Answer.{Answer}
 use Rattle.tally.specs.Outcome.{recordsIn}
+use Rattle.alike.specs.Alike.{Alike, NoMore}
 use Rattle.tally.specs.Accepted.{AcceptedAs, sheetIn, UnitAt, recordedCusum, recordedOvershoot, recordedPortionGrade, recordedCodeGrade, numbersInForce}
 
 -- ---- the first half
@@ -48,27 +48,13 @@ Demand3LargestForm =
 
 -- ---- the second half
 
--- the byte at an offset lies in a count of a unit
-pub record InCount (bytes : List ℕ) (at : ℕ) : Type 0 where
-  pub i : ℕ
-  pub unit : UnitAt bytes i
-  pub from : offset bytes i + countsOffset ≤ at
-  pub to : at < offset bytes i + prerequisiteOffset
-
--- two sheets are alike if they have the same length and the same bytes outside the counts (the counts lie at the same places in both,
--- since marks lie outside them)
-pub record Alike (bytes bytes' : List ℕ) : Type 0 where
-  pub same-length : length bytes ≡ length bytes'
-  pub same-bytes : (at : ℕ) → (InCount bytes at → ⊥) → byte bytes at ≡ byte bytes' at
-
 -- two accepted sheets alike except that no count in the first exceeds its fellow in the second, without redesignation; fellows stand at
 -- the same place in both
 pub record FewerDefects (bytes bytes' buffer buffer' : List ℕ) (answer answer' : Answer) (results results' : List ℕ) : Type 0 where
   pub first : AcceptedAs bytes buffer answer results
   pub second : AcceptedAs bytes' buffer' answer' results'
   pub alike : Alike bytes bytes'
-  pub no-more : (i kind : ℕ) → UnitAt bytes i → kind < kinds
-      → number bytes (offset bytes i + countOffset kind) ≤ number bytes' (offset bytes i + countOffset kind)
+  pub no-more : NoMore bytes bytes'
   pub no-redesignation : (i : ℕ) → i < recordsIn bytes → mark bytes i ≡ RedesignationMark → ⊥
 
 -- at the unit that is record i no CuSum in the first is higher, no overshoot is larger, and no class fails that does not fail in the

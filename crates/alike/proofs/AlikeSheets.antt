@@ -20,7 +20,7 @@ use Rattle.layout.proofs.Offsets.{size-ge, offset-lt, offset-ge, inside-unit, i
 use Rattle.sheet.proofs.Accepted.{Facts}
 use Rattle.tally.specs.Outcome.{recordsIn}
 use Rattle.tally.specs.Accepted.{UnitAt}
-use Rattle.demands.specs.Demand3.{InCount, Alike}
+use Rattle.alike.specs.Alike.{InCount, Alike, NoMore}
 
 -- ---- bytes outside the counts
 
@@ -121,8 +121,7 @@ module _ (bytes bytes' : List ℕ) (alike : Alike bytes bytes') where
     unit-at : (i : ℕ) → mark bytes i ≡ UnitMark → UnitAt bytes i
     unit-at i e = record { inside = inside-unit bytes (recordsIn bytes) (facts .end) i e; is-unit = e }
 
-    module _ (no-more : (i kind : ℕ) → UnitAt bytes i → kind < kinds
-        → number bytes (offset bytes i + (countsOffset + 2 * kind)) ≤ number bytes' (offset bytes i + (countsOffset + 2 * kind))) where
+    module _ (no-more : NoMore bytes bytes') where
       below-unit : (i : ℕ) → mark bytes i ≡ UnitMark → UnitBelow (sampleUnitAt bytes (offset bytes i)) (sampleUnitAt bytes' (offset bytes i))
       unfolding sampleUnitAt sizeOf
       below-unit i e =

@@ -1,0 +1,37 @@
+-- An accepted regrading, and its words: the second plan's designated grade, and a class that fails.
+use Prim.Native.Nat.{ℕ}
+use mathlib.Core.Bool.{Bool}
+use mathlib.Core.List.{List}
+use Rattle.cusum.specs.declared.PlanNumbers.{PlanNumbers}
+use Rattle.encoding.specs.Bytes.{byte}
+use Rattle.units.specs.Words.{numbersOf, tenthsOf}
+use Rattle.units.specs.Unit.{classFails}
+use Rattle.units.specs.Records.{isUnitThat}
+use Rattle.rules.specs.Sheet.{Sheet}
+use Rattle.layout.specs.Layout.{gradeOffset, planOf}
+use Rattle.outcome.specs.declared.Answer.{Answer}
+use Rattle.outcome.specs.Outcome.{Outcome, AcceptedBy}
+use Rattle.tally.specs.Outcome.{recordsIn}
+use Rattle.regrade.specs.Regrading.{cusumsBefore}
+use Rattle.regrade.specs.Outcome.{sheetUnder, regradeOutcome}
+
+-- a sheet that `regrade` accepts under this second plan
+abbrev pub RegradedAs : List ℕ → List ℕ → List ℕ → Answer → List ℕ → Type 0
+RegradedAs bytes plan buffer answer results = AcceptedBy (λ sheet room. regradeOutcome sheet plan room) bytes buffer answer results
+
+-- the sheet's records behind the second plan, as the definitions grade them: failures are told from it, never from the result records
+unfoldable pub sheetAgain : List ℕ → List ℕ → Sheet
+sheetAgain bytes plan = sheetUnder bytes (planOf plan) (recordsIn bytes)
+
+-- the second plan's designated grade, which is that of the plan in force for every unit
+abbrev pub designatedIn : List ℕ → ℕ
+designatedIn plan = byte plan gradeOffset
+
+-- S, T and L of a class in that plan
+abbrev pub numbersAgain : List ℕ → List ℕ → ℕ → PlanNumbers
+numbersAgain bytes plan class = numbersOf (sheetAgain bytes plan .table) (sheetAgain bytes plan .designated) class
+
+-- record j is a unit at which the class fails, by rule 2
+unfoldable pub failsAgainAt : Sheet → ℕ → ℕ → Bool
+failsAgainAt sheet class j =
+    isUnitThat (λ unit. classFails (sheet .table) (sheet .designated) (cusumsBefore sheet j) (tenthsOf unit) class) (sheet .entry j)

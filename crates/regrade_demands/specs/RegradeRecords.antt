@@ -1,0 +1,134 @@
+-- Demand 2 for regradings: what an accepted one gets, unit by unit, said a second time by what stands in the bytes of the sheet and of the
+-- second plan and by place, without the functions that grade. "Failed units stay in their order": each has its record at its own place,
+-- and its CuSums go on.
+use Prim.Native.Nat.{ℕ, suc, _+_, _<_, _≤_}
+use mathlib.Core.Path.{_≡_}
+use mathlib.Core.List.{List}
+use lib.ListN.{length}
+use Rattle.encoding.specs.Bytes.{byte}
+use Rattle.units.specs.Words.{substandard, classes, worse}
+use Rattle.outcome.specs.declared.Answer.{Answer}
+use Rattle.grounds.specs.Tells.{Tells}
+use Rattle.tally.specs.Outcome.{recordsIn}
+use Rattle.tally.specs.Accepted.{UnitAt, recordedCusum, recordedOvershoot, recordedPortionGrade}
+use Rattle.answers.specs.Grounds.{startIn, toleranceIn, limitIn, IsRedesignation, IsBreak}
+use Rattle.courses.specs.Course.{tenTimesCount, prerequisite}
+use Rattle.courses.specs.Demand2.{recordedMark, recordedCode, recordedPlanGrade, recordedStanding, codeOf, WorstOfCode}
+use Rattle.regrade_demands.specs.RegradeAccepted.{RegradedAs, sheetAgain, designatedIn, numbersAgain, failsAgainAt}
+
+-- before record i the CuSum of each class; of the unit that is record i its CuSums, its overshoots and its defect grade. CuSums and
+-- overshoots are tenths
+pub record RegradeCourse : Type 0 where
+  pub cusum : ℕ → ℕ → ℕ
+  pub newCusum : ℕ → ℕ → ℕ
+  pub overshoot : ℕ → ℕ → ℕ
+  pub defectGrade : ℕ → ℕ
+
+-- rule 2 in a class, by old CuSum + ten times the count, of which the raw value is what is left of T on: above L it fails and the CuSum becomes
+-- L, below zero it becomes 0, otherwise it is the raw value; the overshoot is raw value less L, or zero where the class met
+pub record RuleTwoBy (reached tolerance limit new over : ℕ) : Type 0 where
+  pub fails : tolerance + limit < reached → new ≡ limit
+  pub below : reached < tolerance → new ≡ 0
+  pub between : tolerance ≤ reached → reached ≤ tolerance + limit → new + tolerance ≡ reached
+  pub over-by : tolerance + limit < reached → over + (tolerance + limit) ≡ reached
+  pub not-over : reached ≤ tolerance + limit → over ≡ 0
+
+module _ (bytes plan : List ℕ) (course : RegradeCourse) where
+  -- old CuSum + ten times the count; the raw value is this less T
+  abbrev pub reachedAgain : ℕ → ℕ → ℕ
+  reachedAgain i class = course .cusum i class + tenTimesCount bytes i class
+
+  -- S, T and L of a class in the plan of the second plan's designated grade
+  abbrev pub startAgain : ℕ → ℕ
+  startAgain class = startIn plan (designatedIn plan) class
+
+  abbrev pub toleranceAgain : ℕ → ℕ
+  toleranceAgain class = toleranceIn plan (designatedIn plan) class
+
+  abbrev pub limitAgain : ℕ → ℕ
+  limitAgain class = limitIn plan (designatedIn plan) class
+
+  -- a class fails at a unit: the raw value is above L
+  abbrev pub ClassFailsAgain : ℕ → ℕ → Type 0
+  ClassFailsAgain i class = toleranceAgain class + limitAgain class < reachedAgain i class
+
+  -- rule 3: a unit fails if a class fails
+  pub record UnitFailsAgain (i : ℕ) : Type 0 where
+    pub class : ℕ
+    pub a-class : class < length classes
+    pub fails : ClassFailsAgain i class
+
+  -- a grade of the second plan admits the counts: its T+L is not exceeded by ten times the count in any class
+  abbrev pub AdmitsAgain : ℕ → ℕ → Type 0
+  AdmitsAgain i grade = (class : ℕ) → class < length classes → tenTimesCount bytes i class ≤ toleranceIn plan grade class + limitIn plan grade class
+
+  -- a grade is the best lower one that admits the counts; it is Substandard exactly if none does
+  pub record BestLowerAgain (i grade : ℕ) : Type 0 where
+    pub lower : designatedIn plan < grade
+    pub a-grade : grade ≤ substandard
+    pub admits : grade < substandard → AdmitsAgain i grade
+    pub none-better : (better : ℕ) → designatedIn plan < better → better < grade → AdmitsAgain i better → ⊥
+
+  pub record RuleThreeAgain (i : ℕ) : Type 0 where
+    pub meets : (UnitFailsAgain i → ⊥) → course .defectGrade i ≡ designatedIn plan
+    pub fails : UnitFailsAgain i → BestLowerAgain i (course .defectGrade i)
+
+  pub record RegradeRules : Type 0 where
+    -- the opening: every class at its S
+    pub opening : (class : ℕ) → class < length classes → course .cusum 0 class ≡ startAgain class
+    -- units, graded by rules 2 and 3 under the second plan's designated grade
+    pub rule-two : (i class : ℕ) → UnitAt bytes i → class < length classes
+        → RuleTwoBy (reachedAgain i class) (toleranceAgain class) (limitAgain class) (course .newCusum i class) (course .overshoot i class)
+    pub rule-three : (i : ℕ) → UnitAt bytes i → RuleThreeAgain i
+    -- behind a unit its CuSums go on, whether it failed or not and whatever failed before it: "the rule of two in a row doesn't apply"
+    pub unit-goes-on : (i class : ℕ) → UnitAt bytes i → class < length classes → course .cusum (suc i) class ≡ course .newCusum i class
+    -- "breaks restart"
+    pub break-restarts : (i class : ℕ) → IsBreak bytes i → class < length classes → course .cusum (suc i) class ≡ startAgain class
+    -- "redesignations are passed over"
+    pub redesignation-passed : (i class : ℕ) → IsRedesignation bytes i → class < length classes → course .cusum (suc i) class ≡ course .cusum i class
+
+-- what is recorded of the unit that is record i
+pub record RegradeRecorded (bytes plan results : List ℕ) (course : RegradeCourse) (i : ℕ) : Type 0 where
+  pub mark : recordedMark bytes results i ≡ 0x4752
+  -- (that the sheet is made of bytes, as every sheet is, the other fields need not know)
+  pub code : ((place : ℕ) → byte bytes place < 256) → recordedCode bytes results i ≡ codeOf bytes i
+  pub plan-grade : recordedPlanGrade bytes results i ≡ designatedIn plan
+  pub cusums : (class : ℕ) → class < length classes → recordedCusum bytes results i class ≡ course .newCusum i class
+  pub overshoots : (class : ℕ) → class < length classes → recordedOvershoot bytes results i class ≡ course .overshoot i class
+  -- rule 4, "prerequisites count as before": no portion is recovered
+  pub portion : recordedPortionGrade bytes results i ≡ worse (course .defectGrade i) (prerequisite bytes i)
+  -- "standing is 0 or 1": met, failed
+  pub standing-met : (UnitFailsAgain bytes plan course i → ⊥) → recordedStanding bytes results i ≡ 0
+  pub standing-failed : UnitFailsAgain bytes plan course i → recordedStanding bytes results i ≡ 1
+
+-- two courses agree at the unit that is record i
+pub record SameAgainAt (course other : RegradeCourse) (i : ℕ) : Type 0 where
+  pub new-cusums : (class : ℕ) → class < length classes → course .newCusum i class ≡ other .newCusum i class
+  pub overshoots : (class : ℕ) → class < length classes → course .overshoot i class ≡ other .overshoot i class
+  pub defect-grade : course .defectGrade i ≡ other .defectGrade i
+
+-- of an accepted regrading and the result buffer as it is left
+pub record RegradedByRules (bytes plan results : List ℕ) : Type 0 where
+  pub course : RegradeCourse
+  pub rules : RegradeRules bytes plan course
+  -- every other course that follows the rules agrees with it before every record and behind the last, and at every unit
+  pub only-course-before : (other : RegradeCourse) → RegradeRules bytes plan other → (i class : ℕ) → i ≤ recordsIn bytes → class < length classes
+      → course .cusum i class ≡ other .cusum i class
+  pub only-course : (other : RegradeCourse) → RegradeRules bytes plan other → (i : ℕ) → UnitAt bytes i → SameAgainAt course other i
+  pub recorded : (i : ℕ) → UnitAt bytes i → RegradeRecorded bytes plan results course i
+  -- "codes count as before": the worst portion grade among all units of the sheet with that code
+  pub code-grades : (i : ℕ) → UnitAt bytes i → WorstOfCode bytes results i
+  -- words of demand 3 mean what the course says and what the bytes say: a class fails; S, T and L
+  pub class-fails : (i class : ℕ) → UnitAt bytes i → class < length classes
+      → Tells (failsAgainAt (sheetAgain bytes plan) class i) (ClassFailsAgain bytes plan course i class)
+  pub only-units-fail : (i class : ℕ) → (UnitAt bytes i → ⊥) → failsAgainAt (sheetAgain bytes plan) class i ≡ false
+  pub numbers : (class : ℕ) → class < length classes →
+      let numbers = numbersAgain bytes plan class in
+      (numbers .start ≡ startIn plan (designatedIn plan) class)
+      × (numbers .tolerance ≡ toleranceIn plan (designatedIn plan) class)
+      × (numbers .limit ≡ limitIn plan (designatedIn plan) class)
+
+-- for every accepted regrading
+abbrev pub RegradeGraded : Type 0
+RegradeGraded =
+    (bytes plan buffer : List ℕ) (answer : Answer) (results : List ℕ) → RegradedAs bytes plan buffer answer results → RegradedByRules bytes plan results
