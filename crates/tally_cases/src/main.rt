@@ -41,6 +41,7 @@ fn read_kind() -> u8 {
     kind[0]
 }
 
+// Reads a length, or that there is none.
 fn read_length() -> usize {
     let mut length = [0u8; LENGTH_SIZE];
     let got = io::read_full(libc::STDIN_FILENO, &mut length);
@@ -93,15 +94,15 @@ fn print_regrading(sheet: &[u8]) -> bool {
 }
 
 fn print_sheet(kind: u8, sheet: &[u8]) -> bool {
-    if kind == REGRADING {
-        return print_regrading(sheet);
+    if kind == TALLY {
+        print_tally(sheet);
+        return true;
     }
     if kind == MOLD {
         print_mold(sheet);
-    } else {
-        print_tally(sheet);
+        return true;
     }
-    true
+    print_regrading(sheet)
 }
 
 // Prints one case; false where none is left, or it is none of these.
