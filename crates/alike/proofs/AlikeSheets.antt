@@ -13,7 +13,7 @@ use Rattle.encoding.specs.Bytes.{byte, number}
 use Rattle.units.specs.declared.Plan.{Plan}
 use Rattle.units.specs.declared.Entry.{Entry}
 use Rattle.anchors.proofs.SideBySide.{UnitBelow, Below, NoRedesignation}
-use Rattle.layout.specs.Layout.{planSize, gradeOffset, codeOffset, recoverableOffset, toleranceOffset, limitOffset, tableOffset, planNumbersSize, cells, countsOffset, kinds, prerequisiteOffset, unitSize, planOf, markOf, markAt, sizeOf, sampleUnitAt, entryOf, offset, mark, entryAt}
+use Rattle.layout.specs.Layout.{planSize, numberSize, gradeOffset, codeOffset, countOffset, recoverableOffset, toleranceOffset, limitOffset, tableOffset, planNumbersSize, cells, countsOffset, kinds, prerequisiteOffset, unitSize, planOf, markOf, markAt, sizeOf, sampleUnitAt, entryOf, offset, mark, entryAt}
 use Rattle.layout.specs.declared.Mark.{Mark}
 use Rattle.layout.specs.declared.Mark.the-variants.{UnitMark, RedesignationMark, BreakMark, NoMark}
 use Rattle.layout.proofs.Offsets.{size-ge, offset-lt, offset-ge, inside-unit, inside-redesignation}
@@ -48,6 +48,11 @@ outside-counts bytes i place own out count = go (in-order i (count .i))
         let at = ap (offset bytes) same in
         out (ap (mark bytes) same ∙ count .unit .is-unit) (omega (arith, count .from)) (omega (arith, count .to))
     go (inr (inr less)) = omega (arith, count .to, offset-lt bytes (count .i) i less, ap sizeOf (count .unit .is-unit))
+
+-- and each byte of a unit's counts is in one
+pub own-count : (bytes : List ℕ) (i kind place : ℕ) → UnitAt bytes i → kind < kinds → place < numberSize
+    → InCount bytes (offset bytes i + (countOffset kind + place))
+own-count bytes i kind place at a-kind within = record { i = i; unit = at; from = omega arith; to = omega arith }
 
 -- ---- the plan
 

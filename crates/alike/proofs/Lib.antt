@@ -1,1 +1,2 @@
 pub mod AlikeSheets
+pub mod OneFewer

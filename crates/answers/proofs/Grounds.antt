@@ -40,12 +40,12 @@ module _ (bytes buffer : List ℕ) where
   buffer-in-rows n (row13 h) = (lit< tt, refl)
   buffer-in-rows n (row14 h) = (lit< tt, refl)
 
-  buffer-rows : (n : ℕ) → BufferRow bytes buffer n → 12 ≤ rowsAbove rows n
+  buffer-rows : (n : ℕ) → BufferRow bytes buffer n → 13 ≤ rowsAbove rows n
   unfolding rowsAbove
   buffer-rows n (row13 h) = omega arith
   buffer-rows n (row14 h) = omega arith
 
-  computes : Computes (sheetGrounds bytes buffer) 5 12 (planRefusal bytes) (recordRefusal bytes)
+  computes : Computes (sheetGrounds bytes buffer) 5 13 (planRefusal bytes) (recordRefusal bytes)
   computes =
       record {
         opening-in-rows = plan-in-rows bytes;
@@ -67,7 +67,7 @@ module _ (bytes buffer : List ℕ) where
   Judged answer = RefusedByGround (sheetGrounds bytes buffer) (WholeSheet bytes) answer
 
   refused-here : (number at : ℕ) → (number ≡ 0 → ⊥) → FirstRowMet (sheetGrounds bytes buffer) number at → Judged (refusedAs number at)
-  refused-here number at = refused-by _ 5 12 _ _ computes (WholeSheet bytes) (refusedAs number at)
+  refused-here number at = refused-by _ 5 13 _ _ computes (WholeSheet bytes) (refusedAs number at)
 
   module _ (records : ℕ) (facts : Facts bytes records) where
     passes : (j : ℕ) → j < records → recordRefusal bytes j ≡ 0
@@ -78,7 +78,7 @@ module _ (bytes buffer : List ℕ) where
     unfolding rowsAbove
     short less =
         refused-here 13 (length bytes) (λ e. omega arith)
-        (buffer-refused _ 5 12 _ _ computes records (facts .plan) (facts .end) passes 13
+        (buffer-refused _ 5 13 _ _ computes records (facts .plan) (facts .end) passes 13
         (row13 (record { records = records; filled = facts .end; short = less })) (λ n applies above. omega (arith, buffer-rows n applies)))
 
     -- neither 13 nor 14
@@ -98,11 +98,11 @@ module _ (bytes buffer : List ℕ) where
   unfolding Says outcomeBy pick acceptance
   judged-by (Refused number at) (refused, inl (in-plan, at-start)) =
       refused-here number at refused
-      (subst⁻¹ (FirstRowMet (sheetGrounds bytes buffer) number) at-start (opening-refused _ 5 12 _ _ computes number in-plan refused))
+      (subst⁻¹ (FirstRowMet (sheetGrounds bytes buffer) number) at-start (opening-refused _ 5 13 _ _ computes number in-plan refused))
   judged-by (Refused number at) (refused, inr (passed, stops)) =
       refused-here number at refused
       (subst⁻¹ (FirstRowMet (sheetGrounds bytes buffer) number) (stops .at-offset)
-      (record-refused _ 5 12 _ _ computes number (stops .stop) passed (stops .inside) (stops .refused-by) refused (stops .earlier)))
+      (record-refused _ 5 13 _ _ computes number (stops .stop) passed (stops .inside) (stops .refused-by) refused (stops .earlier)))
   judged-by (Accepted records units) (facts, counted) =
       go (ltb (length buffer) (resultSize * units)) refl (overfullBefore (sheetOf bytes records) records) refl
     where
@@ -115,8 +115,8 @@ module _ (bytes buffer : List ℕ) where
       go false s false o =
           let room : resultSize * unitsBefore bytes records ≤ length buffer
           = omega (arith, ltb-false (length buffer) (resultSize * units) s, counted) in
-          accepted-by _ 5 12 _ _ computes (WholeSheet bytes) _ refl
-          (none-applies _ 5 12 _ _ computes records (facts .plan) (facts .end) (passes records facts) (has-room records facts room))
+          accepted-by _ 5 13 _ _ computes (WholeSheet bytes) _ refl
+          (none-applies _ 5 13 _ _ computes records (facts .plan) (facts .end) (passes records facts) (has-room records facts room))
           (record { records = records; filled = facts .end; counted = counted })
 
 pub demand2-grounds : Demand2Grounds

@@ -4,11 +4,13 @@ ghost use mathlib.Core.Path.{_≡_};
 ghost use Prim.Native.Nat.{_+_, _*_, _≤_};
 ghost use lib.ListN.{length};
 ghost use Rattle.results.specs.Record.{resultSize};
-ghost use Rattle.text.specs.Text.{restOfLine, Printing};
+ghost use Rattle.sheet.specs.Refusals.{mostUnits};
+ghost use Rattle.text.specs.Text.{restOfLine, refusedLine, textBy, Printing, leaving};
 ghost use Rattle.text.specs.Wrote.{Wrote};
 ghost use Rattle.lines.specs.Lines.{gradeLetter, standingLetter, cusumFields, lineOf, linesOf, printing};
 ghost use Rattle.lines.specs.Rooms.{letterFields, lineSize};
 use encoding::number_at;
+use outcome::Answer;
 use results::CODE_GRADE_OFFSET;
 use results::CODE_OFFSET;
 use results::CUSUM_WIDTH;
@@ -44,6 +46,9 @@ const LINE_SIZE: usize = WORD_SIZE
     + CLASSES * (CUSUM_SIZE + 1);
 
 pub const TEXT_SIZE: usize = LINE_SIZE * MOST_UNITS;
+
+// A result buffer for the most units.
+pub const RESULTS_SIZE: usize = RESULT_SIZE * MOST_UNITS;
 
 // ---- lines
 
@@ -119,19 +124,38 @@ fn unit_lines(results: &[u8], units: usize, out: &mut [u8]) -> usize
     end
 }
 
-// ---- the whole text
+// ---- the whole text, which stands first in the caller's; the answer is its size
+
+// A refusal alone.
+pub fn print_refusal(number: u32, offset: usize, text: &mut [u8; TEXT_SIZE]) -> usize
+    ensures { λ r. ⌜ _≡_ {A = Printing} (record { size = r; text = now (text .exit) }) (leaving (refusedLine number offset) (now (text .entry))) ⌝ }
+{
+    refusal_line(number, offset, text)
+}
+
+// What is printed for an answer and the results that stand beside it, whoever graded them: the lines of the units, or the refusal.
+pub fn print_answer(
+    answer: Answer,
+    results: &[u8; RESULTS_SIZE],
+    text: &mut [u8; TEXT_SIZE],
+) -> usize
+    requires { ⌜ answer .units ≤ mostUnits ⌝ }
+    ensures { λ r. ⌜ _≡_ {A = Printing} (record { size = r; text = now (text .exit) }) (leaving (textBy answer (lineOf (now (results .entry)))) (now (text .entry))) ⌝ }
+{
+    if answer.number == 0 {
+        return unit_lines(results, answer.units, text);
+    }
+    print_refusal(answer.number, answer.offset, text)
+}
 
 // What is printed for an input: the lines of the sheet that it is, or the refusal. It stands first in the text; the answer is its size.
 pub fn print_into(input: &[u8], text: &mut [u8; TEXT_SIZE]) -> usize
     ensures { λ r. ⌜ _≡_ {A = Printing} (record { size = r; text = now (text .exit) }) (printing (now (input .entry)) (now (text .entry))) ⌝ }
 {
     if LARGEST_INPUT < input.len() {
-        return refusal_line(TOO_MUCH_INPUT, LARGEST_INPUT, text);
+        return print_refusal(TOO_MUCH_INPUT, LARGEST_INPUT, text);
     }
-    let mut results = [0u8; RESULT_SIZE * MOST_UNITS];
+    let mut results = [0u8; RESULTS_SIZE];
     let answer = tally::grade(input, &mut results);
-    if answer.number == 0 {
-        return unit_lines(&results, answer.units, text);
-    }
-    refusal_line(answer.number, answer.offset, text)
+    print_answer(answer, &results, text)
 }

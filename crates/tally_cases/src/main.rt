@@ -1,8 +1,8 @@
 // Prints many sheets of every kind. Standard input has the cases one after the other: the kind (a byte), the length of the sheet (four
 // bytes, the high byte first), then the sheet. For each a line `case NUMBER`, then what is printed for a sheet of this kind: 0 a tally
-// sheet, as the printing program prints it; 1 a mold sheet. A case of another kind ends the program.
-ghost use Prim.Native.Nat.{_≤_};
-ghost use lib.ListN.{length};
+// sheet, as the printing program prints it; 1 a mold sheet; 2 a tally sheet graded again under a second plan, which stands behind the sheet,
+// its length (four bytes) before it. A sheet and a second plan have any length up to one byte more than is taken for a sheet. A case of
+// another kind or with more bytes ends the program.
 use encoding::number_at;
 use layout::NUMBER_SIZE;
 use lines::TEXT_SIZE;
@@ -12,54 +12,54 @@ use text::LARGEST_INPUT;
 // No test has more cases.
 const MOST_CASES: u64 = 10000;
 
-// Room for one byte more than is taken for a sheet, and the length that stands for no case.
+// Room for a sheet or a plan: one byte more than is taken for a sheet; and what stands for no such bytes.
 const ROOM: usize = LARGEST_INPUT + 1;
 
-const NO_CASE: usize = ROOM + 1;
+const NO_BYTES: usize = ROOM + 1;
 
-// Kinds of sheets.
+// Kinds of cases, and what stands for no case.
 const TALLY: u8 = 0;
 
 const MOLD: u8 = 1;
 
-// What stands before a sheet: its kind, and its length as two numbers of two bytes, each of which has so many values.
-const LENGTH_OFFSET: usize = 1;
+const REGRADING: u8 = 2;
 
-const HEADER_SIZE: usize = LENGTH_OFFSET + 2 * NUMBER_SIZE;
+const NO_CASE: u8 = 255;
+
+// A length is two numbers of two bytes, each of which has so many values.
+const LENGTH_SIZE: usize = 2 * NUMBER_SIZE;
 
 const NUMBERS: usize = 65536;
 
-struct Header {
-    kind: u8,
-    length: usize,
+// Reads the kind of a case, or that none is left.
+fn read_kind() -> u8 {
+    let mut kind = [0u8; 1];
+    let got = io::read_full(libc::STDIN_FILENO, &mut kind);
+    if got < 1 {
+        return NO_CASE;
+    }
+    kind[0]
 }
 
-// Reads what stands before a sheet, or that no case is left.
-fn read_header() -> Header {
-    let mut header = [0u8; HEADER_SIZE];
-    let got = io::read_full(libc::STDIN_FILENO, &mut header);
-    if got < HEADER_SIZE {
-        return Header {
-            kind: TALLY,
-            length: NO_CASE,
-        };
+// Reads a length, or that there is none.
+fn read_length() -> usize {
+    let mut length = [0u8; LENGTH_SIZE];
+    let got = io::read_full(libc::STDIN_FILENO, &mut length);
+    if got < LENGTH_SIZE {
+        return NO_BYTES;
     }
-    let high = number_at(&header, LENGTH_OFFSET);
-    let low = number_at(&header, LENGTH_OFFSET + NUMBER_SIZE);
-    Header {
-        kind: header[0],
-        length: high as usize * NUMBERS + low as usize,
-    }
+    let high = number_at(&length, 0);
+    let low = number_at(&length, NUMBER_SIZE);
+    high as usize * NUMBERS + low as usize
 }
 
-// Reads a sheet of this length.
-fn read_sheet(room: &mut [u8], size: usize) -> usize
-    ensures { λ r. ⌜ r ≤ length (now (room .exit)) ⌝ }
-{
-    if room.len() < size {
-        return 0;
+// Reads a length and as many bytes, and answers how many there are, or that they are not there or have no room.
+fn read_bytes(room: &mut [u8]) -> usize {
+    let length = read_length();
+    if room.len() < length {
+        return NO_BYTES;
     }
-    io::read_full(libc::STDIN_FILENO, &mut room[..size])
+    io::read_full(libc::STDIN_FILENO, &mut room[..length])
 }
 
 fn print_number(number: u64) {
@@ -80,25 +80,44 @@ fn print_mold(sheet: &[u8]) {
     io::write_all(libc::STDOUT_FILENO, &text[..end]);
 }
 
-fn print_sheet(kind: u8, sheet: &[u8]) {
-    if kind == MOLD {
-        print_mold(sheet);
-    } else {
-        print_tally(sheet);
-    }
-}
-
-// Prints one case; false where none is left, or its kind is none of these.
-fn print_case(number: u64) -> bool {
-    let header = read_header();
-    if (ROOM < header.length) | (MOLD < header.kind) {
+// Reads the second plan, and prints the regrading; false where there is no such plan.
+fn print_regrading(sheet: &[u8]) -> bool {
+    let mut plan = [0u8; ROOM];
+    let size = read_bytes(&mut plan);
+    if ROOM < size {
         return false;
     }
-    let mut input = [0u8; ROOM];
-    let bytes = read_sheet(&mut input, header.length);
-    print_number(number);
-    print_sheet(header.kind, &input[..bytes]);
+    let mut text = [0u8; TEXT_SIZE];
+    let end = regrade_lines::print_regrading_into(sheet, &plan[..size], &mut text);
+    io::write_all(libc::STDOUT_FILENO, &text[..end]);
     true
+}
+
+fn print_sheet(kind: u8, sheet: &[u8]) -> bool {
+    if kind == TALLY {
+        print_tally(sheet);
+        return true;
+    }
+    if kind == MOLD {
+        print_mold(sheet);
+        return true;
+    }
+    print_regrading(sheet)
+}
+
+// Prints one case; false where none is left, or it is none of these.
+fn print_case(number: u64) -> bool {
+    let kind = read_kind();
+    if REGRADING < kind {
+        return false;
+    }
+    let mut sheet = [0u8; ROOM];
+    let size = read_bytes(&mut sheet);
+    if ROOM < size {
+        return false;
+    }
+    print_number(number);
+    print_sheet(kind, &sheet[..size])
 }
 
 fn main() {

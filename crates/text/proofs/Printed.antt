@@ -31,7 +31,7 @@ module _ (kind : SheetKind) (input : List ℕ) where
 
   module _ (answer : Answer) (results : List ℕ)
       (promise : _≡_ {A = Outcome} (record { answer = answer; buffer = results }) (kind .outcome input (kind .buffer))) where
-    printed-text : length input ≤ largestInput → printedAs kind input ≡ textBy answer (kind .line input results)
+    pub printed-text : length input ≤ largestInput → printedAs kind input ≡ textBy answer (kind .line input results)
     printed-text within = any-other within ∙ sym (ap (λ (given : Outcome). textBy (given .answer) (kind .line input (given .buffer))) promise)
 
     pub lines-printed : length input ≤ largestInput → answer .number ≡ 0 → printedAs kind input ≡ linesBy (kind .line input results) (answer .units)

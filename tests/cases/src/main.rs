@@ -2,18 +2,22 @@
 //! for them into another, for a test of the proved program.
 //!
 //! `cases FOLDER` writes FOLDER/stdin (each sheet behind its kind in one byte and its length in four,
-//! high byte first) and FOLDER/stdout (for each a line "case NUMBER" and then what is printed).
-//! `cases --sheet NUMBER` writes one sheet to standard output and says on standard error which it is.
+//! high byte first; of a regrading the second plan stands behind the sheet, its length before it) and
+//! FOLDER/stdout (for each a line "case NUMBER" and then what is printed). `cases --sheet NUMBER`
+//! writes one sheet to standard output and says on standard error which it is, `cases --plan NUMBER`
+//! its second plan.
 
 mod lower_plans;
 mod manual;
 mod mold;
 mod refusals;
+mod regrade;
 mod small;
 mod text;
 
 use grader::generate::{self, Counts, MOST_ROOM};
 use grader::generate_mold;
+use grader::generate_regrade::{self, RegradeCase};
 use std::io::Write;
 
 /// Seeds of the random sheets.
@@ -21,14 +25,17 @@ const FIRST_SEED: u64 = 19_780_801;
 const RANDOM: u64 = 340;
 const RANDOM_LOWER_PLANS: u64 = 40;
 const RANDOM_MOLD: u64 = 60;
-/// The bytes of all sheets with their kinds and lengths stay below this.
-const MOST_BYTES: usize = 700_000;
+const RANDOM_REGRADINGS: u64 = 60;
+/// The bytes of all cases stay below this.
+const MOST_BYTES: usize = 800_000;
 
-/// Kinds of sheets.
+/// Kinds of cases: what is printed of a sheet.
 #[derive(Clone, Copy)]
 pub enum Kind {
     Tally,
     Mold,
+    /// A tally sheet graded again under a second plan.
+    Regrading,
 }
 
 impl Kind {
@@ -37,27 +44,34 @@ impl Kind {
         match self {
             Kind::Tally => 0,
             Kind::Mold => 1,
+            Kind::Regrading => 2,
         }
     }
 
     /// What the grader prints for a sheet, every CuSum computed twice.
-    fn print(self, sheet: &[u8]) -> String {
+    fn print(self, sheet: &[u8], plan: &[u8]) -> String {
         match self {
             Kind::Tally => grader::print_checked(sheet, true),
             Kind::Mold => grader::mold::print_checked(sheet, true),
+            Kind::Regrading => grader::regrade::print_checked(sheet, plan, true),
         }
     }
 
-    /// The random sheet of a seed.
-    fn random(self, seed: u64) -> generate::Case {
+    /// The random sheet of a seed, and its second plan.
+    fn random(self, seed: u64) -> (generate::Case, Vec<u8>) {
         match self {
-            Kind::Tally => generate::case(seed),
-            Kind::Mold => generate_mold::mold_case(seed),
+            Kind::Tally => (generate::case(seed), Vec::new()),
+            Kind::Mold => (generate_mold::mold_case(seed), Vec::new()),
+            Kind::Regrading => {
+                let made = generate_regrade::regrade_case(seed);
+                let RegradeCase { sheet, plan, room, expected } = made;
+                (generate::Case { sheet, room, expected }, plan)
+            }
         }
     }
 
     /// Takes in what happens in a sheet.
-    fn note(self, sheet: &[u8], counts: &mut Counts) {
+    fn note(self, sheet: &[u8], plan: &[u8], counts: &mut Counts) {
         match self {
             Kind::Tally => {
                 let (answer, graded) = grader::grade_traced(sheet, &mut [0; MOST_ROOM], false);
@@ -68,20 +82,39 @@ impl Kind {
                 let (answer, graded) = grader::mold::grade_traced(sheet, room, false);
                 counts.note_mold(sheet, answer, graded.as_ref());
             }
+            Kind::Regrading => {
+                let room = &mut [0; MOST_ROOM];
+                let (answer, graded) = grader::regrade::regrade_traced(sheet, plan, room, false);
+                let (sheet, plan) = (sheet.to_vec(), plan.to_vec());
+                let case = RegradeCase { sheet, plan, room: MOST_ROOM, expected: None };
+                counts.note_regrade(&case, answer, graded.as_ref());
+            }
         }
     }
 
-    /// The names of the random sheets: valid, damaged, messy.
-    fn groups(self) -> [&'static str; 3] {
+    /// A random sheet in a name, and the names of the groups: valid, damaged, messy.
+    fn names(self) -> (&'static str, [&'static str; 3]) {
         match self {
-            Kind::Tally => {
-                ["random sheets, valid", "random sheets, damaged", "random sheets, messy"]
-            }
-            Kind::Mold => [
-                "random mold sheets, valid",
-                "random mold sheets, damaged",
-                "random mold sheets, messy",
-            ],
+            Kind::Tally => (
+                "random sheet",
+                ["random sheets, valid", "random sheets, damaged", "random sheets, messy"],
+            ),
+            Kind::Mold => (
+                "random mold sheet",
+                [
+                    "random mold sheets, valid",
+                    "random mold sheets, damaged",
+                    "random mold sheets, messy",
+                ],
+            ),
+            Kind::Regrading => (
+                "random regrading",
+                [
+                    "random regradings, valid",
+                    "random regradings, damaged",
+                    "random regradings, messy",
+                ],
+            ),
         }
     }
 }
@@ -90,46 +123,53 @@ struct Case {
     kind: Kind,
     name: String,
     sheet: Vec<u8>,
+    /// The second plan of a regrading; of another kind no byte.
+    plan: Vec<u8>,
 }
 
 /// Sheets with their names.
 pub struct Cases {
-    /// The kind of those that are added from here on.
+    /// The kind of those that are added from here on, and the second plan if they are regradings.
     kind: Kind,
+    plan: Vec<u8>,
     cases: Vec<Case>,
 }
 
 impl Cases {
     fn push(&mut self, name: &str, sheet: Vec<u8>) {
-        self.cases.push(Case { kind: self.kind, name: name.into(), sheet });
+        let plan = self.plan.clone();
+        assert!(plan.is_empty() || matches!(self.kind, Kind::Regrading), "{name}: a second plan");
+        self.cases.push(Case { kind: self.kind, name: name.into(), sheet, plan });
     }
 
     /// A sheet that is accepted.
     pub fn add(&mut self, name: &str, sheet: Vec<u8>) {
-        let printed = self.kind.print(&sheet);
+        let printed = self.kind.print(&sheet, &self.plan);
         assert!(!printed.starts_with("refused"), "{name}: {printed}");
         self.push(name, sheet);
     }
 
-    /// A tally sheet from its text, graded as it says there.
+    /// A tally sheet from its text, and its second plan, graded as it says there.
     pub fn text(&mut self, name: &str, text: &str) {
-        self.add(name, text::sheet(name, text));
+        let kind = self.kind;
+        let (sheet, plan) = text::sheet(name, text, |sheet, plan| kind.print(sheet, plan));
+        self.plan = plan;
+        self.add(name, sheet);
     }
 
     /// A sheet that is refused with this number and offset.
     pub fn refused(&mut self, name: &str, sheet: Vec<u8>, number: u32, offset: usize) {
-        assert_eq!(self.kind.print(&sheet), format!("refused {number} {offset}\n"), "{name}");
+        let printed = self.kind.print(&sheet, &self.plan);
+        assert_eq!(printed, format!("refused {number} {offset}\n"), "{name}");
         self.push(name, sheet);
     }
 
     /// The random sheet of this seed; returns the group to which it belongs.
     fn random(&mut self, seed: u64) -> &'static str {
-        let name = match self.kind {
-            Kind::Tally => format!("random sheet, seed {seed}"),
-            Kind::Mold => format!("random mold sheet, seed {seed}"),
-        };
-        let [valid, damaged, messy] = self.kind.groups();
-        match self.made(&name, self.kind.random(seed)) {
+        let (what, [valid, damaged, messy]) = self.kind.names();
+        let (made, plan) = self.kind.random(seed);
+        self.plan = plan;
+        match self.made(&format!("{what}, seed {seed}"), made) {
             Some((0 | 13, _)) => valid,
             Some(_) => damaged,
             None => messy,
@@ -138,7 +178,7 @@ impl Cases {
 
     /// A random sheet; returns what is expected of it.
     fn made(&mut self, name: &str, made: generate::Case) -> Option<(u32, usize)> {
-        let printed = self.kind.print(&made.sheet);
+        let printed = self.kind.print(&made.sheet, &self.plan);
         // Number 13 is about a short result buffer, which printing does not have.
         if let Some((number, offset)) =
             made.expected.filter(|(number, _)| ![0, 13].contains(number))
@@ -152,7 +192,7 @@ impl Cases {
 
 /// All cases, and how many there are of each group.
 fn all() -> (Cases, Vec<(&'static str, usize)>) {
-    let mut cases = Cases { kind: Kind::Tally, cases: Vec::new() };
+    let mut cases = Cases { kind: Kind::Tally, plan: Vec::new(), cases: Vec::new() };
     let mut groups: Vec<(&str, usize)> = Vec::new();
     let mut count = |group, cases: &Cases| {
         let new = cases.cases.len() - groups.iter().map(|(_, number)| number).sum::<usize>();
@@ -193,17 +233,28 @@ fn all() -> (Cases, Vec<(&'static str, usize)>) {
         let group = cases.random(seed);
         count(group, &cases);
     }
+    cases.kind = Kind::Regrading;
+    regrade::add(&mut cases);
+    count("regradings by hand", &cases);
+    regrade::add_refusals(&mut cases);
+    count("refusals of regradings by hand and regradings beside them", &cases);
+    for seed in FIRST_SEED..FIRST_SEED + RANDOM_REGRADINGS {
+        let group = cases.random(seed);
+        count(group, &cases);
+    }
     (cases, groups)
 }
 
 /// What happens in the cases; panics if something never does.
 fn covered(cases: &Cases) -> Counts {
     let mut counts = Counts::default();
-    for Case { kind, sheet, .. } in &cases.cases {
-        kind.note(sheet, &mut counts);
+    for Case { kind, sheet, plan, .. } in &cases.cases {
+        kind.note(sheet, plan, &mut counts);
     }
-    // Number 13 and overshoots, which are not printed, are left to the differential test.
-    let missing = counts.missing().find(|name| !name.ends_with("number 13"));
+    // Number 13 and other lengths of the result buffer, which printing does not have, and overshoots,
+    // which are not printed, are left to the differential test.
+    let elsewhere = |name: &str| name.ends_with("number 13") || name.contains("buffer");
+    let missing = counts.missing().find(|name| !elsewhere(name));
     assert_eq!(missing, None, "no case has this");
     counts
 }
@@ -212,26 +263,32 @@ fn main() {
     let arguments: Vec<String> = std::env::args().skip(1).collect();
     let (cases, groups) = all();
     match &arguments[..] {
-        [option, number] if option == "--sheet" => {
+        [option, number] if ["--sheet", "--plan"].contains(&&option[..]) => {
             let place = number.parse::<usize>().ok().and_then(|number| number.checked_sub(1));
-            let Some(Case { name, sheet, .. }) = place.and_then(|place| cases.cases.get(place))
+            let Some(Case { name, sheet, plan, .. }) =
+                place.and_then(|place| cases.cases.get(place))
             else {
                 eprintln!("cases: the cases are numbered from 1 to {}", cases.cases.len());
                 std::process::exit(2);
             };
-            eprintln!("case {number}: {name}, {} bytes", sheet.len());
-            std::io::stdout().write_all(sheet).expect("cannot write the sheet");
+            let bytes = if option == "--sheet" { sheet } else { plan };
+            eprintln!("case {number}: {name}, {} bytes", bytes.len());
+            std::io::stdout().write_all(bytes).expect("cannot write the bytes");
         }
         [folder] => {
             let counts = covered(&cases);
             let (mut stdin, mut stdout) = (Vec::new(), String::new());
-            for (place, Case { kind, name, sheet }) in cases.cases.iter().enumerate() {
+            for (place, Case { kind, name, sheet, plan }) in cases.cases.iter().enumerate() {
                 // The program has room for one byte more than is taken for a sheet.
-                assert!(sheet.len() <= 65_537, "{name}");
+                assert!(sheet.len().max(plan.len()) <= 65_537, "{name}");
                 stdin.push(kind.byte());
                 stdin.extend((sheet.len() as u32).to_be_bytes());
                 stdin.extend(sheet);
-                stdout += &format!("case {}\n{}", place + 1, kind.print(sheet));
+                if matches!(kind, Kind::Regrading) {
+                    stdin.extend((plan.len() as u32).to_be_bytes());
+                    stdin.extend(plan);
+                }
+                stdout += &format!("case {}\n{}", place + 1, kind.print(sheet, plan));
             }
             assert!(stdin.len() < MOST_BYTES, "{} bytes of sheets", stdin.len());
             for (name, content) in [("stdin", &stdin[..]), ("stdout", stdout.as_bytes())] {
@@ -242,7 +299,8 @@ fn main() {
             for (group, number) in groups {
                 eprintln!("{number:>6}  {group}");
             }
-            let accepted = counts.0["number 00"] + counts.0["mold: number 00"];
+            let accepted = |kind: &str| counts.0[&format!("{kind}number 00")];
+            let accepted = accepted("") + accepted("mold: ") + accepted("regrading: ");
             eprintln!(
                 "cases: {} cases, {accepted} accepted, {} bytes of sheets, {} lines expected",
                 cases.cases.len(),
@@ -251,7 +309,7 @@ fn main() {
             );
         }
         _ => {
-            eprintln!("usage: cases FOLDER, or cases --sheet NUMBER");
+            eprintln!("usage: cases FOLDER, or cases --sheet NUMBER, or cases --plan NUMBER");
             std::process::exit(2);
         }
     }

@@ -16,8 +16,16 @@
 //! say how a sheet goes on, with what is taken if they are missing: `code` (1, 2, ...),
 //! `prerequisite` (A), `recoverable` (0), `minor` (what total needs, else 0), and `before`, which
 //! lists what stands before each unit: "." nothing, a letter a redesignation, "|" a break.
+//!
+//! A regrading has the second plan as well, in rows `buyer`, and the last five rows are those of the
+//! regrading:
+//!
+//! ```text
+//! buyer        B                       its designated grade
+//! buyer major  1/2/2  1/4/3  2/6/6     as in a row of `plan`
+//! ```
 
-use grader::sheet::{Grade, Numbers, Record, Sheet, Unit};
+use grader::sheet::{Grade, Numbers, Record, Sheet, Table, Unit};
 
 /// The classes as rows; minor is a count and no class.
 const CLASSES: [&str; 4] = ["critical", "severe", "major", "total"];
@@ -28,24 +36,45 @@ const FIRST_CUSUM: usize = 6;
 /// The other rows.
 const OTHERS: [&str; 5] = ["minor", "code", "prerequisite", "recoverable", "before"];
 
-/// Makes the sheet and panics if the grader does not print what the text has.
-pub fn sheet(name: &str, text: &str) -> Vec<u8> {
-    let (sheet, wanted) = read(text);
-    let bytes = sheet.bytes();
-    let printed = grader::print_checked(&bytes, true);
+/// Makes the sheet and the second plan (no byte where there is none) and panics if they are not
+/// printed as the text has it.
+pub fn sheet(
+    name: &str,
+    text: &str,
+    print: impl FnOnce(&[u8], &[u8]) -> String,
+) -> (Vec<u8>, Vec<u8>) {
+    let (sheet, second, wanted) = read(text);
+    let (bytes, second) = (sheet.bytes(), second.map_or(Vec::new(), |second| second.bytes()));
+    let printed = print(&bytes, &second);
     let lines: Vec<Vec<&str>> = printed.lines().map(|line| line.split(' ').collect()).collect();
     assert_eq!(lines.len(), sheet.units(), "{name}: {printed}");
     for (unit, field, value) in wanted {
         let place = format!("{name}: field {} of unit {}", field + 1, unit + 1);
         assert_eq!(lines[unit][field], value, "{place}, the grader on the left");
     }
-    bytes
+    (bytes, second)
 }
 
-/// The sheet, and the values that are expected: unit (from 0), field, text.
-fn read(text: &str) -> (Sheet, Vec<(usize, usize, String)>) {
-    let mut sheet =
-        Sheet { designated: 0, table: [[Numbers { s: 0, t: 9_999, l: 0 }; 4]; 3], records: vec![] };
+/// S/T/L of a class at A, B and C into a table, from the cells behind a row's name.
+fn read_numbers(table: &mut Table, cells: &[&str]) {
+    assert_eq!(cells.len(), 4, "{cells:?}");
+    let class = CLASSES.iter().position(|&name| name == cells[0]).expect("a class");
+    let mut numbers = table[0][class];
+    for (grade, cell) in cells[1..].iter().enumerate() {
+        if *cell != "=" {
+            let [s, t, l] = [0, 1, 2].map(|part| tenths(cell.split('/').nth(part).unwrap()));
+            numbers = Numbers { s, t, l };
+        }
+        table[grade][class] = numbers;
+    }
+}
+
+/// The sheet, the second plan as a sheet without records, and the values that are expected: unit (from
+/// 0), field, text.
+fn read(text: &str) -> (Sheet, Option<Sheet>, Vec<(usize, usize, String)>) {
+    let wide = [[Numbers { s: 0, t: 9_999, l: 0 }; 4]; 3];
+    let mut sheet = Sheet { designated: 0, table: wide, records: vec![] };
+    let mut second = None;
     let mut rows = std::collections::BTreeMap::new();
     let (mut wanted, mut lengths) = (Vec::new(), Vec::new());
     let mut class = None;
@@ -60,17 +89,14 @@ fn read(text: &str) -> (Sheet, Vec<(usize, usize, String)>) {
         if row == "designated" {
             sheet.designated = letter(cells[0]);
         } else if row == "plan" {
-            let class = CLASSES.iter().position(|&name| name == cells[0]).expect("a class");
-            let mut numbers = sheet.table[0][class];
-            for (grade, cell) in cells[1..].iter().enumerate() {
-                if *cell != "=" {
-                    let [s, t, l] =
-                        [0, 1, 2].map(|part| tenths(cell.split('/').nth(part).unwrap()));
-                    numbers = Numbers { s, t, l };
-                }
-                sheet.table[grade][class] = numbers;
+            read_numbers(&mut sheet.table, cells);
+        } else if row == "buyer" {
+            let empty = Sheet { designated: 0, table: wide, records: vec![] };
+            let second = second.get_or_insert(empty);
+            match cells {
+                [designated] => second.designated = letter(designated),
+                _ => read_numbers(&mut second.table, cells),
             }
-            assert_eq!(cells.len(), 4, "{line}");
         } else if row == "cusum" {
             let class: usize = class.expect("a class above");
             want(FIRST_CUSUM + class, &|cell| {
@@ -109,7 +135,7 @@ fn read(text: &str) -> (Sheet, Vec<(usize, usize, String)>) {
             recoverable: number("recoverable") == Some(1),
         }));
     }
-    (sheet, wanted)
+    (sheet, second, wanted)
 }
 
 /// A, B, C or S.

@@ -1,11 +1,12 @@
--- What is read lies inside the part of the room that was lent.
+-- The part of the room that is lent is as long as what is read.
 use mathlib.Core.Path.{sym}
-use native.Mathlib.Omega.{arith}
-use lib.ListN.{length-append}
 use lib.Seq.{length-take-le}
 use borrow.Author.Needs.{needs}
-use Rattle.tally_cases.proofs.read_sheet.Statement.{statement}
-use Rattle.tally_cases.proofs.read_sheet.Tie as tie
+use Rattle.tally_cases.proofs.read_bytes.Statement.{statement}
+use Rattle.tally_cases.proofs.read_bytes.Tie as tie
+
+read-length-requires : tie.Need-read-length-requires
+read-length-requires c κs = search needs
 
 returns : tie.Need-returns
 returns c = search needs
@@ -15,8 +16,8 @@ slice-relend-prefix-read-full c = search needs
 
 slice-aggregate-read-full : tie.Need-slice-aggregate-read-full
 slice-aggregate-read-full c =
-    let args = c .before .before .before .args in
-    sym (length-take-le (args .size) (args .room .now) (c .before .if1 .left))
+    let test = c .before in
+    sym (length-take-le (test .before .read-length .result) (test .before .before .before .args .room .now) (test .if1 .left))
 
 read-full-requires : tie.Need-read-full-requires
 read-full-requires c κs = search needs
@@ -25,12 +26,13 @@ same-length : tie.Need-same-length
 same-length c = search needs
 
 returns-2 : tie.Need-returns-2
-returns-2 c = simp length-append (omega (arith, c .before .before .read-full .ensures .0))
+returns-2 c = search needs
 
-pub read-sheet-spec : {M : Type 1} → statement M
-read-sheet-spec =
+pub read-bytes-spec : {M : Type 1} → statement M
+read-bytes-spec =
     tie.close
     (tie.spec
+    read-length-requires
     returns
     slice-relend-prefix-read-full
     slice-aggregate-read-full
