@@ -2,3 +2,4 @@ pub mod Rewritten
 pub mod SecondPlan
 pub mod Cases
 pub mod Computing
+pub mod AcceptedRegrading
