@@ -12,7 +12,8 @@ use borrow.Author.Tests.{ltb-true, leb-true, leb-false}
 use Rattle.encoding.specs.Bytes.{byte, number}
 use Rattle.units.specs.declared.Plan.{Plan}
 use Rattle.units.specs.declared.Entry.{Entry}
-use Rattle.anchors.proofs.SideBySide.{UnitBelow, Below, NoRedesignation}
+use Rattle.anchors.proofs.Fellows.{UnitBelow, Below}
+use Rattle.anchors.proofs.SideBySide.{NoRedesignation}
 use Rattle.layout.specs.Layout.{planSize, numberSize, gradeOffset, codeOffset, countOffset, recoverableOffset, toleranceOffset, limitOffset, tableOffset, planNumbersSize, cells, countsOffset, kinds, prerequisiteOffset, unitSize, planOf, markOf, markAt, sizeOf, sampleUnitAt, entryOf, offset, mark, entryAt}
 use Rattle.layout.specs.declared.Mark.{Mark}
 use Rattle.layout.specs.declared.Mark.the-variants.{UnitMark, RedesignationMark, BreakMark, NoMark}

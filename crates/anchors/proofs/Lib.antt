@@ -4,4 +4,5 @@ pub mod Restarts
 pub mod StepThreeStands
 pub mod LargestForm
 pub mod Anchors
+pub mod Fellows
 pub mod SideBySide

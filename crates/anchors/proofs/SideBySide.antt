@@ -1,20 +1,19 @@
 -- Demand 3's second half over records: two sheets with one plan, alike but for fewer counts in the first, graded side by side.
 -- While the second has not failed two in a row both stay under the designated plan; by induction on the records.
 use Prim.Native.Nat.{ℕ, zero, suc, _+_, _≤_, _<_}
-use mathlib.Core.Path.{_≡_, refl, sym, _∙_, ap, ap₂, subst⁻¹, subst₂}
-use mathlib.Core.Bool.{Bool, true, false, cond, _&&_, true≢false, false≢true}
+use mathlib.Core.Path.{_≡_, refl, sym, _∙_, ap, ap₂, subst₂}
+use mathlib.Core.Bool.{Bool, true, false, _&&_, true≢false, false≢true}
 use mathlib.Core.List.{List}
 use native.Mathlib.Omega.{arith}
-use lib.Dec.{eqb}
 use Rattle.cusum.specs.declared.Cusum.{Cusum}
 use Rattle.units.specs.Words.{substandard, Table, rowOf, tenthsOf}
 use Rattle.units.specs.Unit.{starting, classCusum, classOvershoot, unitFails, gradingOf, portionGradeOf}
-use Rattle.units.specs.Records.{isUnitThat, portionGradeWith, worstBefore}
+use Rattle.units.specs.Records.{isUnitThat}
 use Rattle.units.specs.declared.SampleUnit.{SampleUnit}
 use Rattle.units.specs.declared.Entry.{Entry}
 use Rattle.units.specs.declared.Entry.the-variants.{UnitRecord, Redesignation, Break}
 use Rattle.units.proofs.Tests.{and-false}
-use Rattle.units.proofs.Monotone.{Fewer, counts-fewer, NoHigher, same-no-higher, class-cusum-mono, class-overshoot-mono, cusums-mono, class-fails-mono, unit-fails-mono, defect-grade-mono}
+use Rattle.units.proofs.Monotone.{counts-fewer, NoHigher, same-no-higher, class-cusum-mono, class-overshoot-mono, cusums-mono, class-fails-mono, unit-fails-mono, defect-grade-mono}
 use Rattle.rules.specs.StepThree.{inStepThree, inForceIn, twoInARow, failureAfter, endsStepThree, withUnit, withoutRun, restarted, graded, qualifiesIn, afterBreak, next, recordEndsStepThree}
 use Rattle.rules.specs.Sheet.{Sheet, before, inForceAt, stepThreeEndsAt, inFinishedRun, recovered, portionGrade, codeGrade}
 use Rattle.anchors.specs.TwoInARow.{failsInForce, failsDesignated, unitFailsAt, unitFailsBefore, secondInARow}
@@ -24,27 +23,9 @@ use Rattle.rules.specs.declared.Phase.{Phase}
 use Rattle.rules.specs.declared.Phase.the-variants.{Designated}
 use Rattle.rules.specs.declared.State.{State}
 use Rattle.rules.proofs.Steps.{stateOf, unit-passes, isFailure, two-in-a-row-is, failure-is}
+use Rattle.anchors.proofs.Fellows.{UnitBelow, Below, worst-mono}
 
 -- ---- what is compared
-
--- two units alike but for the counts, none of which exceeds its fellow in the second
-pub record UnitBelow (u v : SampleUnit) : Type 0 where
-  pub same-code : u .code ≡ v .code
-  pub fewer : Fewer u v
-  pub same-prerequisite : u .prerequisite ≡ v .prerequisite
-  pub same-recoverable : u .recoverable ≡ v .recoverable
-
--- two records
-unfoldable pub Below : Entry → Entry → Type 0
-Below (UnitRecord u) (UnitRecord v) = UnitBelow u v
-Below (UnitRecord u) (Redesignation new) = ⊥
-Below (UnitRecord u) Break = ⊥
-Below (Redesignation new) (UnitRecord v) = ⊥
-Below (Redesignation new) (Redesignation new') = new ≡ new'
-Below (Redesignation new) Break = ⊥
-Below Break (UnitRecord v) = ⊥
-Below Break (Redesignation new) = ⊥
-Below Break Break = Unit {0}
 
 -- no redesignation
 unfoldable pub NoRedesignation : Entry → Type 0
@@ -238,34 +219,10 @@ module _ (table : Table) (designated : ℕ) (es fs : ℕ → Entry) (size : ℕ)
               (counts-fewer u v (below .fewer)) graded-designated,
         ))
 
-    portion-with-mono : (code i : ℕ) (e e' : Entry) → Below e e'
-        → portionGradeWith (portionGrade first) code i e ≤ portionGradeWith (portionGrade second) code i e'
-    unfolding portionGradeWith Below
-    portion-with-mono code i (UnitRecord u) (UnitRecord v) w =
-        subst⁻¹ (λ (x : ℕ). cond (eqb x code) (portionGrade first i u) 0 ≤ cond (eqb (v .code) code) (portionGrade second i v) 0)
-        (w .same-code) (go (eqb (v .code) code))
-      where
-        go : (b : Bool) → cond b (portionGrade first i u) 0 ≤ cond b (portionGrade second i v) 0
-        go true = portion-mono i u v w
-        go false = omega arith
-    portion-with-mono code i (UnitRecord u) Break w = absurd w
-    portion-with-mono code i (UnitRecord u) (Redesignation g) w = absurd w
-    portion-with-mono code i Break (UnitRecord v) w = absurd w
-    portion-with-mono code i Break (Redesignation g) w = absurd w
-    portion-with-mono code i Break Break w = omega arith
-    portion-with-mono code i (Redesignation g) (UnitRecord v) w = absurd w
-    portion-with-mono code i (Redesignation g) Break w = absurd w
-    portion-with-mono code i (Redesignation g) (Redesignation h) w = omega arith
-
-    worst-mono : (code n : ℕ) → worstBefore (portionGrade first) es code n ≤ worstBefore (portionGrade second) fs code n
-    unfolding worstBefore
-    worst-mono code zero = omega arith
-    worst-mono code (suc n) = omega (arith, worst-mono code n, portion-with-mono code n (es n) (fs n) (fellows n))
-
     -- THE SECOND HALF OF DEMAND 3, over records: portion and code grades
     pub fewer-grades : (i : ℕ) (u v : SampleUnit) → es i ≡ UnitRecord u → fs i ≡ UnitRecord v
         → (portionGrade first i u ≤ portionGrade second i v) × (codeGrade first (u .code) ≤ codeGrade second (v .code))
     unfolding codeGrade Below
     fewer-grades i u v eu ev =
         let w : Below (UnitRecord u) (UnitRecord v) = subst₂ Below eu ev (fellows i) in
-        (portion-mono i u v w, rw (w .same-code) (worst-mono (v .code) size))
+        (portion-mono i u v w, rw (w .same-code) (worst-mono es fs fellows (portionGrade first) (portionGrade second) portion-mono (v .code) size))

@@ -21,7 +21,6 @@ use Rattle.units.specs.declared.SampleUnit.{SampleUnit}
 use Rattle.units.specs.declared.Entry.the-variants.{Redesignation, Break}
 use Rattle.units.proofs.BestLower.{best-lower-is}
 use Rattle.units.proofs.Classes.{at-class}
-use Rattle.units.proofs.CodeGrade.{UnitWith, none-worse, attained}
 use Rattle.units.proofs.Tests.{and-both}
 use Rattle.rules.specs.StepThree.{inStepThree, inForceIn, endsStepThree, restarted, graded}
 use Rattle.rules.specs.Sheet.{Sheet, before, designatedAt, inForceAt, qualifiesAt, inFinishedRun, recovered, portionGrade, standingOf, standing, codeGrade}
@@ -57,6 +56,7 @@ use Rattle.grounds.proofs.Tells.{told, not-told}
 use Rattle.answers.proofs.Rows.{designated-just-before, is-redesignation-mark, redesignation-mark-is}
 use Rattle.courses.proofs.CourseWords as words
 use Rattle.courses.proofs.CourseWords.{unitIn, courseOf, break-entry, redesignation-entry}
+use Rattle.courses.proofs.CodeGrades.{worst-of-code}
 use Rattle.courses.proofs.OneCourse.{settled, one-course}
 use Rattle.courses.proofs.Recorded.{recorded-portion, recorded-code-grade, recorded-plan, recorded-standing, recorded-code, recorded-cusum, recorded-overshoot, recorded-mark, overshoot-at-most}
 
@@ -497,54 +497,11 @@ module _ (bytes buffer : List ℕ) (answer : Answer) (results : List ℕ) (accep
 
   -- ---- the code grade
 
-  inside-here : (j : ℕ) → UnitAt bytes j → j < graded-sheet .size
-  unfolding sheetIn sheetOf
-  inside-here j at = at .inside
-
-  -- a unit of the sheet with this code
-  abbrev with-code : (j : ℕ) → UnitAt bytes j → (code : ℕ) → unitIn bytes j .code ≡ code → UnitWith (graded-sheet .entry) code (graded-sheet .size)
-  with-code j at code same =
-      record { index = j; inside = inside-here j at; unit = unitIn bytes j; is-unit = words.unit-here bytes passed j at; has-code = same }
-
-  -- and as the statement has it
-  unit-of : {code : ℕ} (found : UnitWith (graded-sheet .entry) code (graded-sheet .size)) → UnitAt bytes (found .index)
-  unit-of found = words.unit-there bytes passed (found .index) (found .unit) (found .is-unit)
-
-  same-unit : {code : ℕ} (found : UnitWith (graded-sheet .entry) code (graded-sheet .size)) → found .unit ≡ unitIn bytes (found .index)
-  same-unit found = unit-is bytes (found .index) (found .unit) (sym (words.entry-is bytes passed (found .index)) ∙ found .is-unit)
-
-  code-grade-is : (i : ℕ) → UnitAt bytes i
-      → recordedCodeGrade bytes results i ≡ worstBefore (portionGrade graded-sheet) (graded-sheet .entry) (unitIn bytes i .code) (graded-sheet .size)
-  unfolding codeGrade
-  code-grade-is i at = recorded-code-grade bytes buffer answer results accepted i at
-
-  pub worst-of-code : (i : ℕ) → UnitAt bytes i → WorstOfCode bytes results i
-  unfolding sampleUnitAt
-  worst-of-code i at =
-      let code = unitIn bytes i .code in
-      let found = attained (portionGrade graded-sheet) (graded-sheet .entry) code (graded-sheet .size) (with-code i at code refl) in
-      let j = found .unit-with .index in
-      let there = unit-of (found .unit-with) in
-      record {
-        none-worse = λ j there same.
-            omega (
-              arith,
-              none-worse (portionGrade graded-sheet) (graded-sheet .entry) code (graded-sheet .size) (with-code j there code same),
-              recorded-portion bytes buffer answer results accepted j there,
-              code-grade-is i at,
-            );
-        one-has-it =
-            record {
-              index = j;
-              unit = there;
-              same-code = sym (ap (λ (u : SampleUnit). u .code) (same-unit (found .unit-with))) ∙ found .unit-with .has-code;
-              same-grade =
-                  recorded-portion bytes buffer answer results accepted j there
-                  ∙ ap (portionGrade graded-sheet j) (sym (same-unit (found .unit-with)))
-                  ∙ found .same-grade
-                  ∙ sym (code-grade-is i at);
-            };
-      }
+  pub code-grades : (i : ℕ) → UnitAt bytes i → WorstOfCode bytes results i
+  unfolding codeGrade sheetIn sheetOf
+  code-grades =
+      worst-of-code bytes results (portionGrade graded-sheet) (recorded-portion bytes buffer answer results accepted)
+      (recorded-code-grade bytes buffer answer results accepted)
 
 pub demand2-records : Demand2Records
 demand2-records bytes buffer answer results accepted =
@@ -556,7 +513,7 @@ demand2-records bytes buffer answer results accepted =
       only-course = only-course bytes facts;
       only-course-before = only-course-before bytes facts;
       recorded = unit-recorded bytes buffer answer results accepted;
-      code-grades = worst-of-code bytes buffer answer results accepted;
+      code-grades = code-grades bytes buffer answer results accepted;
       same-records = same-records bytes facts;
       same-words = same-words bytes facts;
     }

@@ -2,35 +2,32 @@
 -- rules; bounds. From where the result record of the unit stands in the buffer. No CuSum is too large for its two bytes, by number 14;
 -- no overshoot for its four: a CuSum is never above its L, so that a class is over by no more than the unit's own defects.
 use Prim.Native.Nat.{ℕ, _*_, _≤_, _<_}
-use mathlib.Core.Path.{_≡_, _∙_, ap₂}
-use mathlib.Core.List.{List, _++_}
+use mathlib.Core.Path.{_≡_, _∙_}
+use mathlib.Core.List.{List}
 use native.Mathlib.Omega.{arith}
 use lib.ListN.{length, drop}
 use Rattle.cusum.specs.Step.{largestTenths}
 use Rattle.encoding.specs.Bytes.{byte}
 use Rattle.units.specs.Words.{substandard, classes, tenthsIn, tenthsOf, countTenths}
 use Rattle.units.specs.Unit.{classCusum, classOvershoot}
-use Rattle.units.specs.Records.{unitsAmong}
 use Rattle.units.specs.declared.SampleUnit.{SampleUnit}
-use Rattle.units.specs.declared.Entry.{Entry}
 use Rattle.units.specs.declared.Entry.the-variants.{UnitRecord}
 use Rattle.units.proofs.Bounds.{class-cusum-le, class-overshoot-le}
 use Rattle.rules.specs.Sheet.{before, inForceAt, gradedAt, portionGrade, standing, codeGrade}
 use Rattle.rules.proofs.Grades.{code-grade-at-most}
 use Rattle.rules.proofs.FailingUnits.{within-limit}
 use Rattle.layout.specs.Layout.{sampleUnitAt, offset, unitsBefore}
-use Rattle.layout.proofs.Units.{entry-unit, units-among}
+use Rattle.layout.proofs.Units.{entry-unit}
 use Rattle.sheet.proofs.Ranges.{designated-le, start-le-limit, prerequisite-le, count-le}
-use Rattle.results.specs.Record.{resultSize, markIn, codeIn, portionGradeIn, codeGradeIn, planGradeIn, standingIn, cusumIn, overshootIn}
-use Rattle.results.specs.declared.ResultRecord.{ResultRecord}
-use Rattle.results.proofs.Written.{mark-written, portion-written, code-grade-written, plan-written, standing-written, code-written, cusum-written, overshoot-written}
+use Rattle.results.specs.Record.{resultSize, markIn, codeIn, planGradeIn, standingIn}
 use Rattle.recording.specs.Sheet.{sheetOf, resultWith, resultOf}
 use Rattle.outcome.specs.declared.Answer.{Answer}
-use Rattle.tally.specs.Outcome.{resultsOf, recordsIn}
+use Rattle.tally.specs.Outcome.{recordsIn}
 use Rattle.tally.specs.Accepted.{AcceptedAs, sheetIn, UnitAt, recordedCusum, recordedOvershoot, recordedPortionGrade, recordedCodeGrade, numbersInForce}
 use Rattle.tally.proofs.AcceptedSheet.{AcceptedSheet, accepted-sheet}
 use Rattle.tally.proofs.Entries.{code-fits, new-grades, portion-le}
 use Rattle.tally.proofs.Overfull.{cusum-graded, overshoot-graded, cusum-fits}
+use Rattle.courses.proofs.ReadBack.{ReadBack, read-back}
 
 module _ (bytes buffer : List ℕ) (answer : Answer) (results : List ℕ) (accepted : AcceptedAs bytes buffer answer results) where
   sheet-accepted : AcceptedSheet bytes buffer answer results
@@ -40,18 +37,6 @@ module _ (bytes buffer : List ℕ) (answer : Answer) (results : List ℕ) (accep
   abbrev behind : List ℕ
   behind = drop (resultSize * unitsBefore bytes (recordsIn bytes)) buffer
 
-  abbrev recording : ℕ → SampleUnit → ResultRecord
-  recording = resultOf (sheetIn bytes)
-
-  abbrev grades : ℕ → ℕ
-  grades = codeGrade (sheetIn bytes)
-
-  abbrev entries : ℕ → Entry
-  entries = sheetIn bytes .entry
-
-  abbrev size : ℕ
-  size = sheetIn bytes .size
-
   module _ (i : ℕ) (at : UnitAt bytes i) where
     abbrev unit : SampleUnit
     unit = sampleUnitAt bytes (offset bytes i)
@@ -60,42 +45,35 @@ module _ (bytes buffer : List ℕ) (answer : Answer) (results : List ℕ) (accep
     unfolding sheetIn sheetOf
     unit-here = entry-unit bytes i (at .is-unit)
 
-    inside-here : i < sheetIn bytes .size
+    -- what was recorded of it, read from the buffer
+    there : ReadBack bytes results i (resultOf (sheetIn bytes) i (sampleUnitAt bytes (offset bytes i))) (codeGrade (sheetIn bytes) (sampleUnitAt bytes (offset bytes i) .code))
     unfolding sheetIn sheetOf
-    inside-here = at .inside
-
-    -- a field of the record, read from the buffer, is read from the records written
-    read-there : (field : List ℕ → ℕ → ℕ) → field results (unitsBefore bytes i) ≡ field (resultsOf (sheetIn bytes) ++ behind) (unitsAmong (sheetIn bytes .entry) i)
-    unfolding sheetIn sheetOf
-    read-there field = ap₂ field (sheet-accepted .filled) (units-among bytes i)
+    there = read-back bytes results (resultOf (sheetIn bytes)) (codeGrade (sheetIn bytes)) behind (sheet-accepted .filled) i at
 
     pub recorded-mark : markIn results (unitsBefore bytes i) ≡ 0x4752
-    recorded-mark = read-there markIn ∙ mark-written recording grades entries size behind i inside-here unit unit-here
+    recorded-mark = there .mark
 
     pub recorded-portion : recordedPortionGrade bytes results i ≡ portionGrade (sheetIn bytes) i (sampleUnitAt bytes (offset bytes i))
     unfolding resultOf resultWith portionGrade
-    recorded-portion = read-there portionGradeIn ∙ portion-written recording grades entries size behind i inside-here unit unit-here
+    recorded-portion = there .portion
 
     pub recorded-code-grade : recordedCodeGrade bytes results i ≡ codeGrade (sheetIn bytes) (sampleUnitAt bytes (offset bytes i) .code)
-    recorded-code-grade = read-there codeGradeIn ∙ code-grade-written recording grades entries size behind i inside-here unit unit-here
+    recorded-code-grade = there .code-grade
 
     -- the grade of the plan in force, 3 if none
     pub recorded-plan : planGradeIn results (unitsBefore bytes i) ≡ inForceAt (sheetIn bytes) i
     unfolding resultOf resultWith
-    recorded-plan = read-there planGradeIn ∙ plan-written recording grades entries size behind i inside-here unit unit-here
+    recorded-plan = there .plan-grade
 
     -- the standing, 3 exactly if the portion is recovered
     pub recorded-standing : standingIn results (unitsBefore bytes i) ≡ standing (sheetIn bytes) i (sampleUnitAt bytes (offset bytes i))
     unfolding resultOf resultWith standing
-    recorded-standing = read-there standingIn ∙ standing-written recording grades entries size behind i inside-here unit unit-here
+    recorded-standing = there .standing
 
     -- the code, where every byte of the sheet is below 256, as in every slice
     pub recorded-code : ((place : ℕ) → byte bytes place < 256) → codeIn results (unitsBefore bytes i) ≡ sampleUnitAt bytes (offset bytes i) .code
     unfolding resultOf resultWith
-    recorded-code small =
-        read-there codeIn
-        ∙ code-written recording grades entries size behind i inside-here unit unit-here
-        (code-fits bytes small i unit (entry-unit bytes i (at .is-unit)))
+    recorded-code small = there .code (code-fits bytes small i unit (entry-unit bytes i (at .is-unit)))
 
     -- every CuSum fits in its two bytes
     pub cusum-in-two-bytes : (class : ℕ) → class < length classes → tenthsIn (gradedAt (sheetIn bytes) i (sampleUnitAt bytes (offset bytes i)) .cusums) class ≤ largestTenths
@@ -108,9 +86,7 @@ module _ (bytes buffer : List ℕ) (answer : Answer) (results : List ℕ) (accep
     unfolding resultOf resultWith
     recorded-cusum class inside =
         let small = cusum-in-two-bytes class inside in
-        read-there (λ (l : List ℕ) (j : ℕ). cusumIn l j class)
-        ∙ cusum-written recording grades entries size behind i inside-here unit unit-here class inside (omega arith)
-        ∙ cusum-graded (sheetIn bytes) i unit class inside
+        there .cusums class inside (omega arith) ∙ cusum-graded (sheetIn bytes) i unit class inside
 
     -- an overshoot is at most the unit's own defects
     pub overshoot-at-most : (class : ℕ) → class < length classes
@@ -130,9 +106,7 @@ module _ (bytes buffer : List ℕ) (answer : Answer) (results : List ℕ) (accep
         let is = overshoot-graded (sheetIn bytes) i unit class inside in
         let most = overshoot-at-most class inside in
         let counts = count-le bytes (recordsIn bytes) (sheet-accepted .facts) i (at .is-unit) class in
-        read-there (λ (l : List ℕ) (j : ℕ). overshootIn l j class)
-        ∙ overshoot-written recording grades entries size behind i inside-here unit unit-here class inside (omega (arith, is, most, counts))
-        ∙ is
+        there .overshoots class inside (omega (arith, is, most, counts)) ∙ is
 
     -- ---- bounds
 

@@ -17,7 +17,8 @@ use Rattle.units.specs.Records.{isUnitThat}
 use Rattle.units.specs.declared.SampleUnit.{SampleUnit}
 use Rattle.units.specs.declared.Entry.the-variants.{Break}
 use Rattle.anchors.proofs.TwoFailures.{not-second}
-use Rattle.anchors.proofs.SideBySide.{Below, NoRedesignation, second, fewer-cusums, fewer-grades}
+use Rattle.anchors.proofs.Fellows.{Below}
+use Rattle.anchors.proofs.SideBySide.{NoRedesignation, second, fewer-cusums, fewer-grades}
 use Rattle.layout.specs.Layout.{planOf, sampleUnitAt, offset, mark, entryAt}
 use Rattle.recording.specs.Sheet.{sheetOf}
 use Rattle.layout.specs.declared.Mark.the-variants.{UnitMark}

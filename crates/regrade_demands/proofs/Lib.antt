@@ -1,1 +1,4 @@
+pub mod RegradeRecorded
+pub mod RegradeRecords
+pub mod RegradeFewer
 pub mod RegradeSheets
