@@ -13,7 +13,7 @@ use Rattle.outcome.specs.Outcome.{refusal}
 use Rattle.regrade.specs.Outcome.{secondPlanWrong, regraded, regradeBy, regradeOutcome}
 use Rattle.regrade.proofs.Cases.{not-overfull}
 use Rattle.regrade.proofs.Computing.{computing}
-use Rattle.regrade_demands.specs.RegradeSheets.{FailureSheets, RedesignationSheets, BreakSheets, SecondPlanSheets, UnitSheets, RefusedSheets, WrongPlanSheets, RegradeSheets, recordedPlan, buyerA, buyerB, buyerC, manualPlan, manualExample, manualExampleResults, failureOfRecordedPlan, failureOfRecordedPlanResults, failureOfSecondPlan, failureOfSecondPlanResults, twoFailures, twoFailuresResults, threeFailures, threeFailuresResults, twoFailuresInDifferentClasses, twoFailuresInDifferentClassesResults, stepThreeOfRecordedPlan, stepThreeOfRecordedPlanResults, noUnitRecoverable, noUnitRecoverableResults, redesignationBetweenUnits, redesignationBetweenUnitsResults, redesignationBeforeFirstUnit, redesignationBeforeFirstUnitResults, redesignationsToEveryGrade, redesignationsToEveryGradeResults, redesignationBetweenFailures, redesignationBetweenFailuresResults, redesignationBesideBreak, redesignationBesideBreakResults, redesignationToCUnderA, redesignationToCUnderAResults, breakBetweenUnits, breakBetweenUnitsResults, breakBetweenFailures, breakBetweenFailuresResults, breakBehindZero, breakBehindZeroResults, breaksInEveryClass, breaksInEveryClassResults, secondPlanOfC, secondPlanOfCResults, secondPlanOfA, secondPlanOfAResults, everyClassUnderA, everyClassUnderAResults, everyClassUnderB, everyClassUnderBResults, everyClassUnderC, everyClassUnderCResults, lowerGradesByTotal, lowerGradesByTotalResults, lowerGradesByOtherClasses, lowerGradesByOtherClassesResults, countsThatAAdmits, countsThatAAdmitsResults, rawValueAtLimit, rawValueAtLimitResults, tenthAboveLimit, tenthAboveLimitResults, belowZero, belowZeroResults, overshootAboveTwoBytes, overshootAboveTwoBytesResults, prerequisites, prerequisitesResults, prerequisiteSubstandard, prerequisiteSubstandardResults, codeMetAgain, codeMetAgainResults, codeMetAgainLater, codeMetAgainLaterResults, codesAlikeInOneByte, codesAlikeInOneByteResults, noUnit, noUnitResults, noUnitButRecords, noUnitButRecordsResults, ground1, ground5, ground6, ground7, ground8, ground11, ground11ByRecordedPlan, bufferWithoutRoom}
+use Rattle.regrade_demands.specs.RegradeSheets.{FailureSheets, RedesignationSheets, BreakSheets, SecondPlanSheets, UnitSheets, FewerSheets, RefusedSheets, WrongPlanSheets, RegradeSheets, recordedPlan, buyerA, buyerB, buyerC, manualPlan, manualExample, manualExampleResults, failureOfRecordedPlan, failureOfRecordedPlanResults, failureOfSecondPlan, failureOfSecondPlanResults, twoFailures, twoFailuresResults, threeFailures, threeFailuresResults, twoFailuresInDifferentClasses, twoFailuresInDifferentClassesResults, stepThreeOfRecordedPlan, stepThreeOfRecordedPlanResults, noUnitRecoverable, noUnitRecoverableResults, redesignationBetweenUnits, redesignationBetweenUnitsResults, redesignationBeforeFirstUnit, redesignationBeforeFirstUnitResults, redesignationsToEveryGrade, redesignationsToEveryGradeResults, redesignationBetweenFailures, redesignationBetweenFailuresResults, redesignationBesideBreak, redesignationBesideBreakResults, redesignationToCUnderA, redesignationToCUnderAResults, breakBetweenUnits, breakBetweenUnitsResults, breakBetweenFailures, breakBetweenFailuresResults, breakBehindZero, breakBehindZeroResults, breaksInEveryClass, breaksInEveryClassResults, secondPlanOfC, secondPlanOfCResults, secondPlanOfA, secondPlanOfAResults, everyClassUnderA, everyClassUnderAResults, everyClassUnderB, everyClassUnderBResults, everyClassUnderC, everyClassUnderCResults, lowerGradesByTotal, lowerGradesByTotalResults, lowerGradesByOtherClasses, lowerGradesByOtherClassesResults, countsThatAAdmits, countsThatAAdmitsResults, rawValueAtLimit, rawValueAtLimitResults, tenthAboveLimit, tenthAboveLimitResults, belowZero, belowZeroResults, overshootAboveTwoBytes, overshootAboveTwoBytesResults, prerequisites, prerequisitesResults, prerequisiteSubstandard, prerequisiteSubstandardResults, codeMetAgain, codeMetAgainResults, codeMetAgainLater, codeMetAgainLaterResults, codesAlikeInOneByte, codesAlikeInOneByteResults, noUnit, noUnitResults, noUnitButRecords, noUnitButRecordsResults, twoFailuresBeforeRedesignation, twoFailuresBeforeRedesignationResults, fiveMinorDefectsFewer, fiveMinorDefectsFewerResults, ground1, ground5, ground6, ground7, ground8, ground11, ground11ByRecordedPlan, bufferWithoutRoom}
 
 -- a sheet that passes is graded under a right second plan in a buffer that has room for its records, and refused with 13 in one that has not
 module _ (bytes plan buffer : List ℕ) (records units : ℕ) (passes : verdict bytes ≡ Accepted records units) (right : secondPlanWrong plan ≡ false) where
@@ -120,6 +120,15 @@ unit-sheets =
       no-unit-but-records = λ buffer room. accepts noUnitButRecords buyerB buffer 4 0 refl right-b room;
     }
 
+fewer-sheets : FewerSheets
+unfolding computing recordedPlan buyerA buyerB twoFailuresBeforeRedesignation twoFailuresBeforeRedesignationResults fiveMinorDefectsFewer
+    fiveMinorDefectsFewerResults
+fewer-sheets =
+    record {
+      two-failures-before-redesignation = λ buffer room. accepts twoFailuresBeforeRedesignation buyerB buffer 6 4 refl right-b room;
+      five-minor-defects-fewer = λ buffer room. accepts fiveMinorDefectsFewer buyerB buffer 6 4 refl right-b room;
+    }
+
 refused-sheets : RefusedSheets
 unfolding computing recordedPlan buyerA buyerB ground1 ground5 ground6 ground7 ground8 ground11 ground11ByRecordedPlan bufferWithoutRoom
 refused-sheets =
@@ -160,6 +169,7 @@ regrade-sheets =
       breaks = break-sheets;
       second-plans = second-plan-sheets;
       units = unit-sheets;
+      fewer-defects = fewer-sheets;
       refusals = refused-sheets;
       wrong-plans = wrong-plan-sheets;
     }

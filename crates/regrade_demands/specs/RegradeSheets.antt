@@ -905,6 +905,60 @@ pub record UnitSheets : Type 0 where
   pub no-unit : Graded buyerB noUnit 0 75 noUnitResults
   pub no-unit-but-records : Graded buyerB noUnitButRecords 0 85 noUnitButRecordsResults
 
+-- ---- a pair, alike but for defects, with two failures in a row and a redesignation
+
+-- Unit 2 fails by 4.5, from L, and unit 3 goes on from L behind the redesignation.
+unfoldable pub twoFailuresBeforeRedesignation : List ℕ
+twoFailuresBeforeRedesignation =
+    recordedPlan
+    ++ (0x53 ∷ 0x55 ∷ 0 ∷ 1 ∷ 0 ∷ 0 ∷ 0 ∷ 0 ∷ 0 ∷ 0 ∷ 0 ∷ 14 ∷ 0 ∷ 1  -- 1: 0,0,0,14;A;1
+    ∷ 0x53 ∷ 0x55 ∷ 0 ∷ 2 ∷ 0 ∷ 0 ∷ 0 ∷ 0 ∷ 0 ∷ 0 ∷ 0 ∷ 14 ∷ 0 ∷ 1  -- 2: 0,0,0,14;A;1
+    ∷ 0x52 ∷ 0x44 ∷ 2  -- redesignation to C
+    ∷ 0x53 ∷ 0x55 ∷ 0 ∷ 3 ∷ 0 ∷ 0 ∷ 0 ∷ 0 ∷ 0 ∷ 0 ∷ 0 ∷ 9 ∷ 0 ∷ 1  -- 3: 0,0,0,9;A;1
+    ∷ 0x42 ∷ 0x4B  -- break
+    ∷ 0x53 ∷ 0x55 ∷ 0 ∷ 4 ∷ 0 ∷ 0 ∷ 0 ∷ 0 ∷ 0 ∷ 0 ∷ 0 ∷ 12 ∷ 0 ∷ 1  -- 4: 0,0,0,12;A;1
+    ∷ [])
+
+unfoldable pub twoFailuresBeforeRedesignationResults : List ℕ
+twoFailuresBeforeRedesignationResults =
+    0x47 ∷ 0x52 ∷ 0 ∷ 1 ∷ 2 ∷ 2 ∷ 1 ∷ 1 ∷ 0 ∷ 0 ∷ 0 ∷ 0 ∷ 0 ∷ 0 ∷ 0 ∷ 60  -- 1 1 C C f B 0.0 0.0 0.0 6.0
+    ∷ 0 ∷ 0 ∷ 0 ∷ 0 ∷ 0 ∷ 0 ∷ 0 ∷ 0 ∷ 0 ∷ 0 ∷ 0 ∷ 0 ∷ 0 ∷ 0 ∷ 0 ∷ 10
+    ∷ 0x47 ∷ 0x52 ∷ 0 ∷ 2 ∷ 2 ∷ 2 ∷ 1 ∷ 1 ∷ 0 ∷ 0 ∷ 0 ∷ 0 ∷ 0 ∷ 0 ∷ 0 ∷ 60  -- 2 2 C C f B 0.0 0.0 0.0 6.0
+    ∷ 0 ∷ 0 ∷ 0 ∷ 0 ∷ 0 ∷ 0 ∷ 0 ∷ 0 ∷ 0 ∷ 0 ∷ 0 ∷ 0 ∷ 0 ∷ 0 ∷ 0 ∷ 45
+    ∷ 0x47 ∷ 0x52 ∷ 0 ∷ 3 ∷ 1 ∷ 1 ∷ 1 ∷ 0 ∷ 0 ∷ 0 ∷ 0 ∷ 0 ∷ 0 ∷ 0 ∷ 0 ∷ 55  -- 3 3 B B m B 0.0 0.0 0.0 5.5
+    ∷ 0 ∷ 0 ∷ 0 ∷ 0 ∷ 0 ∷ 0 ∷ 0 ∷ 0 ∷ 0 ∷ 0 ∷ 0 ∷ 0 ∷ 0 ∷ 0 ∷ 0 ∷ 0
+    ∷ 0x47 ∷ 0x52 ∷ 0 ∷ 4 ∷ 1 ∷ 1 ∷ 1 ∷ 0 ∷ 0 ∷ 0 ∷ 0 ∷ 0 ∷ 0 ∷ 0 ∷ 0 ∷ 50  -- 4 4 B B m B 0.0 0.0 0.0 5.0
+    ∷ 0 ∷ 0 ∷ 0 ∷ 0 ∷ 0 ∷ 0 ∷ 0 ∷ 0 ∷ 0 ∷ 0 ∷ 0 ∷ 0 ∷ 0 ∷ 0 ∷ 0 ∷ 0
+    ∷ []
+
+-- The same but for unit 2, which meets at 5.5; so unit 3 comes to 5. Behind the break they are alike.
+unfoldable pub fiveMinorDefectsFewer : List ℕ
+fiveMinorDefectsFewer =
+    recordedPlan
+    ++ (0x53 ∷ 0x55 ∷ 0 ∷ 1 ∷ 0 ∷ 0 ∷ 0 ∷ 0 ∷ 0 ∷ 0 ∷ 0 ∷ 14 ∷ 0 ∷ 1  -- 1: 0,0,0,14;A;1
+    ∷ 0x53 ∷ 0x55 ∷ 0 ∷ 2 ∷ 0 ∷ 0 ∷ 0 ∷ 0 ∷ 0 ∷ 0 ∷ 0 ∷ 9 ∷ 0 ∷ 1  -- 2: 0,0,0,9;A;1
+    ∷ 0x52 ∷ 0x44 ∷ 2  -- redesignation to C
+    ∷ 0x53 ∷ 0x55 ∷ 0 ∷ 3 ∷ 0 ∷ 0 ∷ 0 ∷ 0 ∷ 0 ∷ 0 ∷ 0 ∷ 9 ∷ 0 ∷ 1  -- 3: 0,0,0,9;A;1
+    ∷ 0x42 ∷ 0x4B  -- break
+    ∷ 0x53 ∷ 0x55 ∷ 0 ∷ 4 ∷ 0 ∷ 0 ∷ 0 ∷ 0 ∷ 0 ∷ 0 ∷ 0 ∷ 12 ∷ 0 ∷ 1  -- 4: 0,0,0,12;A;1
+    ∷ [])
+
+unfoldable pub fiveMinorDefectsFewerResults : List ℕ
+fiveMinorDefectsFewerResults =
+    0x47 ∷ 0x52 ∷ 0 ∷ 1 ∷ 2 ∷ 2 ∷ 1 ∷ 1 ∷ 0 ∷ 0 ∷ 0 ∷ 0 ∷ 0 ∷ 0 ∷ 0 ∷ 60  -- 1 1 C C f B 0.0 0.0 0.0 6.0
+    ∷ 0 ∷ 0 ∷ 0 ∷ 0 ∷ 0 ∷ 0 ∷ 0 ∷ 0 ∷ 0 ∷ 0 ∷ 0 ∷ 0 ∷ 0 ∷ 0 ∷ 0 ∷ 10
+    ∷ 0x47 ∷ 0x52 ∷ 0 ∷ 2 ∷ 1 ∷ 1 ∷ 1 ∷ 0 ∷ 0 ∷ 0 ∷ 0 ∷ 0 ∷ 0 ∷ 0 ∷ 0 ∷ 55  -- 2 2 B B m B 0.0 0.0 0.0 5.5
+    ∷ 0 ∷ 0 ∷ 0 ∷ 0 ∷ 0 ∷ 0 ∷ 0 ∷ 0 ∷ 0 ∷ 0 ∷ 0 ∷ 0 ∷ 0 ∷ 0 ∷ 0 ∷ 0
+    ∷ 0x47 ∷ 0x52 ∷ 0 ∷ 3 ∷ 1 ∷ 1 ∷ 1 ∷ 0 ∷ 0 ∷ 0 ∷ 0 ∷ 0 ∷ 0 ∷ 0 ∷ 0 ∷ 50  -- 3 3 B B m B 0.0 0.0 0.0 5.0
+    ∷ 0 ∷ 0 ∷ 0 ∷ 0 ∷ 0 ∷ 0 ∷ 0 ∷ 0 ∷ 0 ∷ 0 ∷ 0 ∷ 0 ∷ 0 ∷ 0 ∷ 0 ∷ 0
+    ∷ 0x47 ∷ 0x52 ∷ 0 ∷ 4 ∷ 1 ∷ 1 ∷ 1 ∷ 0 ∷ 0 ∷ 0 ∷ 0 ∷ 0 ∷ 0 ∷ 0 ∷ 0 ∷ 50  -- 4 4 B B m B 0.0 0.0 0.0 5.0
+    ∷ 0 ∷ 0 ∷ 0 ∷ 0 ∷ 0 ∷ 0 ∷ 0 ∷ 0 ∷ 0 ∷ 0 ∷ 0 ∷ 0 ∷ 0 ∷ 0 ∷ 0 ∷ 0
+    ∷ []
+
+pub record FewerSheets : Type 0 where
+  pub two-failures-before-redesignation : Graded buyerB twoFailuresBeforeRedesignation 4 136 twoFailuresBeforeRedesignationResults
+  pub five-minor-defects-fewer : Graded buyerB fiveMinorDefectsFewer 4 136 fiveMinorDefectsFewerResults
+
 -- ---- sheets that are refused, and a buffer without room
 
 -- 1 and 18: another first mark.
@@ -1018,5 +1072,6 @@ pub record RegradeSheets : Type 0 where
   pub breaks : BreakSheets
   pub second-plans : SecondPlanSheets
   pub units : UnitSheets
+  pub fewer-defects : FewerSheets
   pub refusals : RefusedSheets
   pub wrong-plans : WrongPlanSheets

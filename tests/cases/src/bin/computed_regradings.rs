@@ -340,6 +340,12 @@ fn groups() -> Vec<Group> {
             cases: units(),
         },
         Group {
+            name: "FewerSheets",
+            field: "fewer-defects",
+            title: "a pair, alike but for defects, with two failures in a row and a redesignation",
+            cases: fewer_defects(),
+        },
+        Group {
             name: "RefusedSheets",
             field: "refusals",
             title: "sheets that are refused, and a buffer without room",
@@ -562,6 +568,27 @@ fn breaks() -> Vec<Regrading> {
             buyer(C),
             &["CCmC 0.9 1.1 1.9 5.0", "CCmC 0.9 1.1 1.9 5.0"],
             &[],
+        ),
+    ]
+}
+
+fn fewer_defects() -> Vec<Regrading> {
+    vec![
+        accepted(
+            "two failures before a redesignation",
+            "Unit 2 fails by 4.5, from L, and unit 3 goes on from L behind the redesignation.",
+            &[fails(1), fails(2), to(C), minor(3, 9), BREAK, minor(4, 12)],
+            buyer(B),
+            &[total!("CCfB", "6.0"), total!("CCfB", "6.0"), total!("BBmB", "5.5"), total!("BBmB", "5.0")],
+            &[(1, TOTAL, 10), (2, TOTAL, 45)],
+        ),
+        accepted(
+            "five minor defects fewer",
+            "The same but for unit 2, which meets at 5.5; so unit 3 comes to 5. Behind the break they are alike.",
+            &[fails(1), minor(2, 9), to(C), minor(3, 9), BREAK, minor(4, 12)],
+            buyer(B),
+            &[total!("CCfB", "6.0"), total!("BBmB", "5.5"), total!("BBmB", "5.0"), total!("BBmB", "5.0")],
+            &[(1, TOTAL, 10)],
         ),
     ]
 }
