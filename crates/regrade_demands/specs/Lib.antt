@@ -5,3 +5,4 @@ pub mod RegradeRecords
 pub mod RegradeLargest
 pub mod RegradeFewer
 pub mod RegradeSheets
+pub mod RegradeInstances
