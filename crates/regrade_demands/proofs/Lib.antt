@@ -1,1 +1,4 @@
+pub mod RegradeCases
+pub mod RegradeAnswers
+pub mod RegradeGrounds
 pub mod RegradeSheets
