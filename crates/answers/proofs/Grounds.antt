@@ -1,59 +1,68 @@
 -- Demand 2, the grounds: the answer is the first row met, and acceptance is that none is.
--- What the verdict says, with the first row of each place; places come in the order of their offsets.
+-- What the check computes, with the first row of each place, whatever rows come behind the records; then by the cases of the answer.
 use Prim.Native.Nat.{ℕ, _*_, _≤_, _<_}
-use mathlib.Core.Path.{_≡_, refl, sym, _∙_, ap, subst⁻¹}
-use mathlib.Core.Bool.{Bool, true, false, true≢false}
+use mathlib.Core.Path.{_≡_, refl, sym, _∙_, ap, subst, subst⁻¹}
+use mathlib.Core.Bool.{false}
 use mathlib.Core.List.{List}
-use mathlib.Core.Logic.{inl, inr}
 use native.Mathlib.Omega.{arith}
-use lib.Dec.{ltb, lit<}
+use lib.Dec.{lit<}
 use lib.ListN.{length}
-use borrow.Author.Tests.{ltb-true, ltb-false}
-use Rattle.units.specs.Conditions.{pick}
-use Rattle.units.specs.Words.{tenthsIn}
+use Rattle.cusum.specs.declared.Cusum.{Cusum}
+use Rattle.units.specs.Words.{classes, tenthsIn}
+use Rattle.units.specs.declared.SampleUnit.{SampleUnit}
 use Rattle.rules.specs.Sheet.{gradedAt}
-use Rattle.layout.specs.Layout.{sampleUnitAt, offset, unitsBefore}
+use Rattle.layout.specs.Layout.{sampleUnitAt, offset, entryAt, unitsBefore}
 use Rattle.layout.proofs.Offsets.{offset-order, offset-same, offset-ge}
 use Rattle.layout.proofs.Units.{entry-unit}
-use Rattle.sheet.specs.Refusals.{planRefusal, recordRefusal, verdict}
+use Rattle.sheet.specs.Refusals.{planRefusal, recordRefusal}
 use Rattle.sheet.specs.declared.Verdict.{Verdict}
-use Rattle.sheet.specs.declared.Verdict.the-variants.{Accepted, Refused}
 use Rattle.sheet.proofs.Accepted.{Facts, Says, verdict-says}
 use Rattle.results.specs.Record.{resultSize}
 use Rattle.recording.specs.Sheet.{sheetOf}
 use Rattle.outcome.specs.declared.Answer.{Answer}
-use Rattle.outcome.specs.Outcome.{Outcome, refusedAs, refusal}
-use Rattle.tally.specs.Outcome.{overfullBefore, acceptance, outcomeBy, outcome}
-use Rattle.tally.proofs.Overfull.{none-overfull, cusum-fits}
-use Rattle.grounds.specs.Grounds.{rowsAbove, FirstRowMet, RefusedByGround}
+use Rattle.outcome.specs.Outcome.{Outcome, refusedAs}
+use Rattle.tally.specs.Outcome.{overfullAmong}
+use Rattle.tally.proofs.Overfull.{none-overfull, fits-among}
+use Rattle.grounds.specs.Grounds.{Grounds, rowsAbove, RefusedByGround}
 use Rattle.grounds.proofs.FirstRow.{InRows}
-use Rattle.grounds.proofs.Decided.{Computes, opening-refused, record-refused, buffer-refused, none-applies, accepted-by, refused-by}
-use Rattle.answers.specs.Grounds.{BufferRow, row13, row14, rows, sheetGrounds, WholeSheet, Demand2Grounds}
+use Rattle.grounds.proofs.Decided.{Computes, refused-by-check, refused-by-buffer, accepted-by}
+use Rattle.answers.specs.Grounds.{IsUnit, FilledBy, BufferShort, PlanRow, RecordRow, BufferRow, row13, row14, rows, sheetGrounds, WholeSheet, Demand2Grounds}
 use Rattle.answers.proofs.Rows.{is-unit-mark}
 use Rattle.answers.proofs.FirstRow.{plan-in-rows, plan-rows, plan-first, record-in-rows, record-rows, record-first}
+use Rattle.answers.proofs.Cases.{Case, by-check, without-room, with-room, outcome-case}
 
--- ---- what the check computes
+-- ---- whatever rows come behind the records
 
-module _ (bytes buffer : List ℕ) where
-  buffer-in-rows : (n : ℕ) → BufferRow bytes buffer n → InRows rows n
-  unfolding rowsAbove
-  buffer-in-rows n (row13 h) = (lit< tt, refl)
-  buffer-in-rows n (row14 h) = (lit< tt, refl)
+abbrev pub groundsBehind : List ℕ → (ℕ → Type 0) → Grounds
+groundsBehind bytes Row =
+    record {
+      rows = rows;
+      OpeningRow = PlanRow bytes;
+      RecordRow = RecordRow bytes;
+      BufferRow = Row;
+      offset = offset bytes;
+      end = length bytes;
+    }
 
-  buffer-rows : (n : ℕ) → BufferRow bytes buffer n → 13 ≤ rowsAbove rows n
-  unfolding rowsAbove
-  buffer-rows n (row13 h) = omega arith
-  buffer-rows n (row14 h) = omega arith
+-- what is asked of them: 13 is the first that can apply where the sheet passes, and with room none does
+pub record RowsBehind (bytes buffer : List ℕ) (Passed Row : ℕ → Type 0) : Type 0 where
+  pub in-rows : (n : ℕ) → Row n → InRows rows n
+  pub behind-records : (n : ℕ) → Row n → 12 ≤ rowsAbove rows n
+  pub facts : (records : ℕ) → Passed records → Facts bytes records
+  pub short : BufferShort bytes buffer → Row 13
+  pub from-13 : (records : ℕ) → Passed records → (n : ℕ) → Row n → rowsAbove rows 13 ≤ rowsAbove rows n
+  pub none : (records : ℕ) → Passed records → resultSize * unitsBefore bytes records ≤ length buffer → (n : ℕ) → Row n → ⊥
 
-  computes : Computes (sheetGrounds bytes buffer) 5 13 (planRefusal bytes) (recordRefusal bytes)
+module _ (bytes buffer : List ℕ) {Passed Row : ℕ → Type 0} (behind : RowsBehind bytes buffer Passed Row) where
+  computes : Computes (groundsBehind bytes Row) 5 12 (planRefusal bytes) (recordRefusal bytes)
   computes =
       record {
         opening-in-rows = plan-in-rows bytes;
         record-in-rows = record-in-rows bytes;
-        buffer-in-rows = buffer-in-rows;
+        buffer-in-rows = behind .in-rows;
         opening-rows = λ n applies. omega (arith, plan-rows bytes n applies);
         record-rows = λ i n applies. record-rows bytes i n applies .0;
-        buffer-rows = buffer-rows;
+        buffer-rows = behind .behind-records;
         opening-first = plan-first bytes;
         record-first = record-first bytes;
         behind-opening = λ i. omega (arith, offset-ge bytes i);
@@ -61,65 +70,86 @@ module _ (bytes buffer : List ℕ) where
         own-place = offset-same bytes;
       }
 
-  -- ---- the answer
-
   abbrev Judged : Answer → Type 0
-  Judged answer = RefusedByGround (sheetGrounds bytes buffer) (WholeSheet bytes) answer
+  Judged answer = RefusedByGround (groundsBehind bytes Row) (WholeSheet bytes) answer
 
-  refused-here : (number at : ℕ) → (number ≡ 0 → ⊥) → FirstRowMet (sheetGrounds bytes buffer) number at → Judged (refusedAs number at)
-  refused-here number at = refused-by _ 5 13 _ _ computes (WholeSheet bytes) (refusedAs number at)
+  -- refused by the first of these rows that applies
+  pub refused-behind : (records : ℕ) → Facts bytes records → (number : ℕ) → (number ≡ 0 → ⊥) → Row number
+      → ((n : ℕ) → Row n → rowsAbove rows n < rowsAbove rows number → ⊥) → Judged (refusedAs number (length bytes))
+  refused-behind records facts number refused =
+      refused-by-buffer computes (WholeSheet bytes) records (facts .plan) (facts .end) (λ j before. facts .within j before .1)
+      (refusedAs number (length bytes)) refused refl
 
-  module _ (records : ℕ) (facts : Facts bytes records) where
-    passes : (j : ℕ) → j < records → recordRefusal bytes j ≡ 0
-    passes j before = facts .within j before .1
+  pub judged-case : (answer : Answer) → Case bytes buffer Passed answer → Judged answer
+  unfolding Says
+  judged-case answer (by-check number at says) =
+      let (refused, which) = subst (λ (v : Verdict). Says bytes v) says (verdict-says bytes) in
+      refused-by-check computes (WholeSheet bytes) (refusedAs number at) refused which
+  judged-case answer (without-room records passed less) =
+      let facts = behind .facts records passed in
+      refused-behind records facts 13 (λ e. omega arith) (behind .short (record { records = records; filled = facts .end; short = less }))
+      (λ n applies above. omega (arith, behind .from-13 records passed n applies))
+  judged-case answer (with-room records units passed counted room) =
+      let facts = behind .facts records passed in
+      accepted-by computes (WholeSheet bytes) records (facts .plan) (facts .end) (λ j before. facts .within j before .1)
+      answer refl (behind .none records passed room) (record { records = records; filled = facts .end; counted = counted })
 
-    -- 13
-    short : length buffer < resultSize * unitsBefore bytes records → Judged (refusedAs 13 (length bytes))
-    unfolding rowsAbove
-    short less =
-        refused-here 13 (length bytes) (λ e. omega arith)
-        (buffer-refused _ 5 13 _ _ computes records (facts .plan) (facts .end) passes 13
-        (row13 (record { records = records; filled = facts .end; short = less })) (λ n applies above. omega (arith, buffer-rows n applies)))
+-- ---- 13 and 14
 
-    -- neither 13 nor 14
-    has-room : resultSize * unitsBefore bytes records ≤ length buffer → (n : ℕ) → BufferRow bytes buffer n → ⊥
-    unfolding sheetOf
-    has-room room n (row13 h) =
-        let same : h .records ≡ records = offset-same bytes (h .records) records (h .filled ∙ sym (facts .end)) in
-        omega (arith, h .short, ap (unitsBefore bytes) same)
-    has-room room n (row14 h) =
-        let same : h .records ≡ records = offset-same bytes (h .records) records (h .filled ∙ sym (facts .end)) in
-        let unit = sampleUnitAt bytes (offset bytes (h .i)) in
-        let fits = cusum-fits (sheetOf bytes records) records (none-overfull bytes records facts records) (h .i) (omega (arith, h .inside)) unit
-        (entry-unit bytes (h .i) (is-unit-mark bytes (h .i) (h .is-unit))) (h .class) (h .a-class) in
-        omega (arith, fits, h .above, ap (λ (k : ℕ). tenthsIn (gradedAt (sheetOf bytes k) (h .i) unit .cusums) (h .class)) same)
+module _ (bytes : List ℕ) (records : ℕ) (facts : Facts bytes records) where
+  same-records : (k : ℕ) → FilledBy bytes k → k ≡ records
+  same-records k filled = offset-same bytes k records (filled ∙ sym (facts .end))
 
-  judged-by : (v : Verdict) → Says bytes v → Judged (outcomeBy bytes buffer v .answer)
-  unfolding Says outcomeBy pick acceptance
-  judged-by (Refused number at) (refused, inl (in-plan, at-start)) =
-      refused-here number at refused
-      (subst⁻¹ (FirstRowMet (sheetGrounds bytes buffer) number) at-start (opening-refused _ 5 13 _ _ computes number in-plan refused))
-  judged-by (Refused number at) (refused, inr (passed, stops)) =
-      refused-here number at refused
-      (subst⁻¹ (FirstRowMet (sheetGrounds bytes buffer) number) (stops .at-offset)
-      (record-refused _ 5 13 _ _ computes number (stops .stop) passed (stops .inside) (stops .refused-by) refused (stops .earlier)))
-  judged-by (Accepted records units) (facts, counted) =
-      go (ltb (length buffer) (resultSize * units)) refl (overfullBefore (sheetOf bytes records) records) refl
-    where
-      go : (test : Bool) → ltb (length buffer) (resultSize * units) ≡ test
-          → (full : Bool) → overfullBefore (sheetOf bytes records) records ≡ full
-          → Judged (pick test (refusal 13 (length bytes) buffer)
-          (pick full (refusal 14 (length bytes) buffer) (acceptance bytes buffer records units)) .answer)
-      go true s full o = short records facts (omega (arith, ltb-true (length buffer) (resultSize * units) s, counted))
-      go false s true o = absurd (true≢false (sym o ∙ none-overfull bytes records facts records))
-      go false s false o =
-          let room : resultSize * unitsBefore bytes records ≤ length buffer
-          = omega (arith, ltb-false (length buffer) (resultSize * units) s, counted) in
-          accepted-by _ 5 13 _ _ computes (WholeSheet bytes) _ refl
-          (none-applies _ 5 13 _ _ computes records (facts .plan) (facts .end) (passes records facts) (has-room records facts room))
-          (record { records = records; filled = facts .end; counted = counted })
+  pub not-short : (buffer : List ℕ) → resultSize * unitsBefore bytes records ≤ length buffer → BufferShort bytes buffer → ⊥
+  not-short buffer room h = omega (arith, h .short, ap (unitsBefore bytes) (same-records (h .records) (h .filled)))
+
+  -- no CuSum is above two bytes where none is overfull, whatever CuSums the units of so many records make
+  pub not-above : (cusums : ℕ → ℕ → SampleUnit → List Cusum) → overfullAmong (cusums records) (entryAt bytes) records ≡ false
+      → (k i class : ℕ) → FilledBy bytes k → i < k → IsUnit bytes i → class < length classes
+      → 65535 < tenthsIn (cusums k i (sampleUnitAt bytes (offset bytes i))) class → ⊥
+  not-above cusums none k i class filled inside is-unit a-class above =
+      let same = same-records k filled in
+      let unit = sampleUnitAt bytes (offset bytes i) in
+      let fits = fits-among (cusums records) (entryAt bytes) records none i (omega (arith, inside, same)) unit
+      (entry-unit bytes i (is-unit-mark bytes i is-unit)) class a-class in
+      omega (arith, fits, above, ap (λ (n : ℕ). tenthsIn (cusums n i unit) class) same)
+
+-- ---- of a grading
+
+module _ (bytes buffer : List ℕ) where
+  in-rows : (n : ℕ) → BufferRow bytes buffer n → InRows rows n
+  unfolding rowsAbove
+  in-rows n (row13 h) = (lit< tt, refl)
+  in-rows n (row14 h) = (lit< tt, refl)
+
+  from-13 : (n : ℕ) → BufferRow bytes buffer n → rowsAbove rows 13 ≤ rowsAbove rows n
+  unfolding rowsAbove
+  from-13 n (row13 h) = omega arith
+  from-13 n (row14 h) = omega arith
+
+  behind-records : (n : ℕ) → BufferRow bytes buffer n → 12 ≤ rowsAbove rows n
+  unfolding rowsAbove
+  behind-records n applies = omega (arith, from-13 n applies)
+
+  has-room : (records : ℕ) → Facts bytes records → resultSize * unitsBefore bytes records ≤ length buffer → (n : ℕ) → BufferRow bytes buffer n → ⊥
+  unfolding sheetOf
+  has-room records facts room n (row13 h) = not-short bytes records facts buffer room h
+  has-room records facts room n (row14 h) =
+      not-above bytes records facts (λ k i unit. gradedAt (sheetOf bytes k) i unit .cusums) (none-overfull bytes records facts records)
+      (h .records) (h .i) (h .class) (h .filled) (h .inside) (h .is-unit) (h .a-class) (h .above)
+
+  behind : RowsBehind bytes buffer (Facts bytes) (BufferRow bytes buffer)
+  behind =
+      record {
+        in-rows = in-rows;
+        behind-records = behind-records;
+        facts = λ records passed. passed;
+        short = row13;
+        from-13 = λ records passed. from-13;
+        none = has-room;
+      }
 
 pub demand2-grounds : Demand2Grounds
-unfolding outcome
 demand2-grounds bytes buffer answer results promise =
-    subst⁻¹ (λ (given : Outcome). Judged bytes buffer (given .answer)) promise (judged-by bytes buffer (verdict bytes) (verdict-says bytes))
+    subst⁻¹ (λ (given : Outcome). RefusedByGround (sheetGrounds bytes buffer) (WholeSheet bytes) (given .answer)) promise
+    (judged-case bytes buffer (behind bytes buffer) _ (outcome-case bytes buffer))

@@ -1,3 +1,4 @@
+pub mod Cases
 pub mod Listed
 pub mod Rows
 pub mod FirstRow

@@ -3,11 +3,12 @@
 use Prim.Native.Nat.{ℕ, _≤_, _<_}
 use mathlib.Core.Path.{_≡_, refl, sym, subst, subst⁻¹}
 use mathlib.Core.Bool.{Bool, true, false}
-use mathlib.Core.Logic.{inl, inr}
+use mathlib.Core.Logic.{_⊎_, inl, inr}
 use native.Mathlib.Omega.{arith}
 use lib.Dec.{ltb}
 use borrow.Author.Tests.{ltb-true, ltb-false}
 use Rattle.outcome.specs.declared.Answer.{Answer}
+use Rattle.sheet.proofs.LeftToRight.{Stops}
 use Rattle.grounds.specs.Grounds.{Grounds, Ground, of-opening, of-record, of-buffer, rowsAbove, Earlier, FirstRowMet, RefusedByGround}
 use Rattle.grounds.proofs.FirstRow.{First, InRows, own-row, first-none, first-met}
 
@@ -27,84 +28,20 @@ pub record Computes (grounds : Grounds) (records-from buffer-from opening : ℕ)
   pub in-order : (i j : ℕ) → grounds .offset i < grounds .offset j → i < j
   pub own-place : (i j : ℕ) → grounds .offset i ≡ grounds .offset j → i ≡ j
 
-module _ (grounds : Grounds) (records-from buffer-from opening : ℕ) (refusal : ℕ → ℕ)
-    (computes : Computes grounds records-from buffer-from opening refusal) where
+module _ {grounds : Grounds} {records-from buffer-from opening : ℕ} {refusal : ℕ → ℕ}
+    (computes : Computes grounds records-from buffer-from opening refusal) (Whole : ℕ → Type 0) where
   abbrev row : ℕ → ℕ
   row number = rowsAbove (grounds .rows) number
 
-  -- ---- the places in order
+  abbrev Judged : Answer → Type 0
+  Judged answer = RefusedByGround grounds Whole answer
 
-  no-opening-row : opening ≡ 0 → (n : ℕ) → grounds .OpeningRow n → ⊥
-  no-opening-row passed n applies =
-      first-none (grounds .rows) (computes .opening-in-rows) 0 opening (computes .opening-first) passed n (omega arith) applies
-
-  no-record-row : (i : ℕ) → grounds .offset i < grounds .end → refusal i ≡ 0 → (n : ℕ) → grounds .RecordRow i n → ⊥
-  no-record-row i inside passed n applies =
-      first-none (grounds .rows) (computes .record-in-rows i) records-from (refusal i) (computes .record-first i inside) passed n
-      (computes .record-rows i n applies) applies
+  -- ---- one first row, and so one answer
 
   ground-in-rows : (n at : ℕ) → Ground grounds n at → InRows (grounds .rows) n
   ground-in-rows n at (of-opening h) = computes .opening-in-rows n h
   ground-in-rows n at (of-record i inside h) = computes .record-in-rows i n h
   ground-in-rows n at (of-buffer h) = computes .buffer-in-rows n h
-
-  -- of the opening
-  pub opening-refused : (number : ℕ) → number ≡ opening → (number ≡ 0 → ⊥) → FirstRowMet grounds number 0
-  opening-refused number is-refusal refused =
-      let first = subst⁻¹ (First (grounds .rows) (grounds .OpeningRow) 0) is-refusal (computes .opening-first) in
-      let (met, others) = first-met (grounds .rows) (computes .opening-in-rows) 0 number first refused in
-      record { applies = of-opening met; none-earlier = λ n at earlier applies. go met others n at applies earlier }
-    where
-      go : grounds .OpeningRow number → ((n : ℕ) → 0 ≤ row n → row n < row number → grounds .OpeningRow n → ⊥)
-          → (n at : ℕ) → Ground grounds n at → Earlier (grounds .rows) n at number 0 → ⊥
-      go met others n at (of-opening h) (inl before) = omega arith
-      go met others n at (of-opening h) (inr (same, above)) = others n (omega arith) above h
-      go met others n at (of-record i inside h) (inl before) = omega arith
-      go met others n at (of-record i inside h) (inr (same, above)) = omega (arith, computes .behind-opening i)
-      go met others n at (of-buffer h) (inl before) = omega arith
-      go met others n at (of-buffer h) (inr (same, above)) = omega (arith, computes .buffer-rows n h, computes .opening-rows number met)
-
-  -- of a record
-  pub record-refused : (number stop : ℕ) → opening ≡ 0 → grounds .offset stop < grounds .end → number ≡ refusal stop
-      → (number ≡ 0 → ⊥) → ((j : ℕ) → j < stop → refusal j ≡ 0) → FirstRowMet grounds number (grounds .offset stop)
-  record-refused number stop passed inside is-refusal refused passed-before =
-      let first = subst⁻¹ (First (grounds .rows) (grounds .RecordRow stop) records-from) is-refusal (computes .record-first stop inside) in
-      let (met, others) = first-met (grounds .rows) (computes .record-in-rows stop) records-from number first refused in
-      record { applies = of-record stop inside met; none-earlier = λ n at earlier applies. go others n at applies earlier }
-    where
-      go : ((n : ℕ) → records-from ≤ row n → row n < row number → grounds .RecordRow stop n → ⊥)
-          → (n at : ℕ) → Ground grounds n at → Earlier (grounds .rows) n at number (grounds .offset stop) → ⊥
-      go others n at (of-opening h) earlier = no-opening-row passed n h
-      go others n at (of-record i within h) (inl before) = no-record-row i within (passed-before i (computes .in-order i stop before)) n h
-      go others n at (of-record i within h) (inr (same, above)) =
-          others n (computes .record-rows i n h) above (subst (λ (j : ℕ). grounds .RecordRow j n) (computes .own-place i stop same) h)
-      go others n at (of-buffer h) (inl before) = omega arith
-      go others n at (of-buffer h) (inr (same, above)) = omega arith
-
-  -- where the opening and the records that fill the sheet pass
-  module _ (records : ℕ) (passed : opening ≡ 0) (filled : grounds .offset records ≡ grounds .end)
-      (within : (j : ℕ) → j < records → refusal j ≡ 0) where
-    passed-record : (i : ℕ) → grounds .offset i < grounds .end → (n : ℕ) → grounds .RecordRow i n → ⊥
-    passed-record i inside n = no-record-row i inside (within i (computes .in-order i records (omega (arith, filled)))) n
-
-    -- of the result buffer
-    pub buffer-refused : (number : ℕ) → grounds .BufferRow number → ((n : ℕ) → grounds .BufferRow n → row n < row number → ⊥)
-        → FirstRowMet grounds number (grounds .end)
-    buffer-refused number met others = record { applies = of-buffer met; none-earlier = λ n at earlier applies. go n at applies earlier }
-      where
-        go : (n at : ℕ) → Ground grounds n at → Earlier (grounds .rows) n at number (grounds .end) → ⊥
-        go n at (of-opening h) earlier = no-opening-row passed n h
-        go n at (of-record i inside h) earlier = passed-record i inside n h
-        go n at (of-buffer h) (inl before) = omega arith
-        go n at (of-buffer h) (inr (same, above)) = others n h above
-
-    -- accepted
-    pub none-applies : ((n : ℕ) → grounds .BufferRow n → ⊥) → (n at : ℕ) → Ground grounds n at → ⊥
-    none-applies room n at (of-opening h) = no-opening-row passed n h
-    none-applies room n at (of-record i inside h) = passed-record i inside n h
-    none-applies room n at (of-buffer h) = room n h
-
-  -- ---- the answer
 
   -- two first rows are the same
   one-first : (number at number' at' : ℕ) → FirstRowMet grounds number at → FirstRowMet grounds number' at' → (number ≡ number') × (at ≡ at')
@@ -128,23 +65,105 @@ module _ (grounds : Grounds) (records-from buffer-from opening : ℕ) (refusal :
               (ground-in-rows number at (first .applies)) (ground-in-rows number' at' (first' .applies))
               (omega (arith, ltb-false (row number) (row number') f, ltb-false (row number') (row number) f'))
 
-  -- an acceptance without a ground, and a refusal by the first
-  pub accepted-by : (Whole : ℕ → Type 0) (answer : Answer) → answer .number ≡ 0 → ((n at : ℕ) → Ground grounds n at → ⊥) → Whole (answer .units)
-      → RefusedByGround grounds Whole answer
-  accepted-by Whole answer accepted none whole =
-      record {
-        refused = λ other. absurd (other accepted);
-        accepted = λ e. none;
-        accepted-whole = λ e. whole;
-        returned = λ number at first. absurd (none number at (first .applies));
-      }
-
-  pub refused-by : (Whole : ℕ → Type 0) (answer : Answer) → (answer .number ≡ 0 → ⊥) → FirstRowMet grounds (answer .number) (answer .offset)
-      → RefusedByGround grounds Whole answer
-  refused-by Whole answer refused first =
+  -- a refusal by it
+  refused-by : (answer : Answer) → (answer .number ≡ 0 → ⊥) → FirstRowMet grounds (answer .number) (answer .offset) → Judged answer
+  refused-by answer refused first =
       record {
         refused = λ other. first;
         accepted = λ e. absurd (refused e);
         accepted-whole = λ e. absurd (refused e);
         returned = λ number at first'. one-first (answer .number) (answer .offset) number at first first';
       }
+
+  -- ---- the places in order
+
+  no-opening-row : opening ≡ 0 → (n : ℕ) → grounds .OpeningRow n → ⊥
+  no-opening-row passed n applies =
+      first-none (grounds .rows) (computes .opening-in-rows) 0 opening (computes .opening-first) passed n (omega arith) applies
+
+  no-record-row : (i : ℕ) → grounds .offset i < grounds .end → refusal i ≡ 0 → (n : ℕ) → grounds .RecordRow i n → ⊥
+  no-record-row i inside passed n applies =
+      first-none (grounds .rows) (computes .record-in-rows i) records-from (refusal i) (computes .record-first i inside) passed n
+      (computes .record-rows i n applies) applies
+
+  -- of the opening
+  opening-refused : (number : ℕ) → number ≡ opening → (number ≡ 0 → ⊥) → FirstRowMet grounds number 0
+  opening-refused number is-refusal refused =
+      let first = subst⁻¹ (First (grounds .rows) (grounds .OpeningRow) 0) is-refusal (computes .opening-first) in
+      let (met, others) = first-met (grounds .rows) (computes .opening-in-rows) 0 number first refused in
+      record { applies = of-opening met; none-earlier = λ n at earlier applies. go met others n at applies earlier }
+    where
+      go : grounds .OpeningRow number → ((n : ℕ) → 0 ≤ row n → row n < row number → grounds .OpeningRow n → ⊥)
+          → (n at : ℕ) → Ground grounds n at → Earlier (grounds .rows) n at number 0 → ⊥
+      go met others n at (of-opening h) (inl before) = omega arith
+      go met others n at (of-opening h) (inr (same, above)) = others n (omega arith) above h
+      go met others n at (of-record i inside h) (inl before) = omega arith
+      go met others n at (of-record i inside h) (inr (same, above)) = omega (arith, computes .behind-opening i)
+      go met others n at (of-buffer h) (inl before) = omega arith
+      go met others n at (of-buffer h) (inr (same, above)) = omega (arith, computes .buffer-rows n h, computes .opening-rows number met)
+
+  -- of a record
+  record-refused : (number stop : ℕ) → opening ≡ 0 → grounds .offset stop < grounds .end → number ≡ refusal stop
+      → (number ≡ 0 → ⊥) → ((j : ℕ) → j < stop → refusal j ≡ 0) → FirstRowMet grounds number (grounds .offset stop)
+  record-refused number stop passed inside is-refusal refused passed-before =
+      let first = subst⁻¹ (First (grounds .rows) (grounds .RecordRow stop) records-from) is-refusal (computes .record-first stop inside) in
+      let (met, others) = first-met (grounds .rows) (computes .record-in-rows stop) records-from number first refused in
+      record { applies = of-record stop inside met; none-earlier = λ n at earlier applies. go others n at applies earlier }
+    where
+      go : ((n : ℕ) → records-from ≤ row n → row n < row number → grounds .RecordRow stop n → ⊥)
+          → (n at : ℕ) → Ground grounds n at → Earlier (grounds .rows) n at number (grounds .offset stop) → ⊥
+      go others n at (of-opening h) earlier = no-opening-row passed n h
+      go others n at (of-record i within h) (inl before) = no-record-row i within (passed-before i (computes .in-order i stop before)) n h
+      go others n at (of-record i within h) (inr (same, above)) =
+          others n (computes .record-rows i n h) above (subst (λ (j : ℕ). grounds .RecordRow j n) (computes .own-place i stop same) h)
+      go others n at (of-buffer h) (inl before) = omega arith
+      go others n at (of-buffer h) (inr (same, above)) = omega arith
+
+  -- a refusal of the check: that of the opening, or that of the first record refused
+  pub refused-by-check : (answer : Answer) → (answer .number ≡ 0 → ⊥)
+      → ((answer .number ≡ opening) × (answer .offset ≡ 0))
+      ⊎ ((opening ≡ 0) × Stops (grounds .end) (grounds .offset) refusal (answer .number) (answer .offset)) → Judged answer
+  refused-by-check answer refused (inl (by-opening, at-start)) =
+      refused-by answer refused
+      (subst⁻¹ (FirstRowMet grounds (answer .number)) at-start (opening-refused (answer .number) by-opening refused))
+  refused-by-check answer refused (inr (passed, stops)) =
+      refused-by answer refused
+      (subst⁻¹ (FirstRowMet grounds (answer .number)) (stops .at-offset)
+      (record-refused (answer .number) (stops .stop) passed (stops .inside) (stops .refused-by) refused (stops .earlier)))
+
+  -- where the opening and the records that fill the sheet pass
+  module _ (records : ℕ) (passed : opening ≡ 0) (filled : grounds .offset records ≡ grounds .end)
+      (within : (j : ℕ) → j < records → refusal j ≡ 0) where
+    passed-record : (i : ℕ) → grounds .offset i < grounds .end → (n : ℕ) → grounds .RecordRow i n → ⊥
+    passed-record i inside n = no-record-row i inside (within i (computes .in-order i records (omega (arith, filled)))) n
+
+    buffer-refused : (number : ℕ) → grounds .BufferRow number → ((n : ℕ) → grounds .BufferRow n → row n < row number → ⊥)
+        → FirstRowMet grounds number (grounds .end)
+    buffer-refused number met others = record { applies = of-buffer met; none-earlier = λ n at earlier applies. go n at applies earlier }
+      where
+        go : (n at : ℕ) → Ground grounds n at → Earlier (grounds .rows) n at number (grounds .end) → ⊥
+        go n at (of-opening h) earlier = no-opening-row passed n h
+        go n at (of-record i inside h) earlier = passed-record i inside n h
+        go n at (of-buffer h) (inl before) = omega arith
+        go n at (of-buffer h) (inr (same, above)) = others n h above
+
+    -- a refusal by the first row of the result buffer that applies
+    pub refused-by-buffer : (answer : Answer) → (answer .number ≡ 0 → ⊥) → answer .offset ≡ grounds .end → grounds .BufferRow (answer .number)
+        → ((n : ℕ) → grounds .BufferRow n → row n < row (answer .number) → ⊥) → Judged answer
+    refused-by-buffer answer refused at-end met others =
+        refused-by answer refused (subst⁻¹ (FirstRowMet grounds (answer .number)) at-end (buffer-refused (answer .number) met others))
+
+    -- an acceptance, where none applies
+    pub accepted-by : (answer : Answer) → answer .number ≡ 0 → ((n : ℕ) → grounds .BufferRow n → ⊥) → Whole (answer .units) → Judged answer
+    accepted-by answer accepted room whole =
+        record {
+          refused = λ other. absurd (other accepted);
+          accepted = λ e. none;
+          accepted-whole = λ e. whole;
+          returned = λ number at first. absurd (none number at (first .applies));
+        }
+      where
+        none : (n at : ℕ) → Ground grounds n at → ⊥
+        none n at (of-opening h) = no-opening-row passed n h
+        none n at (of-record i inside h) = passed-record i inside n h
+        none n at (of-buffer h) = room n h

@@ -1,7 +1,7 @@
 -- The first row met at one place: a refusal is a chain of tests, taken row by row from its end.
 use Prim.Native.Nat.{ℕ, suc, _≤_, _<_}
 use mathlib.Core.Path.{_≡_, refl, sym, _∙_, ap, subst}
-use mathlib.Core.Bool.{Bool, true, false}
+use mathlib.Core.Bool.{Bool, true, false, not}
 use mathlib.Core.List.{List}
 use mathlib.Core.Logic.{_⊎_, inl, inr, ⊎-elim}
 use native.Mathlib.Omega.{arith}
@@ -11,6 +11,7 @@ use borrow.Author.Tests.{eqb-true, eqb-false}
 use Rattle.sheet.specs.Refusals.{refusedIf}
 use Rattle.grounds.specs.Grounds.{rowsAbove}
 use Rattle.grounds.specs.Tells.{Tells}
+use Rattle.grounds.proofs.Tells.{tells-eq, tells-as, tells-not}
 
 module _ (rows : List ℕ) where
   abbrev row : ℕ → ℕ
@@ -64,3 +65,11 @@ module _ (rows : List ℕ) where
         → Applies number × ((n : ℕ) → from ≤ row n → row n < row number → Applies n → ⊥)
     first-met from number (inl (none, others)) refused = absurd (refused none)
     first-met from number (inr met) refused = met
+
+    -- whether any row applies
+    pub tells-some-row : (number : ℕ) → First Applies 0 number → Tells (not (eqb number 0)) ((n : ℕ) × Applies n)
+    tells-some-row number first =
+        tells-as
+        (λ refused. (number, first-met 0 number first refused .0))
+        (λ (n, applies) none. first-none 0 number first none n (omega arith) applies)
+        (tells-not (tells-eq number 0))

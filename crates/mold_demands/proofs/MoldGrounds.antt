@@ -15,11 +15,11 @@ use Rattle.encoding.specs.Bytes.{byte, number}
 use Rattle.layout.specs.Layout.{markSize}
 use Rattle.sheet.specs.Refusals.{refusedIf}
 use Rattle.sheet.proofs.Grounds.{ground-passed}
-use Rattle.grounds.specs.Grounds.{rowsAbove, FirstRowMet, RefusedByGround}
+use Rattle.grounds.specs.Grounds.{rowsAbove, RefusedByGround}
 use Rattle.grounds.specs.Tells.{Tells}
 use Rattle.grounds.proofs.Tells.{tells-lt, tells-le, tells-eq, tells-as, tells-not, tells-or}
 use Rattle.grounds.proofs.FirstRow.{First, InRows, first-row, first-past}
-use Rattle.grounds.proofs.Decided.{Computes, opening-refused, record-refused, buffer-refused, none-applies, accepted-by, refused-by}
+use Rattle.grounds.proofs.Decided.{Computes, refused-by-check, refused-by-buffer, accepted-by}
 use Rattle.mold.specs.Layout.{openingSize, unitSize, fieldsOffset, levelRow, offset, moldUnitAt}
 use Rattle.mold.specs.Refusals.{noOpening, openingRefusal, noUnitMark, unitRefusal, recordRefusal, checked}
 use Rattle.mold.specs.Results.{resultSize}
@@ -158,19 +158,9 @@ module _ (bytes buffer : List ℕ) where
   abbrev Judged : Answer → Type 0
   Judged answer = RefusedByGround (moldGrounds bytes buffer) (WholeMoldSheet bytes) answer
 
-  refused-here : (answer : Answer) → (answer .number ≡ 0 → ⊥) → FirstRowMet (moldGrounds bytes buffer) (answer .number) (answer .offset) → Judged answer
-  refused-here = refused-by _ 2 6 _ _ computes (WholeMoldSheet bytes)
-
   by-says : (answer : Answer) → (answer .number ≡ 0 → ⊥) → Says bytes answer → Judged answer
   by-says answer other (inl (is, facts)) = absurd (other (ap (λ (given : Answer). given .number) is))
-  by-says answer other (inr (refused, units, inl (in-opening, at-start))) =
-      refused-here answer refused
-      (subst⁻¹ (FirstRowMet (moldGrounds bytes buffer) (answer .number)) at-start
-      (opening-refused _ 2 6 _ _ computes (answer .number) in-opening refused))
-  by-says answer other (inr (refused, units, inr (passed, stops))) =
-      refused-here answer refused
-      (subst⁻¹ (FirstRowMet (moldGrounds bytes buffer) (answer .number)) (stops .at-offset)
-      (record-refused _ 2 6 _ _ computes (answer .number) (stops .stop) passed (stops .inside) (stops .refused-by) refused (stops .earlier)))
+  by-says answer other (inr (refused, units, which)) = refused-by-check computes (WholeMoldSheet bytes) answer refused which
 
   module _ (units : ℕ) (facts : Facts bytes units) where
     passes : (j : ℕ) → j < units → recordRefusal bytes j ≡ 0
@@ -190,9 +180,9 @@ module _ (bytes buffer : List ℕ) where
     short : length buffer < resultSize * units → Judged (refusedAs 13 (length bytes))
     unfolding rowsAbove
     short less =
-        refused-here (refusedAs 13 (length bytes)) (λ e. omega arith)
-        (buffer-refused _ 2 6 _ _ computes units (facts .opening) (facts .end) passes 13
-        (row13 (record { units = units; filled = facts .end; short = less })) (λ n applies above. omega (arith, buffer-rows n applies)))
+        refused-by-buffer computes (WholeMoldSheet bytes) units (facts .opening) (facts .end) passes
+        (refusedAs 13 (length bytes)) (λ e. omega arith) refl
+        (row13 (record { units = units; filled = facts .end; short = less })) (λ n applies above. omega (arith, buffer-rows n applies))
 
     has-room : resultSize * units ≤ length buffer → (n : ℕ) → MoldBufferRow bytes buffer n → ⊥
     has-room room n (row13 h) = omega (arith, h .filled, h .short, facts .end)
@@ -201,8 +191,8 @@ module _ (bytes buffer : List ℕ) where
   judged-case given (by-check refused) = by-says (checked bytes) refused (checked-says bytes)
   judged-case given (without-room units facts less) = short units facts less
   judged-case given (graded units facts room) =
-      accepted-by _ 2 6 _ _ computes (WholeMoldSheet bytes) _ refl
-      (none-applies _ 2 6 _ _ computes units (facts .opening) (facts .end) (passes units facts) (has-room units facts room)) (whole units facts)
+      accepted-by computes (WholeMoldSheet bytes) units (facts .opening) (facts .end) (passes units facts)
+      (given .answer) refl (has-room units facts room) (whole units facts)
 
 pub mold-refusals : MoldRefusals
 mold-refusals bytes buffer answer results promise =

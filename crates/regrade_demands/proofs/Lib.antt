@@ -1,3 +1,6 @@
+pub mod RegradeCases
+pub mod RegradeAnswers
+pub mod RegradeGrounds
 pub mod RegradeRecorded
 pub mod RegradeRecords
 pub mod RegradeFewer
