@@ -3,8 +3,11 @@ use Rattle.tally.proofs.grade.Met as grade
 use Rattle.hatmuyon.proofs.hatmuyon_grade.Met as hatmuyon_grade
 use Rattle.mold.proofs.grade_mold.Met as grade_mold
 use Rattle.hatmuyon.proofs.hatmuyon_grade_mold.Met as hatmuyon_grade_mold
+use Rattle.regrade.proofs.regrade.Met as regrade
+use Rattle.hatmuyon.proofs.hatmuyon_regrade.Met as hatmuyon_regrade
 use Rattle.lines.proofs.print_into.Met as print_into
 use Rattle.mold_lines.proofs.print_mold_into.Met as print_mold_into
+use Rattle.regrade_lines.proofs.print_regrading_into.Met as print_regrading_into
 use Rattle.demands.specs.Demands.{Demands}
 use Rattle.answers.proofs.Bytes.{paper-layout}
 use Rattle.answers.proofs.Listed.{demand1}
@@ -12,6 +15,7 @@ use Rattle.answers.proofs.Grounds.{demand2-grounds}
 use Rattle.answers.proofs.NeverOverfull.{never-overfull}
 use Rattle.mold_demands.proofs.MoldDemands.{mold-demands}
 use Rattle.courses.proofs.Graded.{demand2-records}
+use Rattle.regrade_demands.proofs.RegradeDemands.{regrade-demands}
 use Rattle.demands.proofs.LargestOf.{demand3-largest-form}
 use Rattle.demands.proofs.NeverWorse.{demand3-fewer-defects}
 use Rattle.computed.proofs.Peach.{small-sheets}
@@ -26,8 +30,11 @@ demands =
       promise-of-hatmuyon-grade = hatmuyon_grade.met;
       promise-of-grade-mold = grade_mold.met;
       promise-of-hatmuyon-grade-mold = hatmuyon_grade_mold.met;
+      promise-of-regrade = regrade.met;
+      promise-of-hatmuyon-regrade = hatmuyon_regrade.met;
       promise-of-print-into = print_into.met;
       promise-of-print-mold-into = print_mold_into.met;
+      promise-of-print-regrading-into = print_regrading_into.met;
       paper-layout = paper-layout;
       demand1 = demand1;
       demand2-grounds = demand2-grounds;
@@ -40,4 +47,5 @@ demands =
       printed-text = printed-text;
       instances = instances;
       mold = mold-demands;
+      regradings = regrade-demands;
     }

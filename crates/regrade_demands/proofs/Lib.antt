@@ -5,4 +5,5 @@ pub mod RegradeRecorded
 pub mod RegradeRecords
 pub mod RegradeFewer
 pub mod RegradeSheets
+pub mod RegradeText
 pub mod RegradeInstances

@@ -11,15 +11,16 @@ use borrow.Author.Tests.{ltb-true, ltb-false}
 use Rattle.cusum.specs.Integers.{largestOfZeroAnd, sumℤ, runsToEnd}
 use Rattle.cusum.specs.LargestForm.{tenthsLessT, largestForm, anchorValue}
 use Rattle.units.specs.Words.{classes, substandard}
-use Rattle.layout.specs.Layout.{offset}
+use Rattle.anchors.specs.Anchor.{tenthsFrom}
 use Rattle.results.specs.Record.{resultSize}
 use Rattle.outcome.specs.declared.Answer.{Answer}
-use Rattle.outcome.specs.Outcome.{Outcome, acceptedAs, refusedAs}
+use Rattle.outcome.specs.Outcome.{Outcome, acceptedAs, refusedAs, refusal}
 use Rattle.tally.specs.Accepted.{UnitAt}
 use Rattle.answers.specs.Grounds.{startIn, toleranceIn, limitIn, IsRedesignation, IsBreak}
 use Rattle.courses.specs.Course.{tenTimesCount, prerequisite}
 use Rattle.alike.proofs.OneFewer.{alike-but-place, no-more-but-place}
 use Rattle.alike.specs.Alike.{InCount}
+use Rattle.regrade.specs.Outcome.{regradeOutcome}
 use Rattle.regrade.proofs.Computing.{computing}
 use Rattle.regrade_demands.specs.RegradeAccepted.{RegradedAs, designatedIn, failsAgainAt, sheetAgain}
 use Rattle.regrade_demands.specs.RegradeRecords.{RuleTwoBy, UnitFailsAgain, BestLowerAgain, RegradeCourse, RegradedByRules}
@@ -27,7 +28,10 @@ use Rattle.regrade_demands.specs.RegradeLargest.{at-failure}
 use Rattle.regrade_demands.specs.RegradeFewer.{NoWorseAt}
 use Rattle.regrade_demands.specs.RegradeSheets.{recordedPlan, buyerA, buyerB, twoFailuresBeforeRedesignation, twoFailuresBeforeRedesignationResults, fiveMinorDefectsFewer, fiveMinorDefectsFewerResults, failureOfSecondPlan}
 use Rattle.regrade_demands.specs.RegradeInstances.{moreLeft, fewerLeft, OneOfFour, record0, record1, record3, record5, RecordedInstance, NoWorseInstance, RegradeInstances}
+use Rattle.regrade_demands.proofs.RegradeAnswers.{regrade-answered}
+use Rattle.regrade_demands.proofs.RegradeGrounds.{regrade-refusals}
 use Rattle.regrade_demands.proofs.RegradeRecords.{regrade-graded}
+use Rattle.regrade_demands.proofs.RegradeLargest.{regrade-largest-form}
 use Rattle.regrade_demands.proofs.RegradeFewer.{regrade-fewer-defects}
 use Rattle.regrade_demands.proofs.RegradeSheets.{regrade-sheets}
 
@@ -290,3 +294,41 @@ module _ (buffer : List ℕ) (holds : resultSize * 4 ≤ length buffer) where
   behind-a-break : RecordedInstance buffer 5 50 0 1 0
   behind-a-break =
       meeting-recorded 5 50 record5 fourth-meets (omega (arith, behind-break, defects .3)) (lit≤ tt) (no-prerequisite .3)
+
+-- ---- together
+
+cut-short : (buffer : List ℕ) → regradeOutcome failureOfSecondPlan (take 74 buyerB) buffer ≡ refusal 18 0 buffer
+unfolding computing recordedPlan buyerA buyerB failureOfSecondPlan
+cut-short buffer = refl
+
+second-fails-total : failsAgainAt (sheetAgain more buyerB) 3 1 ≡ true
+unfolding computing recordedPlan buyerA buyerB twoFailuresBeforeRedesignation sheetAgain failsAgainAt
+second-fails-total = refl
+
+pub regrade-instances : RegradeInstances
+unfolding computing recordedPlan buyerA buyerB twoFailuresBeforeRedesignation twoFailuresBeforeRedesignationResults fiveMinorDefectsFewer
+    fiveMinorDefectsFewerResults sheetAgain tenthsLessT largestForm anchorValue tenthsFrom largestOfZeroAnd sumℤ runsToEnd
+regrade-instances =
+    record {
+      kept = λ buffer holds.
+          ap (λ (given : Outcome). drop (resultSize * 4) (given .buffer)) (regrade-sheets .fewer-defects .two-failures-before-redesignation buffer holds)
+          ∙ regrade-answered more buyerB buffer fourAccepted (moreLeft buffer) (more-accepted buffer holds .promise) .accepted-rest refl;
+      none-accepted = λ buffer holds.
+          regrade-refusals more buyerB buffer fourAccepted (moreLeft buffer) (more-accepted buffer holds .promise) .by-ground .accepted refl;
+      none-earlier = λ buffer number at before.
+          regrade-refusals failureOfSecondPlan (take 74 buyerB) buffer (refusedAs 18 0) buffer (sym (cut-short buffer)) .by-ground .refused
+          (λ none. omega arith) .none-earlier number at (inl before);
+      opening-fails = opening-fails;
+      fails-again = fails-again;
+      behind-redesignation = behind-redesignation;
+      behind-break = behind-a-break;
+      largest-of = λ buffer holds i one class known from records failed to anchor no-failure no-break.
+          regrade-largest-form more buyerB buffer fourAccepted (moreLeft buffer) (more-accepted buffer holds) i (unit-at i one) class known .largest-of
+          (record { from = from; records = records; failed = failed; to-this-unit = to; is-anchor = anchor; no-failure = no-failure; no-break = no-break });
+      anchor-of-failure = at-failure 1 (omega arith) second-fails-total;
+      tenths-since = refl;
+      largest-in-numbers = refl;
+      no-worse = no-worse;
+      better-portion = λ buffer buffer'. lit< tt;
+      lower-cusum = λ buffer buffer'. lit< tt;
+    }

@@ -5,4 +5,6 @@ pub mod RegradeRecords
 pub mod RegradeLargest
 pub mod RegradeFewer
 pub mod RegradeSheets
+pub mod RegradeText
 pub mod RegradeInstances
+pub mod RegradeDemands
