@@ -1,1 +1,2 @@
 pub mod RegradeSheets
+pub mod RegradeLargest
