@@ -48,15 +48,22 @@ module _ (sheet : Sheet) where
   tenthsFrom class from zero = []
   tenthsFrom class from (suc n) = tenthsFrom class from n ++ tenthsAt class (sheet .entry (from + n))
 
--- an anchor of the class for the unit that is record i, right before record `from`: S at the opening of the sheet or at a restart
--- before the unit, L (true) at a failing unit, this one included. A restart that a failing unit brings about comes after
--- it, so that such a unit is an anchor for itself alone
-pub data Anchor (sheet : Sheet) (class i : ℕ) : ℕ → Bool → Type 0 where
-  opening : Anchor sheet class i 0 false
-  restart : (j : ℕ) → j < i → restartAt sheet j ≡ true → Anchor sheet class i (suc j) false
-  failure : (j : ℕ) → j ≤ i → classFailsAt sheet class j ≡ true → (j < i → restartAt sheet j ≡ false) → Anchor sheet class i (suc j) true
+-- an anchor for the unit that is record i, right before record `from`, by the records that bring about a restart and those at which a
+-- class fails: S at the opening of the sheet or at a restart before the unit, L (true) at a failing unit, this one included. A restart
+-- that a failing unit brings about comes after it, so that such a unit is an anchor for itself alone
+pub data AnchorBy (restarts fails : ℕ → Bool) (i : ℕ) : ℕ → Bool → Type 0 where
+  opening : AnchorBy restarts fails i 0 false
+  restart : (j : ℕ) → j < i → restarts j ≡ true → AnchorBy restarts fails i (suc j) false
+  failure : (j : ℕ) → j ≤ i → fails j ≡ true → (j < i → restarts j ≡ false) → AnchorBy restarts fails i (suc j) true
 
 -- it is the latest: from record `from` on there is no failure of the class, record i's included, and no restart before record i
-pub record Latest (sheet : Sheet) (class i from : ℕ) : Type 0 where
-  pub no-failure : (j : ℕ) → from ≤ j → j ≤ i → classFailsAt sheet class j ≡ false
-  pub no-restart : (j : ℕ) → from ≤ j → j < i → restartAt sheet j ≡ false
+pub record LatestBy (restarts fails : ℕ → Bool) (i from : ℕ) : Type 0 where
+  pub no-failure : (j : ℕ) → from ≤ j → j ≤ i → fails j ≡ false
+  pub no-restart : (j : ℕ) → from ≤ j → j < i → restarts j ≡ false
+
+-- of a class of the sheet, by its restarts and the failures of the class
+abbrev pub Anchor : Sheet → ℕ → ℕ → ℕ → Bool → Type 0
+Anchor sheet class = AnchorBy (restartAt sheet) (classFailsAt sheet class)
+
+abbrev pub Latest : Sheet → ℕ → ℕ → ℕ → Type 0
+Latest sheet class = LatestBy (restartAt sheet) (classFailsAt sheet class)

@@ -23,7 +23,7 @@ use Rattle.rules.specs.Sheet.{Sheet, before, designatedAt, inForceAt, gradedAt}
 use Rattle.anchors.specs.TwoInARow.{failsInForce, failsDesignated, failsLower, unitFailsAt, unitFailsBefore, secondInARow, unitFailsLowerAt, secondAtLower, lowerPlanStartsAt}
 use Rattle.anchors.specs.ThreeInARow.{recordQualifies, unitQualifiesAt, thirdInARow}
 use Rattle.anchors.specs.Anchor.{failsAt, tenthsAt, classFailsAt, restartBy, restartAt, tenthsFrom}
-use Rattle.anchors.proofs.Anchors.{tenths-of-one}
+use Rattle.anchors.proofs.Trails.{tenths-of-one}
 use Rattle.layout.specs.Layout.{markSize, sampleUnitAt, offset, mark, entryOf, entryAt, unitsBefore}
 use Rattle.layout.specs.declared.Mark.{Mark}
 use Rattle.layout.specs.declared.Mark.the-variants.{UnitMark, RedesignationMark, BreakMark, NoMark}

@@ -28,7 +28,7 @@ use Rattle.anchors.specs.ThreeInARow.{recordQualifies, unitQualifiesAt}
 use Rattle.anchors.specs.Anchor.{tenthsFrom}
 use Rattle.rules.specs.declared.Phase.{Phase}
 use Rattle.rules.specs.declared.Phase.the-variants.{Designated, StepThree}
-use Rattle.anchors.proofs.Anchors.{tenths-go-on}
+use Rattle.anchors.proofs.Trails.{tenths-go-on}
 use Rattle.rules.proofs.FailingUnits.{FailingNeverQualifies, failing-never-qualifies}
 use Rattle.rules.proofs.Grades.{in-force-at-most}
 use Rattle.rules.proofs.FinishedRun.{finished-run, in-run, run-in}

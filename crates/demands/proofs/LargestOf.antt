@@ -1,13 +1,12 @@
 -- Demand 3's first half: at every unit with a plan in force a recorded CuSum is the 'largest of' form from its latest anchor.
 -- From the same law over records, what the result buffer records, and the search that finds an anchor.
-use Prim.Native.Nat.{ℕ, suc, _-_, _≤_}
+use Prim.Native.Nat.{ℕ, suc, _-_}
 use mathlib.Core.Path.{_∙_, ap}
-use mathlib.Core.Bool.{Bool}
 use mathlib.Core.List.{List}
 use native.Mathlib.Omega.{arith}
 use lib.IntN.{pos}
-use Rattle.rules.specs.Sheet.{Sheet}
-use Rattle.anchors.specs.Anchor.{Anchor, opening, restart, failure}
+use Rattle.anchors.specs.Anchor.{restartAt, classFailsAt}
+use Rattle.anchors.proofs.Trails.{anchor-le}
 use Rattle.anchors.proofs.Anchors.{Found, found, largest-form-by-place}
 use Rattle.layout.specs.Layout.{sampleUnitAt, offset}
 use Rattle.layout.proofs.Units.{entry-unit}
@@ -18,16 +17,10 @@ use Rattle.demands.specs.Demand3.{AnchorAt, Demand3LargestForm}
 use Rattle.courses.proofs.Recorded.{recorded-cusum}
 use Rattle.courses.proofs.Graded.{apart}
 
--- an anchor lies at the opening, or behind a record that is not behind the unit
-anchor-le : (sheet : Sheet) (class i from : ℕ) (failed : Bool) → Anchor sheet class i from failed → from ≤ suc i
-anchor-le sheet class i from failed opening = omega arith
-anchor-le sheet class i from failed (restart j before e) = omega arith
-anchor-le sheet class i from failed (failure j before e kept) = omega arith
-
 pub an-anchor-at : (bytes : List ℕ) (i class : ℕ) → AnchorAt bytes i class
 an-anchor-at bytes i class =
     let anchor : Found (sheetIn bytes) class i = found (sheetIn bytes) class i in
-    let within = anchor-le (sheetIn bytes) class i (anchor .place) (anchor .failed) (anchor .lies) in
+    let within = anchor-le (restartAt (sheetIn bytes)) (classFailsAt (sheetIn bytes) class) i (anchor .place) (anchor .failed) (anchor .lies) in
     record {
       from = anchor .place;
       records = suc i - anchor .place;

@@ -3,7 +3,9 @@ pub mod RegradeAnswers
 pub mod RegradeGrounds
 pub mod RegradeRecorded
 pub mod RegradeRecords
+pub mod RegradeLargest
 pub mod RegradeFewer
 pub mod RegradeSheets
 pub mod RegradeText
 pub mod RegradeInstances
+pub mod RegradeDemands
