@@ -11,7 +11,7 @@ use borrow.Author.Tests.{ltb-true, ltb-false}
 use Rattle.cusum.specs.Integers.{largestOfZeroAnd, sumℤ, runsToEnd}
 use Rattle.cusum.specs.LargestForm.{tenthsLessT, largestForm, anchorValue}
 use Rattle.units.specs.Words.{classes, substandard}
-use Rattle.anchors.specs.Anchor.{tenthsFrom}
+use Rattle.anchors.specs.Anchor.{tenthsAt, tenthsFrom}
 use Rattle.results.specs.Record.{resultSize}
 use Rattle.outcome.specs.declared.Answer.{Answer}
 use Rattle.outcome.specs.Outcome.{Outcome, acceptedAs, refusedAs, refusal}
@@ -307,7 +307,7 @@ second-fails-total = refl
 
 pub regrade-instances : RegradeInstances
 unfolding computing recordedPlan buyerA buyerB twoFailuresBeforeRedesignation twoFailuresBeforeRedesignationResults fiveMinorDefectsFewer
-    fiveMinorDefectsFewerResults sheetAgain tenthsLessT largestForm anchorValue tenthsFrom largestOfZeroAnd sumℤ runsToEnd
+    fiveMinorDefectsFewerResults sheetAgain tenthsLessT largestForm anchorValue tenthsAt tenthsFrom largestOfZeroAnd sumℤ runsToEnd
 regrade-instances =
     record {
       kept = λ buffer holds.
