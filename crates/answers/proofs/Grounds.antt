@@ -39,7 +39,7 @@ groundsBehind bytes Row =
       rows = rows;
       OpeningRow = PlanRow bytes;
       RecordRow = RecordRow bytes;
-      BufferRow = Row;
+      LastRow = Row;
       offset = offset bytes;
       end = length bytes;
     }

@@ -9,7 +9,7 @@ use lib.ListN.{length}
 use borrow.Author.Tests.{eqb-true, eqb-false}
 use Rattle.outcome.specs.declared.Answer.{Answer}
 use Rattle.tally.specs.Outcome.{outcome}
-use Rattle.grounds.specs.Grounds.{Ground, of-buffer, RefusedByGround}
+use Rattle.grounds.specs.Grounds.{Ground, of-last, RefusedByGround}
 use Rattle.answers.specs.Grounds.{CusumAbove, row14, sheetGrounds, WholeSheet, NeverOverfull}
 use Rattle.answers.proofs.Cases.{to-13, outcome-case}
 use Rattle.answers.proofs.Grounds.{demand2-grounds}
@@ -31,7 +31,7 @@ module _ (bytes buffer : List ℕ) where
       judged = demand2-grounds bytes buffer answer (outcome bytes buffer .buffer) refl
 
       go : (test : Bool) → eqb (answer .number) 0 ≡ test → ⊥
-      go true e = judged .accepted (eqb-true (answer .number) 0 e) 14 (length bytes) (of-buffer (row14 above))
+      go true e = judged .accepted (eqb-true (answer .number) 0 e) 14 (length bytes) (of-last (row14 above))
       go false e = none (answer .number) (answer .offset) answered-to-13 (judged .refused (eqb-false (answer .number) 0 e) .applies)
 
 pub never-overfull : NeverOverfull

@@ -9,7 +9,7 @@ use lib.Dec.{ltb}
 use borrow.Author.Tests.{ltb-true, ltb-false}
 use Rattle.outcome.specs.declared.Answer.{Answer}
 use Rattle.sheet.proofs.LeftToRight.{Stops}
-use Rattle.grounds.specs.Grounds.{Grounds, Ground, of-opening, of-record, of-buffer, rowsAbove, Earlier, FirstRowMet, RefusedByGround}
+use Rattle.grounds.specs.Grounds.{Grounds, Ground, of-opening, of-record, of-last, rowsAbove, Earlier, FirstRowMet, RefusedByGround}
 use Rattle.grounds.proofs.FirstRow.{First, InRows, own-row, first-none, first-met}
 
 -- what a check computes: the refusal of the opening and of record i, each the first row met at its place. The rows of records and of the
@@ -17,10 +17,10 @@ use Rattle.grounds.proofs.FirstRow.{First, InRows, own-row, first-none,
 pub record Computes (grounds : Grounds) (records-from buffer-from opening : ℕ) (refusal : ℕ → ℕ) : Type 0 where
   pub opening-in-rows : (n : ℕ) → grounds .OpeningRow n → InRows (grounds .rows) n
   pub record-in-rows : (i n : ℕ) → grounds .RecordRow i n → InRows (grounds .rows) n
-  pub buffer-in-rows : (n : ℕ) → grounds .BufferRow n → InRows (grounds .rows) n
+  pub buffer-in-rows : (n : ℕ) → grounds .LastRow n → InRows (grounds .rows) n
   pub opening-rows : (n : ℕ) → grounds .OpeningRow n → rowsAbove (grounds .rows) n < buffer-from
   pub record-rows : (i n : ℕ) → grounds .RecordRow i n → records-from ≤ rowsAbove (grounds .rows) n
-  pub buffer-rows : (n : ℕ) → grounds .BufferRow n → buffer-from ≤ rowsAbove (grounds .rows) n
+  pub buffer-rows : (n : ℕ) → grounds .LastRow n → buffer-from ≤ rowsAbove (grounds .rows) n
   pub opening-first : First (grounds .rows) (grounds .OpeningRow) 0 opening
   pub record-first : (i : ℕ) → grounds .offset i < grounds .end → First (grounds .rows) (grounds .RecordRow i) records-from (refusal i)
   -- records stand behind the opening, each at a place of its own, in the order of their numbers
@@ -41,7 +41,7 @@ module _ {grounds : Grounds} {records-from buffer-from opening : ℕ} {refusal :
   ground-in-rows : (n at : ℕ) → Ground grounds n at → InRows (grounds .rows) n
   ground-in-rows n at (of-opening h) = computes .opening-in-rows n h
   ground-in-rows n at (of-record i inside h) = computes .record-in-rows i n h
-  ground-in-rows n at (of-buffer h) = computes .buffer-in-rows n h
+  ground-in-rows n at (of-last h) = computes .buffer-in-rows n h
 
   -- two first rows are the same
   one-first : (number at number' at' : ℕ) → FirstRowMet grounds number at → FirstRowMet grounds number' at' → (number ≡ number') × (at ≡ at')
@@ -99,8 +99,8 @@ module _ {grounds : Grounds} {records-from buffer-from opening : ℕ} {refusal :
       go met others n at (of-opening h) (inr (same, above)) = others n (omega arith) above h
       go met others n at (of-record i inside h) (inl before) = omega arith
       go met others n at (of-record i inside h) (inr (same, above)) = omega (arith, computes .behind-opening i)
-      go met others n at (of-buffer h) (inl before) = omega arith
-      go met others n at (of-buffer h) (inr (same, above)) = omega (arith, computes .buffer-rows n h, computes .opening-rows number met)
+      go met others n at (of-last h) (inl before) = omega arith
+      go met others n at (of-last h) (inr (same, above)) = omega (arith, computes .buffer-rows n h, computes .opening-rows number met)
 
   -- of a record
   record-refused : (number stop : ℕ) → opening ≡ 0 → grounds .offset stop < grounds .end → number ≡ refusal stop
@@ -116,8 +116,8 @@ module _ {grounds : Grounds} {records-from buffer-from opening : ℕ} {refusal :
       go others n at (of-record i within h) (inl before) = no-record-row i within (passed-before i (computes .in-order i stop before)) n h
       go others n at (of-record i within h) (inr (same, above)) =
           others n (computes .record-rows i n h) above (subst (λ (j : ℕ). grounds .RecordRow j n) (computes .own-place i stop same) h)
-      go others n at (of-buffer h) (inl before) = omega arith
-      go others n at (of-buffer h) (inr (same, above)) = omega arith
+      go others n at (of-last h) (inl before) = omega arith
+      go others n at (of-last h) (inr (same, above)) = omega arith
 
   -- a refusal of the check: that of the opening, or that of the first record refused
   pub refused-by-check : (answer : Answer) → (answer .number ≡ 0 → ⊥)
@@ -137,24 +137,24 @@ module _ {grounds : Grounds} {records-from buffer-from opening : ℕ} {refusal :
     passed-record : (i : ℕ) → grounds .offset i < grounds .end → (n : ℕ) → grounds .RecordRow i n → ⊥
     passed-record i inside n = no-record-row i inside (within i (computes .in-order i records (omega (arith, filled)))) n
 
-    buffer-refused : (number : ℕ) → grounds .BufferRow number → ((n : ℕ) → grounds .BufferRow n → row n < row number → ⊥)
+    buffer-refused : (number : ℕ) → grounds .LastRow number → ((n : ℕ) → grounds .LastRow n → row n < row number → ⊥)
         → FirstRowMet grounds number (grounds .end)
-    buffer-refused number met others = record { applies = of-buffer met; none-earlier = λ n at earlier applies. go n at applies earlier }
+    buffer-refused number met others = record { applies = of-last met; none-earlier = λ n at earlier applies. go n at applies earlier }
       where
         go : (n at : ℕ) → Ground grounds n at → Earlier (grounds .rows) n at number (grounds .end) → ⊥
         go n at (of-opening h) earlier = no-opening-row passed n h
         go n at (of-record i inside h) earlier = passed-record i inside n h
-        go n at (of-buffer h) (inl before) = omega arith
-        go n at (of-buffer h) (inr (same, above)) = others n h above
+        go n at (of-last h) (inl before) = omega arith
+        go n at (of-last h) (inr (same, above)) = others n h above
 
     -- a refusal by the first row of the result buffer that applies
-    pub refused-by-buffer : (answer : Answer) → (answer .number ≡ 0 → ⊥) → answer .offset ≡ grounds .end → grounds .BufferRow (answer .number)
-        → ((n : ℕ) → grounds .BufferRow n → row n < row (answer .number) → ⊥) → Judged answer
+    pub refused-by-buffer : (answer : Answer) → (answer .number ≡ 0 → ⊥) → answer .offset ≡ grounds .end → grounds .LastRow (answer .number)
+        → ((n : ℕ) → grounds .LastRow n → row n < row (answer .number) → ⊥) → Judged answer
     refused-by-buffer answer refused at-end met others =
         refused-by answer refused (subst⁻¹ (FirstRowMet grounds (answer .number)) at-end (buffer-refused (answer .number) met others))
 
     -- an acceptance, where none applies
-    pub accepted-by : (answer : Answer) → answer .number ≡ 0 → ((n : ℕ) → grounds .BufferRow n → ⊥) → Whole (answer .units) → Judged answer
+    pub accepted-by : (answer : Answer) → answer .number ≡ 0 → ((n : ℕ) → grounds .LastRow n → ⊥) → Whole (answer .units) → Judged answer
     accepted-by answer accepted room whole =
         record {
           refused = λ other. absurd (other accepted);
@@ -166,4 +166,4 @@ module _ {grounds : Grounds} {records-from buffer-from opening : ℕ} {refusal :
         none : (n at : ℕ) → Ground grounds n at → ⊥
         none n at (of-opening h) = no-opening-row passed n h
         none n at (of-record i inside h) = passed-record i inside n h
-        none n at (of-buffer h) = room n h
+        none n at (of-last h) = room n h

@@ -13,19 +13,21 @@ use Rattle.outcome.specs.declared.Answer.{Answer}
 pub record Grounds : Type 1 where
   -- the numbers from the first row of the table to its last
   pub rows : List ℕ
-  -- a row of the opening applies, one of record i, and one of the result buffer, each by its number
+  -- a row of the opening applies, one of record i, and one behind the records, each by its number: of the result buffer, and of what is looked
+  -- at between the two
   pub OpeningRow : ℕ → Type 0
   pub RecordRow : ℕ → ℕ → Type 0
-  pub BufferRow : ℕ → Type 0
+  pub LastRow : ℕ → Type 0
   -- where record i stands, and where the sheet ends
   pub offset : ℕ → ℕ
   pub end : ℕ
 
--- a ground applies, by its number and its place: 0 for the opening, a record's mark, the sheet's length for the result buffer
+-- a ground applies, by its number and its place: 0 for the opening, a record's mark, the sheet's length for what is looked at behind the
+-- records
 pub data Ground (grounds : Grounds) : ℕ → ℕ → Type 0 where
   of-opening : {number : ℕ} → grounds .OpeningRow number → Ground grounds number 0
   of-record : {number : ℕ} (i : ℕ) → grounds .offset i < grounds .end → grounds .RecordRow i number → Ground grounds number (grounds .offset i)
-  of-buffer : {number : ℕ} → grounds .BufferRow number → Ground grounds number (grounds .end)
+  of-last : {number : ℕ} → grounds .LastRow number → Ground grounds number (grounds .end)
 
 -- ---- the order
 
@@ -35,7 +37,7 @@ rowsAbove [] number = 0
 rowsAbove (first ∷ others) number = cond (eqb first number) 0 (suc (rowsAbove others number))
 
 -- "records are checked left to right, each wholly before the next": the earlier of two grounds has the smaller offset, or at the same
--- place the upper row. The opening comes before the records, and the result buffer behind them
+-- place the upper row. The opening comes before the records, and the last rows behind them
 abbrev pub Earlier : List ℕ → ℕ → ℕ → ℕ → ℕ → Type 0
 Earlier rows number' at' number at = (at' < at) ⊎ ((at' ≡ at) × (rowsAbove rows number' < rowsAbove rows number))
 

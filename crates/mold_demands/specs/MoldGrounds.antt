@@ -81,7 +81,7 @@ moldGrounds bytes buffer =
       rows = moldRows;
       OpeningRow = MoldOpeningRow bytes;
       RecordRow = MoldRecordRow bytes;
-      BufferRow = MoldBufferRow bytes buffer;
+      LastRow = MoldBufferRow bytes buffer;
       offset = offset;
       end = length bytes;
     }

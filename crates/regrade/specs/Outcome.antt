@@ -28,7 +28,7 @@ sheetUnder bytes second records =
 unfoldable pub secondPlanWrong : List ℕ → Bool
 secondPlanWrong plan = not (eqb (length plan) planSize) || not (eqb (planRefusal plan) 0)
 
--- what the records write: the result records of all units in their order, with the code grades of the sheet
+-- what the records write: the result records of all units in their order, with the code grades of the regrading
 abbrev pub regradedResults : Sheet → List ℕ
 regradedResults sheet = written (regradedResult sheet) (regradedCode sheet) (sheet .entry) (sheet .size)
 

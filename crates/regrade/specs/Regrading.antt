@@ -40,10 +40,10 @@ module _ (sheet : Sheet) where
   abbrev pub regradedResult : ℕ → SampleUnit → ResultRecord
   regradedResult i unit = resultUnder (sheet .designated) unit (regradedAt i unit)
 
-  -- rule 4: "prerequisites count as before"
+  -- rule 4: "Prerequisites and codes count as before"
   unfoldable pub regradedPortion : ℕ → SampleUnit → ℕ
   regradedPortion i unit = worse (regradedAt i unit .grade) (unit .prerequisite)
 
-  -- "and codes": the worst portion grade among all units of the sheet with that code, adjoining or not
+  -- the code grade: the worst portion grade among all units of the sheet with that code, adjoining or not
   unfoldable pub regradedCode : ℕ → ℕ
   regradedCode code = worstBefore regradedPortion (sheet .entry) code (sheet .size)

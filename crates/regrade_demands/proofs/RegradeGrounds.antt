@@ -25,7 +25,7 @@ use Rattle.answers.proofs.Grounds.{RowsBehind, refused-behind, judged-case, not
 use Rattle.regrade.specs.Regrading.{regradedAt}
 use Rattle.regrade.specs.Outcome.{sheetUnder, secondPlanWrong}
 use Rattle.regrade.proofs.Cases.{not-overfull}
-use Rattle.regrade_demands.specs.RegradeGrounds.{SecondPlanWrong, other-length, plan-ground, LastRow, row18, row13, row14, regradeGrounds, inOrder, RegradeRefused, RegradeRefusals}
+use Rattle.regrade_demands.specs.RegradeGrounds.{SecondPlanWrong, other-length, plan-ground, LastRow, row18, row13, row14, regradeGrounds, whereLookedAt, RegradeRefused, RegradeRefusals}
 use Rattle.regrade_demands.proofs.RegradeCases.{PassedAgain, RegradeCase, wrong-plan, as-graded, regrade-case}
 
 -- ---- 18
@@ -88,10 +88,10 @@ module _ (bytes plan buffer : List ℕ) where
   Judged answer = RefusedByGround (regradeGrounds bytes plan buffer) (WholeSheet bytes) answer
 
   -- 18 is looked at behind the records, any other number at its offset
-  place-of-18 : inOrder bytes (refusedAs 18 0) ≡ refusedAs 18 (length bytes)
+  place-of-18 : whereLookedAt bytes (refusedAs 18 0) ≡ refusedAs 18 (length bytes)
   place-of-18 = refl
 
-  in-order : (answer : Answer) → (answer .number ≡ 18 → ⊥) → inOrder bytes answer ≡ answer
+  in-order : (answer : Answer) → (answer .number ≡ 18 → ⊥) → whereLookedAt bytes answer ≡ answer
   in-order answer other = rw (ne-eqb (answer .number) 18 other) refl
 
   refused-case : (answer : Answer) → RegradeCase bytes plan buffer answer → RegradeRefused bytes plan buffer answer

@@ -10,6 +10,7 @@ use lib.ListN.{length, drop, take}
 use borrow.Author.Tests.{ltb-true, ltb-false}
 use Rattle.cusum.specs.Integers.{largestOfZeroAnd, sumℤ, runsToEnd}
 use Rattle.cusum.specs.LargestForm.{tenthsLessT, largestForm, anchorValue}
+use Rattle.encoding.specs.Bytes.{wideNumber}
 use Rattle.units.specs.Words.{classes, substandard}
 use Rattle.anchors.specs.Anchor.{tenthsAt, tenthsFrom}
 use Rattle.results.specs.Record.{resultSize}
@@ -305,9 +306,13 @@ second-fails-total : failsAgainAt (sheetAgain more buyerB) 3 1 ≡ true
 unfolding computing recordedPlan buyerA buyerB twoFailuresBeforeRedesignation sheetAgain failsAgainAt
 second-fails-total = refl
 
+second-meets-total : failsAgainAt (sheetAgain fewer buyerB) 3 1 ≡ false
+unfolding computing recordedPlan buyerA buyerB fiveMinorDefectsFewer sheetAgain failsAgainAt
+second-meets-total = refl
+
 pub regrade-instances : RegradeInstances
 unfolding computing recordedPlan buyerA buyerB twoFailuresBeforeRedesignation twoFailuresBeforeRedesignationResults fiveMinorDefectsFewer
-    fiveMinorDefectsFewerResults sheetAgain tenthsLessT largestForm anchorValue tenthsAt tenthsFrom largestOfZeroAnd sumℤ runsToEnd
+    fiveMinorDefectsFewerResults sheetAgain tenthsLessT largestForm anchorValue tenthsAt tenthsFrom largestOfZeroAnd sumℤ runsToEnd wideNumber
 regrade-instances =
     record {
       kept = λ buffer holds.
@@ -331,4 +336,7 @@ regrade-instances =
       no-worse = no-worse;
       better-portion = λ buffer buffer'. lit< tt;
       lower-cusum = λ buffer buffer'. lit< tt;
+      smaller-overshoot = λ buffer buffer'. lit< tt;
+      better-code = λ buffer buffer'. lit< tt;
+      fails-only-in-second = (second-meets-total, second-fails-total);
     }

@@ -114,8 +114,10 @@ module _ (bytes plan buffer : List ℕ) (answer : Answer) (results : List ℕ) (
         there .cusums class known (omega (arith, is, most, fits)) ∙ is
 
     -- an overshoot is at most the unit's own defects
-    overshoot-at-most : (class : ℕ) → class < length classes
-        → classOvershoot (sheet .table) (sheet .designated) (cusumsBefore sheet i) (tenthsOf unit) class ≤ countTenths (tenthsOf unit) class
+    pub overshoot-at-most : (class : ℕ) → class < length classes
+        → classOvershoot (sheetAgain bytes plan .table) (sheetAgain bytes plan .designated) (cusumsBefore (sheetAgain bytes plan) i)
+        (tenthsOf (sampleUnitAt bytes (offset bytes i))) class
+        ≤ countTenths (tenthsOf (sampleUnitAt bytes (offset bytes i))) class
     unfolding sheetAgain sheetUnder
     overshoot-at-most class known =
         class-overshoot-le (sheet .table) (sheet .designated) (cusumsBefore sheet i) (tenthsOf unit) class

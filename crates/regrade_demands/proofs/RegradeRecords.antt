@@ -3,8 +3,8 @@
 use Prim.Native.Nat.{ℕ, zero, suc, _+_, _-_, _<_, _≤_, min}
 use mathlib.Core.Path.{_≡_, refl, sym, _∙_, ap, subst⁻¹}
 use mathlib.Core.Bool.{Bool, true, false, cond, false≢true, true≢false}
-use mathlib.Core.Logic.{_⊎_, inl, inr, ⊎-elim}
-use mathlib.Core.List.{List}
+use mathlib.Core.Logic.{_⊎_, inl, inr, ⊎-elim, _↔_}
+use mathlib.Core.List.{List, [], _∷_}
 use native.Mathlib.Omega.{arith}
 use lib.Dec.{ltb}
 use lib.ListN.{length}
@@ -23,13 +23,16 @@ use Rattle.units.proofs.BestLower.{best-lower-is}
 use Rattle.units.proofs.Classes.{at-class}
 use Rattle.rules.specs.Sheet.{Sheet}
 use Rattle.rules.proofs.FailingUnits.{starts-at}
+use Rattle.anchors.specs.Anchor.{tenthsFrom}
+use Rattle.anchors.proofs.Trails.{tenths-go-on}
 use Rattle.layout.specs.Layout.{planOf, sampleUnitAt, offset, entryAt}
 use Rattle.layout.proofs.Units.{entry-unit}
 use Rattle.sheet.proofs.Accepted.{Facts}
 use Rattle.sheet.proofs.Ranges.{designated-le}
+use Rattle.recording.specs.Sheet.{sheetOf}
 use Rattle.outcome.specs.declared.Answer.{Answer}
 use Rattle.tally.specs.Outcome.{recordsIn}
-use Rattle.tally.specs.Accepted.{UnitAt}
+use Rattle.tally.specs.Accepted.{sheetIn, UnitAt, recordedOvershoot}
 use Rattle.regrade.specs.Regrading.{cusumsBehind, cusumsBefore, regradedPortion, regradedCode}
 use Rattle.regrade.specs.Outcome.{sheetUnder}
 use Rattle.grounds.specs.Tells.{Tells}
@@ -42,9 +45,10 @@ use Rattle.courses.proofs.CourseWords.{unitIn, count-is, break-entry, redesigna
 use Rattle.courses.proofs.CourseWords as words
 use Rattle.courses.proofs.CodeGrades.{worst-of-code}
 use Rattle.courses.proofs.OneCourse.{settled}
+use Rattle.courses.proofs.Graded.{same-records}
 use Rattle.regrade_demands.specs.RegradeAccepted.{RegradedAs, sheetAgain, designatedIn, numbersAgain, failsAgainAt}
 use Rattle.regrade_demands.specs.RegradeRecords.{RegradeCourse, RuleTwoBy, ClassFailsAgain, UnitFailsAgain, BestLowerAgain, RuleThreeAgain, RegradeRules, RegradeRecorded, SameAgainAt, RegradedByRules, RegradeGraded}
-use Rattle.regrade_demands.proofs.RegradeRecorded.{its-facts, second-facts, recorded-mark, recorded-code, recorded-plan, recorded-portion, recorded-code-grade, recorded-standing, recorded-cusum, recorded-overshoot}
+use Rattle.regrade_demands.proofs.RegradeRecorded.{its-facts, second-facts, recorded-mark, recorded-code, recorded-plan, recorded-portion, recorded-code-grade, recorded-standing, recorded-cusum, overshoot-at-most, recorded-overshoot}
 
 -- ---- rule 2 tells one CuSum and one overshoot
 
@@ -64,6 +68,13 @@ module _ {reached tolerance limit new over new' over' : ℕ} (one : RuleTwoBy re
           let most = ltb-false (tolerance + limit) reached e in
           let least = ltb-false reached tolerance f in
           (omega (arith, one .between least most, two .between least most), one .not-over most ∙ sym (two .not-over most))
+
+over-or-not : (bound reached : ℕ) → (bound < reached) ⊎ (reached ≤ bound)
+over-or-not bound reached = go (ltb bound reached) refl
+  where
+    go : (test : Bool) → ltb bound reached ≡ test → (bound < reached) ⊎ (reached ≤ bound)
+    go true e = inl (ltb-true bound reached e)
+    go false e = inr (ltb-false bound reached e)
 
 -- no grade is better than the best lower one, so that there is one; whatever course it is of
 not-better : (bytes plan : List ℕ) (course other : RegradeCourse) (i grade grade' : ℕ) → BestLowerAgain bytes plan course i grade
@@ -327,6 +338,15 @@ module _ (bytes plan : List ℕ) (facts : Facts bytes (recordsIn bytes)) (second
       go (Redesignation new) e = refl
       go Break e = refl
 
+  -- counts go by the records of the sheet, whatever plan stands before them
+  tenths-of-unit : (i class : ℕ) → UnitAt bytes i → tenthsFrom (sheetAgain bytes plan) class i 1 ≡ tenTimesCount bytes i class ∷ []
+  unfolding sheetAgain sheetUnder sheetIn sheetOf tenthsFrom
+  tenths-of-unit = words.tenths-of-unit bytes facts
+
+  tenths-of-other : (i class : ℕ) → (UnitAt bytes i → ⊥) → tenthsFrom (sheetAgain bytes plan) class i 1 ≡ []
+  unfolding sheetAgain sheetUnder sheetIn sheetOf tenthsFrom
+  tenths-of-other = words.tenths-of-other bytes facts
+
 -- ---- what is recorded
 
 module _ (bytes plan buffer : List ℕ) (answer : Answer) (results : List ℕ) (accepted : RegradedAs bytes plan buffer answer results) where
@@ -343,6 +363,17 @@ module _ (bytes plan buffer : List ℕ) (answer : Answer) (results : List ℕ) (
     standing-by : (fails : Bool) → failing bytes plan passed right i ≡ fails → recordedStanding bytes results i ≡ cond fails 1 0
     standing-by fails e = recorded-standing bytes plan buffer answer results accepted i at ∙ ap (λ (b : Bool). cond b 1 0) e
 
+    overshoot-tells : (class : ℕ) → class < length classes → ClassFailsAgain bytes plan its-course i class ↔ (0 < recordedOvershoot bytes results i class)
+    overshoot-tells class known =
+        let rule = rule-two bytes plan passed right i class known in
+        let is = recorded-overshoot bytes plan buffer answer results accepted i at class known in (
+          λ fails. omega (arith, is, rule .over-by fails, fails),
+          λ positive.
+              ⊎-elim (λ fails. fails) (λ none. absurd (omega (arith, is, positive, rule .not-over (omega (arith, none)))))
+              (over-or-not (toleranceIn plan (designatedIn plan) class + limitIn plan (designatedIn plan) class)
+              (its-course .cusum i class + tenTimesCount bytes i class)),
+        )
+
     unit-recorded : RegradeRecorded bytes plan results its-course i
     unfolding regradedPortion sampleUnitAt
     unit-recorded =
@@ -352,6 +383,14 @@ module _ (bytes plan buffer : List ℕ) (answer : Answer) (results : List ℕ) (
           plan-grade = recorded-plan bytes plan buffer answer results accepted i at ∙ designated-is bytes plan passed right;
           cusums = recorded-cusum bytes plan buffer answer results accepted i at;
           overshoots = recorded-overshoot bytes plan buffer answer results accepted i at;
+          overshoot-tells = overshoot-tells;
+          overshoot-at-most = λ class known.
+              omega (
+                arith,
+                recorded-overshoot bytes plan buffer answer results accepted i at class known,
+                overshoot-at-most bytes plan buffer answer results accepted i at class known,
+                count-is bytes i class,
+              );
           portion = recorded-portion bytes plan buffer answer results accepted i at;
           standing-met = λ none. standing-by false (not-told (tells-unit bytes plan passed right i) none);
           standing-failed = λ here. standing-by true (told (tells-unit bytes plan passed right i) here);
@@ -364,6 +403,7 @@ module _ (bytes plan buffer : List ℕ) (answer : Answer) (results : List ℕ) (
       (recorded-code-grade bytes plan buffer answer results accepted)
 
 pub regrade-graded : RegradeGraded
+unfolding tenthsFrom
 regrade-graded bytes plan buffer answer results accepted =
     let facts = its-facts bytes plan buffer answer results accepted in
     let second = second-facts bytes plan buffer answer results accepted in
@@ -377,4 +417,9 @@ regrade-graded bytes plan buffer answer results accepted =
       class-fails = tells-class-at bytes plan facts second;
       only-units-fail = only-units-fail bytes plan facts second;
       numbers = numbers-here bytes plan facts second;
+      tenths-of-none = λ class from. refl;
+      tenths-go-on = tenths-go-on (sheetAgain bytes plan);
+      tenths-of-unit = tenths-of-unit bytes plan facts second;
+      tenths-of-other = tenths-of-other bytes plan facts second;
+      same-records = same-records bytes facts;
     }

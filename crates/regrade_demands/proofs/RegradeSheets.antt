@@ -13,7 +13,7 @@ use Rattle.outcome.specs.Outcome.{refusal}
 use Rattle.regrade.specs.Outcome.{secondPlanWrong, regraded, regradeBy, regradeOutcome}
 use Rattle.regrade.proofs.Cases.{not-overfull}
 use Rattle.regrade.proofs.Computing.{computing}
-use Rattle.regrade_demands.specs.RegradeSheets.{FailureSheets, RedesignationSheets, BreakSheets, SecondPlanSheets, UnitSheets, FewerSheets, RefusedSheets, WrongPlanSheets, RegradeSheets, recordedPlan, buyerA, buyerB, buyerC, manualPlan, manualExample, manualExampleResults, failureOfRecordedPlan, failureOfRecordedPlanResults, failureOfSecondPlan, failureOfSecondPlanResults, twoFailures, twoFailuresResults, threeFailures, threeFailuresResults, twoFailuresInDifferentClasses, twoFailuresInDifferentClassesResults, stepThreeOfRecordedPlan, stepThreeOfRecordedPlanResults, noUnitRecoverable, noUnitRecoverableResults, redesignationBetweenUnits, redesignationBetweenUnitsResults, redesignationBeforeFirstUnit, redesignationBeforeFirstUnitResults, redesignationsToEveryGrade, redesignationsToEveryGradeResults, redesignationBetweenFailures, redesignationBetweenFailuresResults, redesignationBesideBreak, redesignationBesideBreakResults, redesignationToCUnderA, redesignationToCUnderAResults, breakBetweenUnits, breakBetweenUnitsResults, breakBetweenFailures, breakBetweenFailuresResults, breakBehindZero, breakBehindZeroResults, breaksInEveryClass, breaksInEveryClassResults, secondPlanOfC, secondPlanOfCResults, secondPlanOfA, secondPlanOfAResults, everyClassUnderA, everyClassUnderAResults, everyClassUnderB, everyClassUnderBResults, everyClassUnderC, everyClassUnderCResults, lowerGradesByTotal, lowerGradesByTotalResults, lowerGradesByOtherClasses, lowerGradesByOtherClassesResults, countsThatAAdmits, countsThatAAdmitsResults, rawValueAtLimit, rawValueAtLimitResults, tenthAboveLimit, tenthAboveLimitResults, belowZero, belowZeroResults, overshootAboveTwoBytes, overshootAboveTwoBytesResults, prerequisites, prerequisitesResults, prerequisiteSubstandard, prerequisiteSubstandardResults, codeMetAgain, codeMetAgainResults, codeMetAgainLater, codeMetAgainLaterResults, codesAlikeInOneByte, codesAlikeInOneByteResults, noUnit, noUnitResults, noUnitButRecords, noUnitButRecordsResults, twoFailuresBeforeRedesignation, twoFailuresBeforeRedesignationResults, fiveMinorDefectsFewer, fiveMinorDefectsFewerResults, ground1, ground5, ground6, ground7, ground8, ground11, ground11ByRecordedPlan, bufferWithoutRoom}
+use Rattle.regrade_demands.specs.RegradeSheets.{FailureSheets, RedesignationSheets, BreakSheets, SecondPlanSheets, UnitSheets, FewerSheets, RefusedSheets, WrongPlanSheets, RegradeSheets, recordedPlan, buyerA, buyerB, buyerC, manualPlan, manualExample, manualExampleResults, failureOfRecordedPlan, failureOfRecordedPlanResults, failureOfSecondPlan, failureOfSecondPlanResults, twoFailures, twoFailuresResults, threeFailures, threeFailuresResults, failureBehindWorseOne, failureBehindWorseOneResults, twoFailuresInDifferentClasses, twoFailuresInDifferentClassesResults, stepThreeOfRecordedPlan, stepThreeOfRecordedPlanResults, noUnitRecoverable, noUnitRecoverableResults, redesignationBetweenUnits, redesignationBetweenUnitsResults, redesignationBeforeFirstUnit, redesignationBeforeFirstUnitResults, redesignationsToEveryGrade, redesignationsToEveryGradeResults, redesignationBetweenFailures, redesignationBetweenFailuresResults, redesignationBesideBreak, redesignationBesideBreakResults, redesignationToCUnderA, redesignationToCUnderAResults, breakBetweenUnits, breakBetweenUnitsResults, breakBetweenFailures, breakBetweenFailuresResults, breakBehindZero, breakBehindZeroResults, breaksInEveryClass, breaksInEveryClassResults, secondPlanOfC, secondPlanOfCResults, secondPlanOfA, secondPlanOfAResults, everyClassUnderA, everyClassUnderAResults, everyClassUnderB, everyClassUnderBResults, everyClassUnderC, everyClassUnderCResults, lowerGradesByTotal, lowerGradesByTotalResults, lowerGradesByOtherClasses, lowerGradesByOtherClassesResults, countsThatAAdmits, countsThatAAdmitsResults, rawValueAtLimit, rawValueAtLimitResults, tenthAboveLimit, tenthAboveLimitResults, belowZero, belowZeroResults, overshootAboveTwoBytes, overshootAboveTwoBytesResults, prerequisites, prerequisitesResults, prerequisiteSubstandard, prerequisiteSubstandardResults, codeMetAgain, codeMetAgainResults, codeMetAgainLater, codeMetAgainLaterResults, codesAcrossBreakAndRedesignation, codesAcrossBreakAndRedesignationResults, codesAlikeInOneByte, codesAlikeInOneByteResults, noUnit, noUnitResults, noUnitButRecords, noUnitButRecordsResults, twoFailuresBeforeRedesignation, twoFailuresBeforeRedesignationResults, fiveMinorDefectsFewer, fiveMinorDefectsFewerResults, ground1, ground2, ground3, ground4, ground5, ground6, ground7, ground8, ground9, ground10, ground11, ground11ByRecordedPlan, bufferWithoutRoom}
 
 -- a sheet that passes is graded under a right second plan in a buffer that has room for its records, and refused with 13 in one that has not
 module _ (bytes plan buffer : List ℕ) (records units : ℕ) (passes : verdict bytes ≡ Accepted records units) (right : secondPlanWrong plan ≡ false) where
@@ -46,6 +46,7 @@ unfolding computing recordedPlan buyerA buyerB manualPlan manualExample manualEx
     failureOfRecordedPlanResults failureOfSecondPlan failureOfSecondPlanResults twoFailures twoFailuresResults threeFailures
     threeFailuresResults twoFailuresInDifferentClasses twoFailuresInDifferentClassesResults stepThreeOfRecordedPlan
     stepThreeOfRecordedPlanResults noUnitRecoverable noUnitRecoverableResults
+    failureBehindWorseOne failureBehindWorseOneResults
 failure-sheets =
     record {
       manual-example = λ buffer room. accepts manualExample manualPlan buffer 7 7 refl right-manual room;
@@ -53,9 +54,10 @@ failure-sheets =
       failure-of-second-plan = λ buffer room. accepts failureOfSecondPlan buyerB buffer 3 3 refl right-b room;
       two-failures = λ buffer room. accepts twoFailures buyerB buffer 3 3 refl right-b room;
       three-failures = λ buffer room. accepts threeFailures buyerB buffer 4 4 refl right-b room;
+      failure-behind-worse-one = λ buffer room. accepts failureBehindWorseOne buyerB buffer 3 3 refl right-b room;
       two-failures-in-different-classes = λ buffer room. accepts twoFailuresInDifferentClasses buyerB buffer 3 3 refl right-b room;
-      step-three-of-recorded-plan = λ buffer room. accepts stepThreeOfRecordedPlan buyerB buffer 6 6 refl right-b room;
-      no-unit-recoverable = λ buffer room. accepts noUnitRecoverable buyerB buffer 6 6 refl right-b room;
+      step-three-of-recorded-plan = λ buffer room. accepts stepThreeOfRecordedPlan buyerB buffer 7 7 refl right-b room;
+      no-unit-recoverable = λ buffer room. accepts noUnitRecoverable buyerB buffer 7 7 refl right-b room;
     }
 
 redesignation-sheets : RedesignationSheets
@@ -105,6 +107,7 @@ unfolding computing recordedPlan buyerA buyerB rawValueAtLimit rawValueAtLimitRe
     belowZeroResults overshootAboveTwoBytes overshootAboveTwoBytesResults prerequisites prerequisitesResults prerequisiteSubstandard
     prerequisiteSubstandardResults codeMetAgain codeMetAgainResults codeMetAgainLater codeMetAgainLaterResults codesAlikeInOneByte
     codesAlikeInOneByteResults noUnit noUnitResults noUnitButRecords noUnitButRecordsResults
+    codesAcrossBreakAndRedesignation codesAcrossBreakAndRedesignationResults
 unit-sheets =
     record {
       raw-value-at-limit = λ buffer room. accepts rawValueAtLimit buyerB buffer 2 2 refl right-b room;
@@ -115,6 +118,7 @@ unit-sheets =
       prerequisite-substandard = λ buffer room. accepts prerequisiteSubstandard buyerB buffer 3 3 refl right-b room;
       code-met-again = λ buffer room. accepts codeMetAgain buyerB buffer 3 3 refl right-b room;
       code-met-again-later = λ buffer room. accepts codeMetAgainLater buyerB buffer 4 4 refl right-b room;
+      codes-across-break-and-redesignation = λ buffer room. accepts codesAcrossBreakAndRedesignation buyerB buffer 7 4 refl right-b room;
       codes-alike-in-one-byte = λ buffer room. accepts codesAlikeInOneByte buyerB buffer 3 3 refl right-b room;
       no-unit = λ buffer room. accepts noUnit buyerB buffer 0 0 refl right-b room;
       no-unit-but-records = λ buffer room. accepts noUnitButRecords buyerB buffer 4 0 refl right-b room;
@@ -130,14 +134,20 @@ fewer-sheets =
     }
 
 refused-sheets : RefusedSheets
-unfolding computing recordedPlan buyerA buyerB ground1 ground5 ground6 ground7 ground8 ground11 ground11ByRecordedPlan bufferWithoutRoom
+unfolding computing recordedPlan buyerA buyerB ground1 ground2 ground3 ground4 ground5 ground6 ground7 ground8 ground9 ground10 ground11
+    ground11ByRecordedPlan bufferWithoutRoom
 refused-sheets =
     record {
       ground-1 = λ buffer. refl;
+      ground-2 = λ buffer. refl;
+      ground-3 = λ buffer. refl;
+      ground-4 = λ buffer. refl;
       ground-5 = λ buffer. refl;
       ground-6 = λ buffer. refl;
       ground-7 = λ buffer. refl;
       ground-8 = λ buffer. refl;
+      ground-9 = λ buffer. refl;
+      ground-10 = λ buffer. refl;
       ground-11 = λ buffer. refl;
       ground-11-by-recorded-plan = λ buffer. refl;
       buffer-without-room = λ buffer short. without-room bufferWithoutRoom buyerB buffer 4 2 refl right-b short;
@@ -155,9 +165,14 @@ wrong-plan-sheets =
       another-second-byte = λ buffer. refl;
       no-designated-plan = λ buffer. refl;
       limit-too-large = λ buffer. refl;
+      start-too-large = λ buffer. refl;
+      tolerance-too-large = λ buffer. refl;
       start-above-limit = λ buffer. refl;
+      start-above-limit-at-c = λ buffer. refl;
       smaller-tolerance = λ buffer. refl;
       smaller-sum = λ buffer. refl;
+      smaller-tolerance-at-c = λ buffer. refl;
+      smaller-sum-at-c = λ buffer. refl;
       no-unit-to-grade = λ buffer. refl;
     }
 

@@ -19,7 +19,7 @@ use Rattle.regrade_demands.specs.RegradeText.{RegradeText}
 use Rattle.regrade_demands.proofs.RegradeSheets.{regrade-sheets}
 
 two-failures-lines : (rest : List ℕ) → linesOf (twoFailuresBeforeRedesignationResults ++ rest) 4
-    ≡ ascii "1 1 C C f B 0.0 0.0 0.0 6.0\n2 2 C C f B 0.0 0.0 0.0 6.0\n3 3 B B m B 0.0 0.0 0.0 5.5\n4 4 B B m B 0.0 0.0 0.0 5.0\n"
+    ≡ ascii "1 1 C C f B 0.0 0.0 0.0 6.0\n2 2 C C f B 0.0 0.0 0.0 6.0\n3 3 B B m B 0.0 0.0 0.0 5.5\n4 2 B C m B 0.0 0.0 0.0 5.0\n"
 unfolding twoFailuresBeforeRedesignationResults digits decimal oneDecimal restOfLine lineWith linesBy lineOf
 two-failures-lines rest = refl
 

@@ -44,19 +44,19 @@ regradeGrounds bytes plan buffer =
       rows = rows;
       OpeningRow = PlanRow bytes;
       RecordRow = RecordRow bytes;
-      BufferRow = LastRow bytes plan buffer;
+      LastRow = LastRow bytes plan buffer;
       offset = offset bytes;
       end = length bytes;
     }
 
--- an answer with the place at which its ground is looked at for its offset: 18 is looked at behind the last record, and returned with 0
-abbrev pub inOrder : List ℕ → Answer → Answer
-inOrder bytes answer =
+-- an answer with the place where its ground is looked at for its offset: 18 is looked at behind the last record, and returned with 0
+abbrev pub whereLookedAt : List ℕ → Answer → Answer
+whereLookedAt bytes answer =
     record { number = answer .number; units = answer .units; offset = cond (eqb (answer .number) 18) (length bytes) (answer .offset) }
 
 pub record RegradeRefused (bytes plan buffer : List ℕ) (answer : Answer) : Type 0 where
   -- refused exactly if a ground applies, and then the first row met is returned, with its number and place
-  pub by-ground : RefusedByGround (regradeGrounds bytes plan buffer) (WholeSheet bytes) (inOrder bytes answer)
+  pub by-ground : RefusedByGround (regradeGrounds bytes plan buffer) (WholeSheet bytes) (whereLookedAt bytes answer)
   pub offset-of-18 : answer .number ≡ 18 → answer .offset ≡ 0
   -- number 14 never applies
   pub never-14 : answer .number ≡ 14 → ⊥

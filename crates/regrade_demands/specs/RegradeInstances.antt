@@ -85,10 +85,16 @@ pub record RegradeInstances : Type 0 where
       (anchorValue (numbersAgain twoFailuresBeforeRedesignation buyerB 3) true) (90 ∷ [])
       ≡ pos 55
   -- the pair: alike but for five minor defects of record 1. No unit is worse, behind the two failures in a row of the second and behind the
-  -- redesignation, too; at records 1 and 3 the first is better
+  -- redesignation, too; at records 1 and 3 the first is better, and so is its code behind the break
   pub no-worse : (buffer buffer' : List ℕ) → resultSize * 4 ≤ length buffer → resultSize * 4 ≤ length buffer' → (i : ℕ) → OneOfFour i
       → NoWorseInstance buffer buffer' i
   pub better-portion : (buffer buffer' : List ℕ)
       → recordedPortionGrade fiveMinorDefectsFewer (fewerLeft buffer) 1 < recordedPortionGrade twoFailuresBeforeRedesignation (moreLeft buffer') 1
   pub lower-cusum : (buffer buffer' : List ℕ)
       → recordedCusum fiveMinorDefectsFewer (fewerLeft buffer) 3 3 < recordedCusum twoFailuresBeforeRedesignation (moreLeft buffer') 3 3
+  pub smaller-overshoot : (buffer buffer' : List ℕ)
+      → recordedOvershoot fiveMinorDefectsFewer (fewerLeft buffer) 1 3 < recordedOvershoot twoFailuresBeforeRedesignation (moreLeft buffer') 1 3
+  pub better-code : (buffer buffer' : List ℕ)
+      → recordedCodeGrade fiveMinorDefectsFewer (fewerLeft buffer) 5 < recordedCodeGrade twoFailuresBeforeRedesignation (moreLeft buffer') 5
+  pub fails-only-in-second : (failsAgainAt (sheetAgain fiveMinorDefectsFewer buyerB) 3 1 ≡ false)
+      × (failsAgainAt (sheetAgain twoFailuresBeforeRedesignation buyerB) 3 1 ≡ true)

@@ -1,20 +1,22 @@
 -- Demand 2 for regradings: what an accepted one gets, unit by unit, said a second time by what stands in the bytes of the sheet and of the
--- second plan and by place, without the functions that grade. "Failed units stay in their order": each has its record at its own place,
--- and its CuSums go on.
+-- second plan and by place, without the functions that grade. "Failed units stay in their order", those that failed when they were recorded
+-- and those that fail now: each has its record at its own place, and its CuSums go on.
 use Prim.Native.Nat.{ℕ, suc, _+_, _<_, _≤_}
 use mathlib.Core.Path.{_≡_}
 use mathlib.Core.Bool.{false}
-use mathlib.Core.List.{List}
+use mathlib.Core.List.{List, [], _∷_, _++_}
+use mathlib.Core.Logic.{_↔_}
 use lib.ListN.{length}
 use Rattle.encoding.specs.Bytes.{byte}
 use Rattle.units.specs.Words.{substandard, classes, worse}
 use Rattle.outcome.specs.declared.Answer.{Answer}
 use Rattle.grounds.specs.Tells.{Tells}
+use Rattle.anchors.specs.Anchor.{tenthsFrom}
 use Rattle.tally.specs.Outcome.{recordsIn}
 use Rattle.tally.specs.Accepted.{UnitAt, recordedCusum, recordedOvershoot, recordedPortionGrade}
 use Rattle.answers.specs.Grounds.{startIn, toleranceIn, limitIn, IsRedesignation, IsBreak}
 use Rattle.courses.specs.Course.{tenTimesCount, prerequisite}
-use Rattle.courses.specs.Demand2.{recordedMark, recordedCode, recordedPlanGrade, recordedStanding, codeOf, WorstOfCode}
+use Rattle.courses.specs.Demand2.{recordedMark, recordedCode, recordedPlanGrade, recordedStanding, codeOf, WorstOfCode, SameRecords}
 use Rattle.regrade_demands.specs.RegradeAccepted.{RegradedAs, sheetAgain, designatedIn, numbersAgain, failsAgainAt}
 
 -- before record i the CuSum of each class; of the unit that is record i its CuSums, its overshoots and its defect grade. CuSums and
@@ -25,8 +27,8 @@ pub record RegradeCourse : Type 0 where
   pub overshoot : ℕ → ℕ → ℕ
   pub defectGrade : ℕ → ℕ
 
--- rule 2 in a class, by old CuSum + ten times the count, of which the raw value is what is left of T on: above L it fails and the CuSum becomes
--- L, below zero it becomes 0, otherwise it is the raw value; the overshoot is raw value less L, or zero where the class met
+-- rule 2 in a class, by old CuSum + ten times the count; the raw value is this less T. Above L the class fails and the CuSum becomes L, below
+-- zero it becomes 0, otherwise it is the raw value; the overshoot is raw value less L, or zero where the class met
 pub record RuleTwoBy (reached tolerance limit new over : ℕ) : Type 0 where
   pub fails : tolerance + limit < reached → new ≡ limit
   pub below : reached < tolerance → new ≡ 0
@@ -96,7 +98,11 @@ pub record RegradeRecorded (bytes plan results : List ℕ) (course : RegradeCour
   pub plan-grade : recordedPlanGrade bytes results i ≡ designatedIn plan
   pub cusums : (class : ℕ) → class < length classes → recordedCusum bytes results i class ≡ course .newCusum i class
   pub overshoots : (class : ℕ) → class < length classes → recordedOvershoot bytes results i class ≡ course .overshoot i class
-  -- rule 4, "prerequisites count as before": no portion is recovered
+  -- a class fails exactly if its overshoot is above zero
+  pub overshoot-tells : (class : ℕ) → class < length classes → ClassFailsAgain bytes plan course i class ↔ (0 < recordedOvershoot bytes results i class)
+  -- and no class is over by more than its own defects at this unit
+  pub overshoot-at-most : (class : ℕ) → class < length classes → recordedOvershoot bytes results i class ≤ tenTimesCount bytes i class
+  -- rule 4, "Prerequisites and codes count as before": no portion is recovered
   pub portion : recordedPortionGrade bytes results i ≡ worse (course .defectGrade i) (prerequisite bytes i)
   -- "standing is 0 or 1": met, failed
   pub standing-met : (UnitFailsAgain bytes plan course i → ⊥) → recordedStanding bytes results i ≡ 0
@@ -117,9 +123,9 @@ pub record RegradedByRules (bytes plan results : List ℕ) : Type 0 where
       → course .cusum i class ≡ other .cusum i class
   pub only-course : (other : RegradeCourse) → RegradeRules bytes plan other → (i : ℕ) → UnitAt bytes i → SameAgainAt course other i
   pub recorded : (i : ℕ) → UnitAt bytes i → RegradeRecorded bytes plan results course i
-  -- "codes count as before": the worst portion grade among all units of the sheet with that code
+  -- "Prerequisites and codes count as before": the worst portion grade among all units of the sheet with that code
   pub code-grades : (i : ℕ) → UnitAt bytes i → WorstOfCode bytes results i
-  -- words of demand 3 mean what the course says and what the bytes say: a class fails; S, T and L
+  -- words of demand 3 mean what the course says and what the bytes say: a class fails; S, T and L; the counts of a class; records and units
   pub class-fails : (i class : ℕ) → UnitAt bytes i → class < length classes
       → Tells (failsAgainAt (sheetAgain bytes plan) class i) (ClassFailsAgain bytes plan course i class)
   pub only-units-fail : (i class : ℕ) → (UnitAt bytes i → ⊥) → failsAgainAt (sheetAgain bytes plan) class i ≡ false
@@ -128,6 +134,15 @@ pub record RegradedByRules (bytes plan results : List ℕ) : Type 0 where
       (numbers .start ≡ startIn plan (designatedIn plan) class)
       × (numbers .tolerance ≡ toleranceIn plan (designatedIn plan) class)
       × (numbers .limit ≡ limitIn plan (designatedIn plan) class)
+  -- the counts of a class from a record on: none of no record, and one for each further record that is a unit
+  pub tenths-of-none : (class from : ℕ) → tenthsFrom (sheetAgain bytes plan) class from 0 ≡ []
+  pub tenths-go-on : (class from records : ℕ) →
+      let tenths = tenthsFrom (sheetAgain bytes plan) class in
+      tenths from (suc records) ≡ tenths from records ++ tenths (from + records) 1
+  pub tenths-of-unit : (i class : ℕ) → UnitAt bytes i → tenthsFrom (sheetAgain bytes plan) class i 1 ≡ tenTimesCount bytes i class ∷ []
+  pub tenths-of-other : (i class : ℕ) → (UnitAt bytes i → ⊥) → tenthsFrom (sheetAgain bytes plan) class i 1 ≡ []
+  -- which records the sheet has, and which of them are units
+  pub same-records : SameRecords bytes
 
 -- for every accepted regrading
 abbrev pub RegradeGraded : Type 0

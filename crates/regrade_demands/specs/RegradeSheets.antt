@@ -217,6 +217,25 @@ threeFailuresResults =
     ∷ 0 ∷ 0 ∷ 0 ∷ 0 ∷ 0 ∷ 0 ∷ 0 ∷ 0 ∷ 0 ∷ 0 ∷ 0 ∷ 0 ∷ 0 ∷ 0 ∷ 0 ∷ 0
     ∷ []
 
+-- Unit 1 is Substandard, and unit 2 grades C by its own counts.
+unfoldable pub failureBehindWorseOne : List ℕ
+failureBehindWorseOne =
+    recordedPlan
+    ++ (0x53 ∷ 0x55 ∷ 0 ∷ 1 ∷ 0 ∷ 0 ∷ 0 ∷ 0 ∷ 0 ∷ 0 ∷ 0 ∷ 24 ∷ 0 ∷ 1  -- 1: 0,0,0,24;A;1
+    ∷ 0x53 ∷ 0x55 ∷ 0 ∷ 2 ∷ 0 ∷ 0 ∷ 0 ∷ 0 ∷ 0 ∷ 0 ∷ 0 ∷ 14 ∷ 0 ∷ 1  -- 2: 0,0,0,14;A;1
+    ∷ 0x53 ∷ 0x55 ∷ 0 ∷ 3 ∷ 0 ∷ 0 ∷ 0 ∷ 0 ∷ 0 ∷ 0 ∷ 0 ∷ 9 ∷ 0 ∷ 1  -- 3: 0,0,0,9;A;1
+    ∷ [])
+
+unfoldable pub failureBehindWorseOneResults : List ℕ
+failureBehindWorseOneResults =
+    0x47 ∷ 0x52 ∷ 0 ∷ 1 ∷ 3 ∷ 3 ∷ 1 ∷ 1 ∷ 0 ∷ 0 ∷ 0 ∷ 0 ∷ 0 ∷ 0 ∷ 0 ∷ 60  -- 1 1 S S f B 0.0 0.0 0.0 6.0
+    ∷ 0 ∷ 0 ∷ 0 ∷ 0 ∷ 0 ∷ 0 ∷ 0 ∷ 0 ∷ 0 ∷ 0 ∷ 0 ∷ 0 ∷ 0 ∷ 0 ∷ 0 ∷ 110
+    ∷ 0x47 ∷ 0x52 ∷ 0 ∷ 2 ∷ 2 ∷ 2 ∷ 1 ∷ 1 ∷ 0 ∷ 0 ∷ 0 ∷ 0 ∷ 0 ∷ 0 ∷ 0 ∷ 60  -- 2 2 C C f B 0.0 0.0 0.0 6.0
+    ∷ 0 ∷ 0 ∷ 0 ∷ 0 ∷ 0 ∷ 0 ∷ 0 ∷ 0 ∷ 0 ∷ 0 ∷ 0 ∷ 0 ∷ 0 ∷ 0 ∷ 0 ∷ 45
+    ∷ 0x47 ∷ 0x52 ∷ 0 ∷ 3 ∷ 1 ∷ 1 ∷ 1 ∷ 0 ∷ 0 ∷ 0 ∷ 0 ∷ 0 ∷ 0 ∷ 0 ∷ 0 ∷ 55  -- 3 3 B B m B 0.0 0.0 0.0 5.5
+    ∷ 0 ∷ 0 ∷ 0 ∷ 0 ∷ 0 ∷ 0 ∷ 0 ∷ 0 ∷ 0 ∷ 0 ∷ 0 ∷ 0 ∷ 0 ∷ 0 ∷ 0 ∷ 0
+    ∷ []
+
 -- Severe, 0.8+5-2.5 being above 2.5, then critical, 0+2-0.8 being above 0.9.
 unfoldable pub twoFailuresInDifferentClasses : List ℕ
 twoFailuresInDifferentClasses =
@@ -238,7 +257,7 @@ twoFailuresInDifferentClassesResults =
 
 -- When it was recorded, units 1 and 2 began step 3, units 3 to 5 ended it and were recovered.
 -- Here all are graded one after the other, and nothing is recovered, though under the second plan
--- units 1 and 2 fail as well and units 3 to 5 are within its T: 2.5 and then 0, and not 3+6-14.
+-- units 1 and 2 fail as well, units 3 to 6 are within its T, and units 4 to 6 are at 0.
 unfoldable pub stepThreeOfRecordedPlan : List ℕ
 stepThreeOfRecordedPlan =
     recordedPlan
@@ -247,7 +266,8 @@ stepThreeOfRecordedPlan =
     ∷ 0x53 ∷ 0x55 ∷ 0 ∷ 3 ∷ 0 ∷ 0 ∷ 0 ∷ 0 ∷ 0 ∷ 0 ∷ 0 ∷ 6 ∷ 0 ∷ 1  -- 3: 0,0,0,6;A;1
     ∷ 0x53 ∷ 0x55 ∷ 0 ∷ 4 ∷ 0 ∷ 0 ∷ 0 ∷ 0 ∷ 0 ∷ 0 ∷ 0 ∷ 6 ∷ 0 ∷ 1  -- 4: 0,0,0,6;A;1
     ∷ 0x53 ∷ 0x55 ∷ 0 ∷ 5 ∷ 0 ∷ 0 ∷ 0 ∷ 0 ∷ 0 ∷ 0 ∷ 0 ∷ 6 ∷ 0 ∷ 1  -- 5: 0,0,0,6;A;1
-    ∷ 0x53 ∷ 0x55 ∷ 0 ∷ 6 ∷ 0 ∷ 0 ∷ 0 ∷ 0 ∷ 0 ∷ 0 ∷ 0 ∷ 10 ∷ 0 ∷ 1  -- 6: 0,0,0,10;A;1
+    ∷ 0x53 ∷ 0x55 ∷ 0 ∷ 6 ∷ 0 ∷ 0 ∷ 0 ∷ 0 ∷ 0 ∷ 0 ∷ 0 ∷ 6 ∷ 0 ∷ 1  -- 6: 0,0,0,6;A;1
+    ∷ 0x53 ∷ 0x55 ∷ 0 ∷ 7 ∷ 0 ∷ 0 ∷ 0 ∷ 0 ∷ 0 ∷ 0 ∷ 0 ∷ 10 ∷ 0 ∷ 1  -- 7: 0,0,0,10;A;1
     ∷ [])
 
 unfoldable pub stepThreeOfRecordedPlanResults : List ℕ
@@ -262,7 +282,9 @@ stepThreeOfRecordedPlanResults =
     ∷ 0 ∷ 0 ∷ 0 ∷ 0 ∷ 0 ∷ 0 ∷ 0 ∷ 0 ∷ 0 ∷ 0 ∷ 0 ∷ 0 ∷ 0 ∷ 0 ∷ 0 ∷ 0
     ∷ 0x47 ∷ 0x52 ∷ 0 ∷ 5 ∷ 1 ∷ 1 ∷ 1 ∷ 0 ∷ 0 ∷ 0 ∷ 0 ∷ 0 ∷ 0 ∷ 0 ∷ 0 ∷ 0  -- 5 5 B B m B 0.0 0.0 0.0 0.0
     ∷ 0 ∷ 0 ∷ 0 ∷ 0 ∷ 0 ∷ 0 ∷ 0 ∷ 0 ∷ 0 ∷ 0 ∷ 0 ∷ 0 ∷ 0 ∷ 0 ∷ 0 ∷ 0
-    ∷ 0x47 ∷ 0x52 ∷ 0 ∷ 6 ∷ 1 ∷ 1 ∷ 1 ∷ 0 ∷ 0 ∷ 0 ∷ 0 ∷ 0 ∷ 0 ∷ 0 ∷ 0 ∷ 5  -- 6 6 B B m B 0.0 0.0 0.0 0.5
+    ∷ 0x47 ∷ 0x52 ∷ 0 ∷ 6 ∷ 1 ∷ 1 ∷ 1 ∷ 0 ∷ 0 ∷ 0 ∷ 0 ∷ 0 ∷ 0 ∷ 0 ∷ 0 ∷ 0  -- 6 6 B B m B 0.0 0.0 0.0 0.0
+    ∷ 0 ∷ 0 ∷ 0 ∷ 0 ∷ 0 ∷ 0 ∷ 0 ∷ 0 ∷ 0 ∷ 0 ∷ 0 ∷ 0 ∷ 0 ∷ 0 ∷ 0 ∷ 0
+    ∷ 0x47 ∷ 0x52 ∷ 0 ∷ 7 ∷ 1 ∷ 1 ∷ 1 ∷ 0 ∷ 0 ∷ 0 ∷ 0 ∷ 0 ∷ 0 ∷ 0 ∷ 0 ∷ 5  -- 7 7 B B m B 0.0 0.0 0.0 0.5
     ∷ 0 ∷ 0 ∷ 0 ∷ 0 ∷ 0 ∷ 0 ∷ 0 ∷ 0 ∷ 0 ∷ 0 ∷ 0 ∷ 0 ∷ 0 ∷ 0 ∷ 0 ∷ 0
     ∷ []
 
@@ -275,7 +297,8 @@ noUnitRecoverable =
     ∷ 0x53 ∷ 0x55 ∷ 0 ∷ 3 ∷ 0 ∷ 0 ∷ 0 ∷ 0 ∷ 0 ∷ 0 ∷ 0 ∷ 6 ∷ 0 ∷ 0  -- 3: 0,0,0,6;A;0
     ∷ 0x53 ∷ 0x55 ∷ 0 ∷ 4 ∷ 0 ∷ 0 ∷ 0 ∷ 0 ∷ 0 ∷ 0 ∷ 0 ∷ 6 ∷ 0 ∷ 0  -- 4: 0,0,0,6;A;0
     ∷ 0x53 ∷ 0x55 ∷ 0 ∷ 5 ∷ 0 ∷ 0 ∷ 0 ∷ 0 ∷ 0 ∷ 0 ∷ 0 ∷ 6 ∷ 0 ∷ 0  -- 5: 0,0,0,6;A;0
-    ∷ 0x53 ∷ 0x55 ∷ 0 ∷ 6 ∷ 0 ∷ 0 ∷ 0 ∷ 0 ∷ 0 ∷ 0 ∷ 0 ∷ 10 ∷ 0 ∷ 0  -- 6: 0,0,0,10;A;0
+    ∷ 0x53 ∷ 0x55 ∷ 0 ∷ 6 ∷ 0 ∷ 0 ∷ 0 ∷ 0 ∷ 0 ∷ 0 ∷ 0 ∷ 6 ∷ 0 ∷ 0  -- 6: 0,0,0,6;A;0
+    ∷ 0x53 ∷ 0x55 ∷ 0 ∷ 7 ∷ 0 ∷ 0 ∷ 0 ∷ 0 ∷ 0 ∷ 0 ∷ 0 ∷ 10 ∷ 0 ∷ 0  -- 7: 0,0,0,10;A;0
     ∷ [])
 
 unfoldable pub noUnitRecoverableResults : List ℕ
@@ -290,7 +313,9 @@ noUnitRecoverableResults =
     ∷ 0 ∷ 0 ∷ 0 ∷ 0 ∷ 0 ∷ 0 ∷ 0 ∷ 0 ∷ 0 ∷ 0 ∷ 0 ∷ 0 ∷ 0 ∷ 0 ∷ 0 ∷ 0
     ∷ 0x47 ∷ 0x52 ∷ 0 ∷ 5 ∷ 1 ∷ 1 ∷ 1 ∷ 0 ∷ 0 ∷ 0 ∷ 0 ∷ 0 ∷ 0 ∷ 0 ∷ 0 ∷ 0  -- 5 5 B B m B 0.0 0.0 0.0 0.0
     ∷ 0 ∷ 0 ∷ 0 ∷ 0 ∷ 0 ∷ 0 ∷ 0 ∷ 0 ∷ 0 ∷ 0 ∷ 0 ∷ 0 ∷ 0 ∷ 0 ∷ 0 ∷ 0
-    ∷ 0x47 ∷ 0x52 ∷ 0 ∷ 6 ∷ 1 ∷ 1 ∷ 1 ∷ 0 ∷ 0 ∷ 0 ∷ 0 ∷ 0 ∷ 0 ∷ 0 ∷ 0 ∷ 5  -- 6 6 B B m B 0.0 0.0 0.0 0.5
+    ∷ 0x47 ∷ 0x52 ∷ 0 ∷ 6 ∷ 1 ∷ 1 ∷ 1 ∷ 0 ∷ 0 ∷ 0 ∷ 0 ∷ 0 ∷ 0 ∷ 0 ∷ 0 ∷ 0  -- 6 6 B B m B 0.0 0.0 0.0 0.0
+    ∷ 0 ∷ 0 ∷ 0 ∷ 0 ∷ 0 ∷ 0 ∷ 0 ∷ 0 ∷ 0 ∷ 0 ∷ 0 ∷ 0 ∷ 0 ∷ 0 ∷ 0 ∷ 0
+    ∷ 0x47 ∷ 0x52 ∷ 0 ∷ 7 ∷ 1 ∷ 1 ∷ 1 ∷ 0 ∷ 0 ∷ 0 ∷ 0 ∷ 0 ∷ 0 ∷ 0 ∷ 0 ∷ 5  -- 7 7 B B m B 0.0 0.0 0.0 0.5
     ∷ 0 ∷ 0 ∷ 0 ∷ 0 ∷ 0 ∷ 0 ∷ 0 ∷ 0 ∷ 0 ∷ 0 ∷ 0 ∷ 0 ∷ 0 ∷ 0 ∷ 0 ∷ 0
     ∷ []
 
@@ -300,9 +325,10 @@ pub record FailureSheets : Type 0 where
   pub failure-of-second-plan : Graded buyerB failureOfSecondPlan 3 117 failureOfSecondPlanResults
   pub two-failures : Graded buyerB twoFailures 3 117 twoFailuresResults
   pub three-failures : Graded buyerB threeFailures 4 131 threeFailuresResults
+  pub failure-behind-worse-one : Graded buyerB failureBehindWorseOne 3 117 failureBehindWorseOneResults
   pub two-failures-in-different-classes : Graded buyerB twoFailuresInDifferentClasses 3 117 twoFailuresInDifferentClassesResults
-  pub step-three-of-recorded-plan : Graded buyerB stepThreeOfRecordedPlan 6 159 stepThreeOfRecordedPlanResults
-  pub no-unit-recoverable : Graded buyerB noUnitRecoverable 6 159 noUnitRecoverableResults
+  pub step-three-of-recorded-plan : Graded buyerB stepThreeOfRecordedPlan 7 173 stepThreeOfRecordedPlanResults
+  pub no-unit-recoverable : Graded buyerB noUnitRecoverable 7 173 noUnitRecoverableResults
 
 -- ---- redesignations are passed over
 
@@ -853,6 +879,32 @@ codeMetAgainLaterResults =
     ∷ 0 ∷ 0 ∷ 0 ∷ 0 ∷ 0 ∷ 0 ∷ 0 ∷ 0 ∷ 0 ∷ 0 ∷ 0 ∷ 0 ∷ 0 ∷ 0 ∷ 0 ∷ 0
     ∷ []
 
+-- Code 1 is worse behind the break, code 2 behind the break and a redesignation; another
+-- redesignation is the last record.
+unfoldable pub codesAcrossBreakAndRedesignation : List ℕ
+codesAcrossBreakAndRedesignation =
+    recordedPlan
+    ++ (0x53 ∷ 0x55 ∷ 0 ∷ 1 ∷ 0 ∷ 0 ∷ 0 ∷ 0 ∷ 0 ∷ 0 ∷ 0 ∷ 9 ∷ 0 ∷ 1  -- 1: 0,0,0,9;A;1
+    ∷ 0x53 ∷ 0x55 ∷ 0 ∷ 2 ∷ 0 ∷ 0 ∷ 0 ∷ 0 ∷ 0 ∷ 0 ∷ 0 ∷ 9 ∷ 0 ∷ 1  -- 2: 0,0,0,9;A;1
+    ∷ 0x42 ∷ 0x4B  -- break
+    ∷ 0x53 ∷ 0x55 ∷ 0 ∷ 1 ∷ 0 ∷ 0 ∷ 0 ∷ 0 ∷ 0 ∷ 0 ∷ 0 ∷ 14 ∷ 0 ∷ 1  -- 1: 0,0,0,14;A;1
+    ∷ 0x52 ∷ 0x44 ∷ 2  -- redesignation to C
+    ∷ 0x53 ∷ 0x55 ∷ 0 ∷ 2 ∷ 0 ∷ 0 ∷ 0 ∷ 0 ∷ 0 ∷ 0 ∷ 0 ∷ 14 ∷ 0 ∷ 1  -- 2: 0,0,0,14;A;1
+    ∷ 0x52 ∷ 0x44 ∷ 0  -- redesignation to A
+    ∷ [])
+
+unfoldable pub codesAcrossBreakAndRedesignationResults : List ℕ
+codesAcrossBreakAndRedesignationResults =
+    0x47 ∷ 0x52 ∷ 0 ∷ 1 ∷ 1 ∷ 2 ∷ 1 ∷ 0 ∷ 0 ∷ 0 ∷ 0 ∷ 0 ∷ 0 ∷ 0 ∷ 0 ∷ 20  -- 1 1 B C m B 0.0 0.0 0.0 2.0
+    ∷ 0 ∷ 0 ∷ 0 ∷ 0 ∷ 0 ∷ 0 ∷ 0 ∷ 0 ∷ 0 ∷ 0 ∷ 0 ∷ 0 ∷ 0 ∷ 0 ∷ 0 ∷ 0
+    ∷ 0x47 ∷ 0x52 ∷ 0 ∷ 2 ∷ 1 ∷ 2 ∷ 1 ∷ 0 ∷ 0 ∷ 0 ∷ 0 ∷ 0 ∷ 0 ∷ 0 ∷ 0 ∷ 15  -- 2 2 B C m B 0.0 0.0 0.0 1.5
+    ∷ 0 ∷ 0 ∷ 0 ∷ 0 ∷ 0 ∷ 0 ∷ 0 ∷ 0 ∷ 0 ∷ 0 ∷ 0 ∷ 0 ∷ 0 ∷ 0 ∷ 0 ∷ 0
+    ∷ 0x47 ∷ 0x52 ∷ 0 ∷ 1 ∷ 2 ∷ 2 ∷ 1 ∷ 1 ∷ 0 ∷ 0 ∷ 0 ∷ 0 ∷ 0 ∷ 0 ∷ 0 ∷ 60  -- 3 1 C C f B 0.0 0.0 0.0 6.0
+    ∷ 0 ∷ 0 ∷ 0 ∷ 0 ∷ 0 ∷ 0 ∷ 0 ∷ 0 ∷ 0 ∷ 0 ∷ 0 ∷ 0 ∷ 0 ∷ 0 ∷ 0 ∷ 10
+    ∷ 0x47 ∷ 0x52 ∷ 0 ∷ 2 ∷ 2 ∷ 2 ∷ 1 ∷ 1 ∷ 0 ∷ 0 ∷ 0 ∷ 0 ∷ 0 ∷ 0 ∷ 0 ∷ 60  -- 4 2 C C f B 0.0 0.0 0.0 6.0
+    ∷ 0 ∷ 0 ∷ 0 ∷ 0 ∷ 0 ∷ 0 ∷ 0 ∷ 0 ∷ 0 ∷ 0 ∷ 0 ∷ 0 ∷ 0 ∷ 0 ∷ 0 ∷ 45
+    ∷ []
+
 -- 01 07, 00 07 and 01 00 are three codes.
 unfoldable pub codesAlikeInOneByte : List ℕ
 codesAlikeInOneByte =
@@ -901,13 +953,15 @@ pub record UnitSheets : Type 0 where
   pub prerequisite-substandard : Graded buyerB prerequisiteSubstandard 3 117 prerequisiteSubstandardResults
   pub code-met-again : Graded buyerB codeMetAgain 3 117 codeMetAgainResults
   pub code-met-again-later : Graded buyerB codeMetAgainLater 4 131 codeMetAgainLaterResults
+  pub codes-across-break-and-redesignation : Graded buyerB codesAcrossBreakAndRedesignation 4 139 codesAcrossBreakAndRedesignationResults
   pub codes-alike-in-one-byte : Graded buyerB codesAlikeInOneByte 3 117 codesAlikeInOneByteResults
   pub no-unit : Graded buyerB noUnit 0 75 noUnitResults
   pub no-unit-but-records : Graded buyerB noUnitButRecords 0 85 noUnitButRecordsResults
 
 -- ---- a pair, alike but for defects, with two failures in a row and a redesignation
 
--- Unit 2 fails by 4.5, from L, and unit 3 goes on from L behind the redesignation.
+-- Unit 2 fails by 4.5, from L, and unit 3 goes on from L behind the redesignation. Units 2 and 4 have
+-- one code.
 unfoldable pub twoFailuresBeforeRedesignation : List ℕ
 twoFailuresBeforeRedesignation =
     recordedPlan
@@ -916,7 +970,7 @@ twoFailuresBeforeRedesignation =
     ∷ 0x52 ∷ 0x44 ∷ 2  -- redesignation to C
     ∷ 0x53 ∷ 0x55 ∷ 0 ∷ 3 ∷ 0 ∷ 0 ∷ 0 ∷ 0 ∷ 0 ∷ 0 ∷ 0 ∷ 9 ∷ 0 ∷ 1  -- 3: 0,0,0,9;A;1
     ∷ 0x42 ∷ 0x4B  -- break
-    ∷ 0x53 ∷ 0x55 ∷ 0 ∷ 4 ∷ 0 ∷ 0 ∷ 0 ∷ 0 ∷ 0 ∷ 0 ∷ 0 ∷ 12 ∷ 0 ∷ 1  -- 4: 0,0,0,12;A;1
+    ∷ 0x53 ∷ 0x55 ∷ 0 ∷ 2 ∷ 0 ∷ 0 ∷ 0 ∷ 0 ∷ 0 ∷ 0 ∷ 0 ∷ 12 ∷ 0 ∷ 1  -- 2: 0,0,0,12;A;1
     ∷ [])
 
 unfoldable pub twoFailuresBeforeRedesignationResults : List ℕ
@@ -927,11 +981,12 @@ twoFailuresBeforeRedesignationResults =
     ∷ 0 ∷ 0 ∷ 0 ∷ 0 ∷ 0 ∷ 0 ∷ 0 ∷ 0 ∷ 0 ∷ 0 ∷ 0 ∷ 0 ∷ 0 ∷ 0 ∷ 0 ∷ 45
     ∷ 0x47 ∷ 0x52 ∷ 0 ∷ 3 ∷ 1 ∷ 1 ∷ 1 ∷ 0 ∷ 0 ∷ 0 ∷ 0 ∷ 0 ∷ 0 ∷ 0 ∷ 0 ∷ 55  -- 3 3 B B m B 0.0 0.0 0.0 5.5
     ∷ 0 ∷ 0 ∷ 0 ∷ 0 ∷ 0 ∷ 0 ∷ 0 ∷ 0 ∷ 0 ∷ 0 ∷ 0 ∷ 0 ∷ 0 ∷ 0 ∷ 0 ∷ 0
-    ∷ 0x47 ∷ 0x52 ∷ 0 ∷ 4 ∷ 1 ∷ 1 ∷ 1 ∷ 0 ∷ 0 ∷ 0 ∷ 0 ∷ 0 ∷ 0 ∷ 0 ∷ 0 ∷ 50  -- 4 4 B B m B 0.0 0.0 0.0 5.0
+    ∷ 0x47 ∷ 0x52 ∷ 0 ∷ 2 ∷ 1 ∷ 2 ∷ 1 ∷ 0 ∷ 0 ∷ 0 ∷ 0 ∷ 0 ∷ 0 ∷ 0 ∷ 0 ∷ 50  -- 4 2 B C m B 0.0 0.0 0.0 5.0
     ∷ 0 ∷ 0 ∷ 0 ∷ 0 ∷ 0 ∷ 0 ∷ 0 ∷ 0 ∷ 0 ∷ 0 ∷ 0 ∷ 0 ∷ 0 ∷ 0 ∷ 0 ∷ 0
     ∷ []
 
--- The same but for unit 2, which meets at 5.5; so unit 3 comes to 5. Behind the break they are alike.
+-- The same but for unit 2, which meets at 5.5; so unit 3 comes to 5. Behind the break the CuSums are
+-- alike, the code is better.
 unfoldable pub fiveMinorDefectsFewer : List ℕ
 fiveMinorDefectsFewer =
     recordedPlan
@@ -940,7 +995,7 @@ fiveMinorDefectsFewer =
     ∷ 0x52 ∷ 0x44 ∷ 2  -- redesignation to C
     ∷ 0x53 ∷ 0x55 ∷ 0 ∷ 3 ∷ 0 ∷ 0 ∷ 0 ∷ 0 ∷ 0 ∷ 0 ∷ 0 ∷ 9 ∷ 0 ∷ 1  -- 3: 0,0,0,9;A;1
     ∷ 0x42 ∷ 0x4B  -- break
-    ∷ 0x53 ∷ 0x55 ∷ 0 ∷ 4 ∷ 0 ∷ 0 ∷ 0 ∷ 0 ∷ 0 ∷ 0 ∷ 0 ∷ 12 ∷ 0 ∷ 1  -- 4: 0,0,0,12;A;1
+    ∷ 0x53 ∷ 0x55 ∷ 0 ∷ 2 ∷ 0 ∷ 0 ∷ 0 ∷ 0 ∷ 0 ∷ 0 ∷ 0 ∷ 12 ∷ 0 ∷ 1  -- 2: 0,0,0,12;A;1
     ∷ [])
 
 unfoldable pub fiveMinorDefectsFewerResults : List ℕ
@@ -951,7 +1006,7 @@ fiveMinorDefectsFewerResults =
     ∷ 0 ∷ 0 ∷ 0 ∷ 0 ∷ 0 ∷ 0 ∷ 0 ∷ 0 ∷ 0 ∷ 0 ∷ 0 ∷ 0 ∷ 0 ∷ 0 ∷ 0 ∷ 0
     ∷ 0x47 ∷ 0x52 ∷ 0 ∷ 3 ∷ 1 ∷ 1 ∷ 1 ∷ 0 ∷ 0 ∷ 0 ∷ 0 ∷ 0 ∷ 0 ∷ 0 ∷ 0 ∷ 50  -- 3 3 B B m B 0.0 0.0 0.0 5.0
     ∷ 0 ∷ 0 ∷ 0 ∷ 0 ∷ 0 ∷ 0 ∷ 0 ∷ 0 ∷ 0 ∷ 0 ∷ 0 ∷ 0 ∷ 0 ∷ 0 ∷ 0 ∷ 0
-    ∷ 0x47 ∷ 0x52 ∷ 0 ∷ 4 ∷ 1 ∷ 1 ∷ 1 ∷ 0 ∷ 0 ∷ 0 ∷ 0 ∷ 0 ∷ 0 ∷ 0 ∷ 0 ∷ 50  -- 4 4 B B m B 0.0 0.0 0.0 5.0
+    ∷ 0x47 ∷ 0x52 ∷ 0 ∷ 2 ∷ 1 ∷ 1 ∷ 1 ∷ 0 ∷ 0 ∷ 0 ∷ 0 ∷ 0 ∷ 0 ∷ 0 ∷ 0 ∷ 50  -- 4 2 B B m B 0.0 0.0 0.0 5.0
     ∷ 0 ∷ 0 ∷ 0 ∷ 0 ∷ 0 ∷ 0 ∷ 0 ∷ 0 ∷ 0 ∷ 0 ∷ 0 ∷ 0 ∷ 0 ∷ 0 ∷ 0 ∷ 0
     ∷ []
 
@@ -965,6 +1020,27 @@ pub record FewerSheets : Type 0 where
 unfoldable pub ground1 : List ℕ
 ground1 =
     set recordedPlan 1 0x4D
+    ++ (0x53 ∷ 0x55 ∷ 0 ∷ 1 ∷ 0 ∷ 0 ∷ 0 ∷ 0 ∷ 0 ∷ 0 ∷ 0 ∷ 9 ∷ 0 ∷ 1  -- 1: 0,0,0,9;A;1
+    ∷ [])
+
+-- 2 and 18: designated Substandard.
+unfoldable pub ground2 : List ℕ
+ground2 =
+    set recordedPlan 2 3
+    ++ (0x53 ∷ 0x55 ∷ 0 ∷ 1 ∷ 0 ∷ 0 ∷ 0 ∷ 0 ∷ 0 ∷ 0 ∷ 0 ∷ 9 ∷ 0 ∷ 1  -- 1: 0,0,0,9;A;1
+    ∷ [])
+
+-- 3 and 18: the L of total at C of the sheet's own plan is 1,000.0.
+unfoldable pub ground3 : List ℕ
+ground3 =
+    set (set recordedPlan 73 39) 74 16
+    ++ (0x53 ∷ 0x55 ∷ 0 ∷ 1 ∷ 0 ∷ 0 ∷ 0 ∷ 0 ∷ 0 ∷ 0 ∷ 0 ∷ 9 ∷ 0 ∷ 1  -- 1: 0,0,0,9;A;1
+    ∷ [])
+
+-- 4 and 18: the S of critical at A of the sheet's own plan is 0.6, and L 0.5.
+unfoldable pub ground4 : List ℕ
+ground4 =
+    set recordedPlan 4 6
     ++ (0x53 ∷ 0x55 ∷ 0 ∷ 1 ∷ 0 ∷ 0 ∷ 0 ∷ 0 ∷ 0 ∷ 0 ∷ 0 ∷ 9 ∷ 0 ∷ 1  -- 1: 0,0,0,9;A;1
     ∷ [])
 
@@ -1000,6 +1076,22 @@ ground8 =
     ∷ 0x53 ∷ 0x55 ∷ 0 ∷ 2 ∷ 0 ∷ 0 ∷ 7 ∷ 209 ∷ 0 ∷ 0 ∷ 0 ∷ 0 ∷ 0 ∷ 1  -- 2: 0,2001,0,0;A;1
     ∷ [])
 
+-- 9 and 18: a prerequisite grade of 4.
+unfoldable pub ground9 : List ℕ
+ground9 =
+    recordedPlan
+    ++ (0x53 ∷ 0x55 ∷ 0 ∷ 1 ∷ 0 ∷ 0 ∷ 0 ∷ 0 ∷ 0 ∷ 0 ∷ 0 ∷ 9 ∷ 0 ∷ 1  -- 1: 0,0,0,9;A;1
+    ∷ 0x53 ∷ 0x55 ∷ 0 ∷ 2 ∷ 0 ∷ 0 ∷ 0 ∷ 0 ∷ 0 ∷ 0 ∷ 0 ∷ 9 ∷ 4 ∷ 1  -- 2: 0,0,0,9, prerequisite grade 4
+    ∷ [])
+
+-- 10 and 18: a redesignation to Substandard.
+unfoldable pub ground10 : List ℕ
+ground10 =
+    recordedPlan
+    ++ (0x53 ∷ 0x55 ∷ 0 ∷ 1 ∷ 0 ∷ 0 ∷ 0 ∷ 0 ∷ 0 ∷ 0 ∷ 0 ∷ 9 ∷ 0 ∷ 1  -- 1: 0,0,0,9;A;1
+    ∷ 0x52 ∷ 0x44 ∷ 3  -- redesignation to S
+    ∷ [])
+
 -- 11 and 18: by the sheet's own designations, A of its plan and then B.
 unfoldable pub ground11 : List ℕ
 ground11 =
@@ -1029,10 +1121,15 @@ bufferWithoutRoom =
 
 pub record RefusedSheets : Type 0 where
   pub ground-1 : RefusedWith (take 74 buyerB) 1 ground1 0
+  pub ground-2 : RefusedWith (take 74 buyerB) 2 ground2 0
+  pub ground-3 : RefusedWith (take 74 buyerB) 3 ground3 0
+  pub ground-4 : RefusedWith (take 74 buyerB) 4 ground4 0
   pub ground-5 : RefusedWith (take 74 buyerB) 5 ground5 0
   pub ground-6 : RefusedWith (take 74 buyerB) 6 ground6 89
   pub ground-7 : RefusedWith (take 74 buyerB) 7 ground7 89
   pub ground-8 : RefusedWith (take 74 buyerB) 8 ground8 91
+  pub ground-9 : RefusedWith (take 74 buyerB) 9 ground9 89
+  pub ground-10 : RefusedWith (take 74 buyerB) 10 ground10 89
   pub ground-11 : RefusedWith (take 74 buyerB) 11 ground11 92
   pub ground-11-by-recorded-plan : RefusedWith buyerB 11 ground11ByRecordedPlan 75
   pub buffer-without-room : WithoutRoom buyerB 13 bufferWithoutRoom 2 108
@@ -1056,12 +1153,22 @@ pub record WrongPlanSheets : Type 0 where
   pub no-designated-plan : RefusedWith (set buyerB 2 3) 18 failureOfSecondPlan 0
   -- 3: the L of total at C is 1,000.0
   pub limit-too-large : RefusedWith (set (set buyerB 73 39) 74 16) 18 failureOfSecondPlan 0
+  -- 3: the S of major at B is 1,000.0
+  pub start-too-large : RefusedWith (set (set buyerB 39 39) 40 16) 18 failureOfSecondPlan 0
+  -- 3: the T of critical at A is 1,000.0
+  pub tolerance-too-large : RefusedWith (set (set buyerB 5 39) 6 16) 18 failureOfSecondPlan 0
   -- 4: the S of critical at A is 0.8, and L 0.7
   pub start-above-limit : RefusedWith (set buyerB 4 8) 18 failureOfSecondPlan 0
+  -- 4: the S of total at C is 9.1, and L 9
+  pub start-above-limit-at-c : RefusedWith (set buyerB 70 91) 18 failureOfSecondPlan 0
   -- 5: the T of critical is 0.4 at A and 0.3 at B
   pub smaller-tolerance : RefusedWith (set buyerB 30 3) 18 failureOfSecondPlan 0
   -- 5: the T+L of severe is 3.4 at A and 3.3 at B
   pub smaller-sum : RefusedWith (set buyerB 38 8) 18 failureOfSecondPlan 0
+  -- 5: the T of total is 9.5 at B and 9.4 at C
+  pub smaller-tolerance-at-c : RefusedWith (set buyerB 72 94) 18 failureOfSecondPlan 0
+  -- 5: the T+L of severe is 5 at B and 4.9 at C
+  pub smaller-sum-at-c : RefusedWith (set (set buyerB 58 5) 62 9) 18 failureOfSecondPlan 0
   -- also for a sheet without a unit
   pub no-unit-to-grade : RefusedWith (take 74 buyerB) 18 noUnit 0
 

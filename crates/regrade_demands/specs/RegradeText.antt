@@ -17,5 +17,5 @@ pub record RegradeText : Type 0 where
   pub cases : (plan : List ℕ) → TextCases (record { outcome = λ sheet. regradeOutcome sheet plan; buffer = emptyBuffer; line = λ sheet. lineOf }) (λ sheet. regradePrinted sheet plan)
   -- standing is m or f
   pub two-failures : regradePrinted twoFailuresBeforeRedesignation buyerB
-      ≡ ascii "1 1 C C f B 0.0 0.0 0.0 6.0\n2 2 C C f B 0.0 0.0 0.0 6.0\n3 3 B B m B 0.0 0.0 0.0 5.5\n4 4 B B m B 0.0 0.0 0.0 5.0\n"
+      ≡ ascii "1 1 C C f B 0.0 0.0 0.0 6.0\n2 2 C C f B 0.0 0.0 0.0 6.0\n3 3 B B m B 0.0 0.0 0.0 5.5\n4 2 B C m B 0.0 0.0 0.0 5.0\n"
   pub refused-18 : regradePrinted twoFailuresBeforeRedesignation (take 74 buyerB) ≡ ascii "refused 18 0\n"

@@ -364,12 +364,17 @@ macro_rules! total {
 fn failures() -> Vec<Regrading> {
     let in_step_three = |recoverable| {
         let unit = |code, count| unit_as(code, [0, 0, 0, count], A, recoverable);
-        [unit(1, 14), unit(2, 14), unit(3, 6), unit(4, 6), unit(5, 6), unit(6, 10)]
+        [14, 14, 6, 6, 6, 6, 10]
+            .iter()
+            .zip(1..)
+            .map(|(&count, code)| unit(code, count))
+            .collect::<Vec<_>>()
     };
     const IN_STEP_THREE: &[&str] = &[
         total!("CCfB", "6.0"),
         total!("CCfB", "6.0"),
         total!("BBmB", "2.5"),
+        total!("BBmB", "0.0"),
         total!("BBmB", "0.0"),
         total!("BBmB", "0.0"),
         total!("BBmB", "0.5"),
@@ -444,6 +449,14 @@ fn failures() -> Vec<Regrading> {
             &[(1, TOTAL, 10), (2, TOTAL, 85), (3, TOTAL, 145)],
         ),
         accepted(
+            "a failure behind a worse one",
+            "Unit 1 is Substandard, and unit 2 grades C by its own counts.",
+            &[minor(1, 24), fails(2), minor(3, 9)],
+            buyer(B),
+            &[total!("SSfB", "6.0"), total!("CCfB", "6.0"), total!("BBmB", "5.5")],
+            &[(1, TOTAL, 110), (2, TOTAL, 45)],
+        ),
+        accepted(
             "two failures in different classes",
             "Severe, 0.8+5-2.5 being above 2.5, then critical, 0+2-0.8 being above 0.9.",
             &[unit(1, [0, 5, 0, 0]), unit(2, [2, 0, 0, 0]), unit(3, [0, 0, 0, 0])],
@@ -455,13 +468,13 @@ fn failures() -> Vec<Regrading> {
             "step three of the recorded plan",
             "When it was recorded, units 1 and 2 began step 3, units 3 to 5 ended it and were recovered.\n\
              Here all are graded one after the other, and nothing is recovered, though under the second plan\n\
-             units 1 and 2 fail as well and units 3 to 5 are within its T: 2.5 and then 0, and not 3+6-14.",
+             units 1 and 2 fail as well, units 3 to 6 are within its T, and units 4 to 6 are at 0.",
             &in_step_three(true),
             buyer(B),
             IN_STEP_THREE,
             &[(1, TOTAL, 10), (2, TOTAL, 45)],
         )
-        .own("BBfA BBfA AArB AArB AArB BBfA"),
+        .own("BBfA BBfA AArB AArB AArB AAmA BBfA"),
         accepted(
             "no unit recoverable",
             "The same units, none of them recoverable: the same result records.",
@@ -470,7 +483,7 @@ fn failures() -> Vec<Regrading> {
             IN_STEP_THREE,
             &[(1, TOTAL, 10), (2, TOTAL, 45)],
         )
-        .own("BBfA BBfA BBuB BBuB BBuB BBfA"),
+        .own("BBfA BBfA BBuB BBuB BBuB AAmA BBfA"),
     ]
 }
 
@@ -576,16 +589,18 @@ fn fewer_defects() -> Vec<Regrading> {
     vec![
         accepted(
             "two failures before a redesignation",
-            "Unit 2 fails by 4.5, from L, and unit 3 goes on from L behind the redesignation.",
-            &[fails(1), fails(2), to(C), minor(3, 9), BREAK, minor(4, 12)],
+            "Unit 2 fails by 4.5, from L, and unit 3 goes on from L behind the redesignation. Units 2 and 4 have\n\
+             one code.",
+            &[fails(1), fails(2), to(C), minor(3, 9), BREAK, minor(2, 12)],
             buyer(B),
-            &[total!("CCfB", "6.0"), total!("CCfB", "6.0"), total!("BBmB", "5.5"), total!("BBmB", "5.0")],
+            &[total!("CCfB", "6.0"), total!("CCfB", "6.0"), total!("BBmB", "5.5"), total!("BCmB", "5.0")],
             &[(1, TOTAL, 10), (2, TOTAL, 45)],
         ),
         accepted(
             "five minor defects fewer",
-            "The same but for unit 2, which meets at 5.5; so unit 3 comes to 5. Behind the break they are alike.",
-            &[fails(1), minor(2, 9), to(C), minor(3, 9), BREAK, minor(4, 12)],
+            "The same but for unit 2, which meets at 5.5; so unit 3 comes to 5. Behind the break the CuSums are\n\
+             alike, the code is better.",
+            &[fails(1), minor(2, 9), to(C), minor(3, 9), BREAK, minor(2, 12)],
             buyer(B),
             &[total!("CCfB", "6.0"), total!("BBmB", "5.5"), total!("BBmB", "5.0"), total!("BBmB", "5.0")],
             &[(1, TOTAL, 10)],
@@ -795,6 +810,15 @@ fn units() -> Vec<Regrading> {
             &[],
         ),
         accepted(
+            "codes across a break and a redesignation",
+            "Code 1 is worse behind the break, code 2 behind the break and a redesignation; another\n\
+             redesignation is the last record.",
+            &[minor(1, 9), minor(2, 9), BREAK, fails(1), to(C), fails(2), to(A)],
+            buyer(B),
+            &[total!("BCmB", "2.0"), total!("BCmB", "1.5"), total!("CCfB", "6.0"), total!("CCfB", "6.0")],
+            &[(3, TOTAL, 10), (4, TOTAL, 45)],
+        ),
+        accepted(
             "codes alike in one byte",
             "01 07, 00 07 and 01 00 are three codes.",
             &[minor(0x0107, 9), fails(7), minor(0x0100, 9)],
@@ -816,13 +840,33 @@ fn units() -> Vec<Regrading> {
 
 /// Each beside 18, which comes behind all checks of the sheet.
 fn refusals() -> Vec<Regrading> {
-    let mut marked_other = recorded();
-    marked_other[1] = 0x4D;
-    let mut smaller_at_b = recorded();
-    smaller_at_b[3 + 24 + 3] = 4;
+    let changed = |bytes: &[(usize, u8)]| {
+        let mut plan = recorded();
+        bytes.iter().for_each(|&(at, byte)| plan[at] = byte);
+        plan
+    };
+    let marked_other = changed(&[(1, 0x4D)]);
+    let smaller_at_b = changed(&[(3 + 24 + 3, 4)]);
     let first = || part(&minor(1, 9));
     vec![
         refused(1, 0, "ground 1", "1 and 18: another first mark.", marked_other, vec![first()]),
+        refused(2, 0, "ground 2", "2 and 18: designated Substandard.", changed(&[(2, 3)]), vec![first()]),
+        refused(
+            3,
+            0,
+            "ground 3",
+            "3 and 18: the L of total at C of the sheet's own plan is 1,000.0.",
+            changed(&[(73, 39), (74, 16)]),
+            vec![first()],
+        ),
+        refused(
+            4,
+            0,
+            "ground 4",
+            "4 and 18: the S of critical at A of the sheet's own plan is 0.6, and L 0.5.",
+            changed(&[(4, 6)]),
+            vec![first()],
+        ),
         refused(
             5,
             0,
@@ -854,6 +898,25 @@ fn refusals() -> Vec<Regrading> {
             "8 and 18: a count of 2,001.",
             recorded(),
             vec![first(), part(&BREAK), part(&unit(2, [0, 2_001, 0, 0]))],
+        ),
+        refused(
+            9,
+            89,
+            "ground 9",
+            "9 and 18: a prerequisite grade of 4.",
+            recorded(),
+            vec![
+                first(),
+                raw(&unit_as(2, [0, 0, 0, 9], 4, true).bytes(), "2: 0,0,0,9, prerequisite grade 4"),
+            ],
+        ),
+        refused(
+            10,
+            89,
+            "ground 10",
+            "10 and 18: a redesignation to Substandard.",
+            recorded(),
+            vec![first(), part(&to(SUBSTANDARD))],
         ),
         refused(
             11,
@@ -920,10 +983,28 @@ fn wrong_plans() -> Vec<WrongPlan> {
             buyer(B).set(l(C, TOTAL) - 1, 39).set(l(C, TOTAL), 16),
         ),
         wrong(
+            3,
+            "start too large",
+            "3: the S of major at B is 1,000.0",
+            buyer(B).set(s(B, MAJOR) - 1, 39).set(s(B, MAJOR), 16),
+        ),
+        wrong(
+            3,
+            "tolerance too large",
+            "3: the T of critical at A is 1,000.0",
+            buyer(B).set(t(A, CRITICAL) - 1, 39).set(t(A, CRITICAL), 16),
+        ),
+        wrong(
             4,
             "start above the limit",
             "4: the S of critical at A is 0.8, and L 0.7",
             buyer(B).set(s(A, CRITICAL), 8),
+        ),
+        wrong(
+            4,
+            "start above the limit at C",
+            "4: the S of total at C is 9.1, and L 9",
+            buyer(B).set(s(C, TOTAL), 91),
         ),
         wrong(
             5,
@@ -936,6 +1017,18 @@ fn wrong_plans() -> Vec<WrongPlan> {
             "smaller sum",
             "5: the T+L of severe is 3.4 at A and 3.3 at B",
             buyer(B).set(l(B, SEVERE), 8),
+        ),
+        wrong(
+            5,
+            "smaller tolerance at C",
+            "5: the T of total is 9.5 at B and 9.4 at C",
+            buyer(B).set(t(C, TOTAL), 94),
+        ),
+        wrong(
+            5,
+            "smaller sum at C",
+            "5: the T+L of severe is 5 at B and 4.9 at C",
+            buyer(B).set(s(C, SEVERE), 5).set(l(C, SEVERE), 9),
         ),
         WrongPlan {
             sheet: "no unit",
