@@ -16,12 +16,12 @@ use Rattle.regrade.specs.Outcome.{secondPlanWrong, regraded, regradeBy, regrade
 use Rattle.regrade.proofs.Cases.{not-overfull}
 
 -- the sheet passes its check with so many records, and the second plan is right
-abbrev pub PassedAgain : List ℕ → List ℕ → ℕ → Type 0
-PassedAgain bytes plan records = Facts bytes records × (secondPlanWrong plan ≡ false)
+abbrev pub PassedUnder : List ℕ → List ℕ → ℕ → Type 0
+PassedUnder bytes plan records = Facts bytes records × (secondPlanWrong plan ≡ false)
 
 pub data RegradeCase (bytes plan buffer : List ℕ) : Answer → Type 0 where
   wrong-plan : (records : ℕ) → Facts bytes records → secondPlanWrong plan ≡ true → RegradeCase bytes plan buffer (refusedAs 18 0)
-  as-graded : {answer : Answer} → Case bytes buffer (PassedAgain bytes plan) answer → RegradeCase bytes plan buffer answer
+  as-graded : {answer : Answer} → Case bytes buffer (PassedUnder bytes plan) answer → RegradeCase bytes plan buffer answer
 
 module _ (bytes plan buffer : List ℕ) where
   case-by : (v : Verdict) → verdict bytes ≡ v → RegradeCase bytes plan buffer (regradeBy bytes plan buffer v .answer)
@@ -33,7 +33,7 @@ module _ (bytes plan buffer : List ℕ) where
       (λ right. by-buffer bytes buffer records units (passes, right) counted _ (not-overfull plan right bytes records) _)
     where
       go : (rest : Outcome) (wrong : Bool) → secondPlanWrong plan ≡ wrong
-          → (secondPlanWrong plan ≡ false → Case bytes buffer (PassedAgain bytes plan) (rest .answer))
+          → (secondPlanWrong plan ≡ false → Case bytes buffer (PassedUnder bytes plan) (rest .answer))
           → RegradeCase bytes plan buffer (pick wrong (refusal 18 0 buffer) rest .answer)
       go rest true wrong otherwise = wrong-plan records (facts bytes records units says .0) wrong
       go rest false right otherwise = as-graded (otherwise right)

@@ -28,8 +28,8 @@ use Rattle.tally.specs.Accepted.{UnitAt}
 use Rattle.regrade.specs.Regrading.{atStart, cusumsBehind, cusumsBefore, regradedPortion, regradedCode}
 use Rattle.regrade.specs.Outcome.{sheetUnder}
 use Rattle.alike.proofs.AlikeSheets.{same-marks, same-records, fellows-below}
-use Rattle.regrade_demands.specs.RegradeAccepted.{sheetAgain, failsAgainAt}
-use Rattle.regrade_demands.specs.RegradeFewer.{FewerAgain, NoWorseAt, RegradeFewerDefects}
+use Rattle.regrade_demands.specs.RegradeAccepted.{regradedSheet, failsRegradedAt}
+use Rattle.regrade_demands.specs.RegradeFewer.{FewerRegraded, NoWorseAt, RegradeFewerDefects}
 use Rattle.regrade_demands.proofs.RegradeRecorded.{its-facts, second-facts, recorded-portion, recorded-code-grade, recorded-cusum, recorded-overshoot}
 
 -- ---- over records
@@ -63,8 +63,8 @@ module _ (table : Table) (designated : ℕ) (es fs : ℕ → Entry) (size : ℕ)
   fewer-cusums : (i : ℕ) (u v : SampleUnit) → es i ≡ UnitRecord u → fs i ≡ UnitRecord v → (class : ℕ)
       → (classCusum table designated (cusumsBefore first i) (tenthsOf u) class ≤ classCusum table designated (cusumsBefore second i) (tenthsOf v) class)
       × (classOvershoot table designated (cusumsBefore first i) (tenthsOf u) class ≤ classOvershoot table designated (cusumsBefore second i) (tenthsOf v) class)
-      × (failsAgainAt first class i ≡ true → failsAgainAt second class i ≡ true)
-  unfolding Below failsAgainAt isUnitThat
+      × (failsRegradedAt first class i ≡ true → failsRegradedAt second class i ≡ true)
+  unfolding Below failsRegradedAt isUnitThat
   fewer-cusums i u v eu ev class =
       let below : Below (UnitRecord u) (UnitRecord v) = subst₂ Below eu ev (fellows i) in
       let fewer = counts-fewer u v (below .fewer) in
@@ -98,7 +98,7 @@ module _ (table : Table) (designated : ℕ) (es fs : ℕ → Entry) (size : ℕ)
 -- ---- as recorded
 
 module _ (bytes bytes' plan buffer buffer' : List ℕ) (answer answer' : Answer) (results results' : List ℕ)
-    (pair : FewerAgain bytes bytes' plan buffer buffer' answer answer' results results') where
+    (pair : FewerRegraded bytes bytes' plan buffer buffer' answer answer' results results') where
   facts : Facts bytes (recordsIn bytes)
   facts = its-facts bytes plan buffer answer results (pair .first)
 
@@ -109,8 +109,8 @@ module _ (bytes bytes' plan buffer buffer' : List ℕ) (answer answer' : Answer)
   fellows = fellows-below bytes bytes' (pair .alike) facts (pair .no-more)
 
   -- the second sheet has as many records as the first
-  is-fellow : sheetAgain bytes' plan ≡ second (tableOf (planOf plan)) (planOf plan .designated) (entryAt bytes) (entryAt bytes') (recordsIn bytes) fellows
-  unfolding sheetAgain sheetUnder
+  is-fellow : regradedSheet bytes' plan ≡ second (tableOf (planOf plan)) (planOf plan .designated) (entryAt bytes) (entryAt bytes') (recordsIn bytes) fellows
+  unfolding regradedSheet sheetUnder
   is-fellow = ap (sheetUnder bytes' (planOf plan)) (sym (same-records bytes bytes' (pair .alike) (recordsIn bytes) (recordsIn bytes') facts facts'))
 
   unit-fellow : (i : ℕ) → UnitAt bytes i → UnitAt bytes' i
@@ -132,13 +132,13 @@ module _ (bytes bytes' plan buffer buffer' : List ℕ) (answer answer' : Answer)
         ≤ classCusum (two .table) (two .designated) (cusumsBefore two i) (tenthsOf unit') class)
         × (classOvershoot (one .table) (one .designated) (cusumsBefore one i) (tenthsOf unit) class
         ≤ classOvershoot (two .table) (two .designated) (cusumsBefore two i) (tenthsOf unit') class)
-        × (failsAgainAt one class i ≡ true → failsAgainAt two class i ≡ true))
+        × (failsRegradedAt one class i ≡ true → failsRegradedAt two class i ≡ true))
         × ((regradedPortion one i unit ≤ regradedPortion two i unit') × (regradedCode one (unit .code) ≤ regradedCode two (unit' .code)))
 
-    compared : Compared (sheetAgain bytes plan) (sheetAgain bytes' plan)
+    compared : Compared (regradedSheet bytes plan) (regradedSheet bytes' plan)
     compared =
-        subst⁻¹ (Compared (sheetAgain bytes plan)) is-fellow
-        (unfold sheetAgain sheetUnder in (
+        subst⁻¹ (Compared (regradedSheet bytes plan)) is-fellow
+        (unfold regradedSheet sheetUnder in (
           fewer-cusums (tableOf (planOf plan)) (planOf plan .designated) (entryAt bytes) (entryAt bytes') (recordsIn bytes) fellows i unit unit'
               (entry-unit bytes i (at .is-unit)) (entry-unit bytes' i (unit-fellow i at .is-unit)),
           fewer-grades (tableOf (planOf plan)) (planOf plan .designated) (entryAt bytes) (entryAt bytes') (recordsIn bytes) fellows

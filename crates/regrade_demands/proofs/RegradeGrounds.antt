@@ -26,7 +26,7 @@ use Rattle.regrade.specs.Regrading.{regradedAt}
 use Rattle.regrade.specs.Outcome.{sheetUnder, secondPlanWrong}
 use Rattle.regrade.proofs.Cases.{not-overfull}
 use Rattle.regrade_demands.specs.RegradeGrounds.{SecondPlanWrong, other-length, plan-ground, LastRow, row18, row13, row14, regradeGrounds, whereLookedAt, RegradeRefused, RegradeRefusals}
-use Rattle.regrade_demands.proofs.RegradeCases.{PassedAgain, RegradeCase, wrong-plan, as-graded, regrade-case}
+use Rattle.regrade_demands.proofs.RegradeCases.{PassedUnder, RegradeCase, wrong-plan, as-graded, regrade-case}
 
 -- ---- 18
 
@@ -62,7 +62,7 @@ module _ (bytes plan buffer : List ℕ) where
   from-13 right n (row13 h) = omega arith
   from-13 right n (row14 h) = omega arith
 
-  has-room : (records : ℕ) → PassedAgain bytes plan records → resultSize * unitsBefore bytes records ≤ length buffer
+  has-room : (records : ℕ) → PassedUnder bytes plan records → resultSize * unitsBefore bytes records ≤ length buffer
       → (n : ℕ) → LastRow bytes plan buffer n → ⊥
   unfolding sheetUnder
   has-room records (facts, right) room n (row18 h) = tells-18 plan .not-so right h
@@ -71,7 +71,7 @@ module _ (bytes plan buffer : List ℕ) where
       not-above bytes records facts (λ k i unit. regradedAt (sheetUnder bytes (planOf plan) k) i unit .cusums) (not-overfull plan right bytes records)
       (h .records) (h .i) (h .class) (h .filled) (h .inside) (h .is-unit) (h .a-class) (h .above)
 
-  behind : RowsBehind bytes buffer (PassedAgain bytes plan) (LastRow bytes plan buffer)
+  behind : RowsBehind bytes buffer (PassedUnder bytes plan) (LastRow bytes plan buffer)
   behind =
       record {
         in-rows = in-rows;

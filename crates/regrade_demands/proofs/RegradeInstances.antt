@@ -23,8 +23,8 @@ use Rattle.alike.proofs.OneFewer.{alike-but-place, no-more-but-place}
 use Rattle.alike.specs.Alike.{InCount}
 use Rattle.regrade.specs.Outcome.{regradeOutcome}
 use Rattle.regrade.proofs.Computing.{computing}
-use Rattle.regrade_demands.specs.RegradeAccepted.{RegradedAs, designatedIn, failsAgainAt, sheetAgain}
-use Rattle.regrade_demands.specs.RegradeRecords.{RuleTwoBy, UnitFailsAgain, BestLowerAgain, RegradeCourse, RegradedByRules}
+use Rattle.regrade_demands.specs.RegradeAccepted.{RegradedAs, secondDesignated, failsRegradedAt, regradedSheet}
+use Rattle.regrade_demands.specs.RegradeRecords.{RuleTwoBy, UnitFailsRegraded, BestLowerUnder, RegradeCourse, RegradedByRules}
 use Rattle.regrade_demands.specs.RegradeLargest.{at-failure}
 use Rattle.regrade_demands.specs.RegradeFewer.{NoWorseAt}
 use Rattle.regrade_demands.specs.RegradeSheets.{recordedPlan, buyerA, buyerB, twoFailuresBeforeRedesignation, twoFailuresBeforeRedesignationResults, fiveMinorDefectsFewer, fiveMinorDefectsFewerResults, failureOfSecondPlan}
@@ -99,7 +99,7 @@ defects : (tenTimesCount more 0 3 ≡ 140) × (tenTimesCount more 1 3 ≡ 140) �
 unfolding computing recordedPlan twoFailuresBeforeRedesignation
 defects = (refl, refl, refl, refl)
 
-designated : designatedIn buyerB ≡ 1
+designated : secondDesignated buyerB ≡ 1
 unfolding buyerA buyerB
 designated = refl
 
@@ -143,7 +143,7 @@ admitted (suc (suc zero)) inside = (lit≤ tt, lit≤ tt)
 admitted (suc (suc (suc zero))) inside = (lit≤ tt, lit≤ tt)
 admitted (suc (suc (suc (suc class)))) inside = absurd (omega arith)
 
-grade-c : (course : RegradeCourse) (i grade : ℕ) → BestLowerAgain more buyerB course i grade
+grade-c : (course : RegradeCourse) (i grade : ℕ) → BestLowerUnder more buyerB course i grade
     → ((class : ℕ) → class < length classes → tenTimesCount more i class ≤ toleranceIn buyerB 2 class + limitIn buyerB 2 class) → grade ≡ 2
 grade-c course i grade best admits = go (ltb 2 grade) refl
   where
@@ -163,33 +163,33 @@ module _ (buffer : List ℕ) (holds : resultSize * 4 ≤ length buffer) where
   course = by-rules .course
 
   -- S, T and L as the rules name them
-  S : startIn buyerB (designatedIn buyerB) 3 ≡ 25
+  S : startIn buyerB (secondDesignated buyerB) 3 ≡ 25
   S = ap (λ (grade : ℕ). startIn buyerB grade 3) designated ∙ numbers .0
 
-  T : toleranceIn buyerB (designatedIn buyerB) 3 ≡ 95
+  T : toleranceIn buyerB (secondDesignated buyerB) 3 ≡ 95
   T = ap (λ (grade : ℕ). toleranceIn buyerB grade 3) designated ∙ numbers .1
 
-  L : limitIn buyerB (designatedIn buyerB) 3 ≡ 60
+  L : limitIn buyerB (secondDesignated buyerB) 3 ≡ 60
   L = ap (λ (grade : ℕ). limitIn buyerB grade 3) designated ∙ numbers .2
 
   total : 3 < length classes
   total = lit< tt
 
   rule-two : (i : ℕ) → OneOfFour i → (class : ℕ) → class < length classes
-      → RuleTwoBy (course .cusum i class + tenTimesCount more i class) (toleranceIn buyerB (designatedIn buyerB) class) (limitIn buyerB (designatedIn buyerB) class)
+      → RuleTwoBy (course .cusum i class + tenTimesCount more i class) (toleranceIn buyerB (secondDesignated buyerB) class) (limitIn buyerB (secondDesignated buyerB) class)
       (course .newCusum i class) (course .overshoot i class)
   rule-two i one class known = by-rules .rules .rule-two i class (unit-at i one) known
 
   from-start : course .cusum 0 3 ≡ 25
   from-start = by-rules .rules .opening 3 total ∙ S
 
-  first-above : toleranceIn buyerB (designatedIn buyerB) 3 + limitIn buyerB (designatedIn buyerB) 3 < course .cusum 0 3 + tenTimesCount more 0 3
+  first-above : toleranceIn buyerB (secondDesignated buyerB) 3 + limitIn buyerB (secondDesignated buyerB) 3 < course .cusum 0 3 + tenTimesCount more 0 3
   first-above = omega (arith, from-start, T, L, defects .0)
 
   from-limit : course .cusum 1 3 ≡ 60
   from-limit = by-rules .rules .unit-goes-on 0 3 (unit-at 0 record0) total ∙ rule-two 0 record0 3 total .fails first-above ∙ L
 
-  second-above : toleranceIn buyerB (designatedIn buyerB) 3 + limitIn buyerB (designatedIn buyerB) 3 < course .cusum 1 3 + tenTimesCount more 1 3
+  second-above : toleranceIn buyerB (secondDesignated buyerB) 3 + limitIn buyerB (secondDesignated buyerB) 3 < course .cusum 1 3 + tenTimesCount more 1 3
   second-above = omega (arith, from-limit, T, L, defects .1)
 
   behind-second : course .cusum 3 3 ≡ 60
@@ -204,24 +204,24 @@ module _ (buffer : List ℕ) (holds : resultSize * 4 ≤ length buffer) where
 
   -- a unit meets where no class is above T+L; in the others, without defects, no CuSum is above L
   meets-if : (i : ℕ) → ((class : ℕ) → class < 3 → tenTimesCount more i class ≡ 0)
-      → ((class : ℕ) → class < 3 → course .cusum i class ≤ limitIn buyerB (designatedIn buyerB) class)
-      → course .cusum i 3 + tenTimesCount more i 3 ≤ toleranceIn buyerB (designatedIn buyerB) 3 + limitIn buyerB (designatedIn buyerB) 3
-      → UnitFailsAgain more buyerB course i → ⊥
+      → ((class : ℕ) → class < 3 → course .cusum i class ≤ limitIn buyerB (secondDesignated buyerB) class)
+      → course .cusum i 3 + tenTimesCount more i 3 ≤ toleranceIn buyerB (secondDesignated buyerB) 3 + limitIn buyerB (secondDesignated buyerB) 3
+      → UnitFailsRegraded more buyerB course i → ⊥
   meets-if i none within most here = go (here .class) (here .a-class) (here .fails) (ltb (here .class) 3) refl
     where
       go : (class : ℕ) → class < length classes
-          → toleranceIn buyerB (designatedIn buyerB) class + limitIn buyerB (designatedIn buyerB) class < course .cusum i class + tenTimesCount more i class
+          → toleranceIn buyerB (secondDesignated buyerB) class + limitIn buyerB (secondDesignated buyerB) class < course .cusum i class + tenTimesCount more i class
           → (other : Bool) → ltb class 3 ≡ other → ⊥
       go class known above true e =
           let other = ltb-true class 3 e in
           omega (arith, above, none class other, within class other)
       go class known above false e =
           let is-total : class ≡ 3 = omega (arith, ltb-false class 3 e, known) in
-          let total-above : toleranceIn buyerB (designatedIn buyerB) 3 + limitIn buyerB (designatedIn buyerB) 3 < course .cusum i 3 + tenTimesCount more i 3
-          = subst (λ (k : ℕ). toleranceIn buyerB (designatedIn buyerB) k + limitIn buyerB (designatedIn buyerB) k < course .cusum i k + tenTimesCount more i k) is-total above in
+          let total-above : toleranceIn buyerB (secondDesignated buyerB) 3 + limitIn buyerB (secondDesignated buyerB) 3 < course .cusum i 3 + tenTimesCount more i 3
+          = subst (λ (k : ℕ). toleranceIn buyerB (secondDesignated buyerB) k + limitIn buyerB (secondDesignated buyerB) k < course .cusum i k + tenTimesCount more i k) is-total above in
           omega (arith, most, total-above)
 
-  third-meets : UnitFailsAgain more buyerB course 3 → ⊥
+  third-meets : UnitFailsRegraded more buyerB course 3 → ⊥
   third-meets =
       meets-if 3 (λ class other. others-none class other .2)
       (λ class other.
@@ -234,7 +234,7 @@ module _ (buffer : List ℕ) (holds : resultSize * 4 ≤ length buffer) where
       ))
       (omega (arith, behind-second, T, L, defects .2))
 
-  fourth-meets : UnitFailsAgain more buyerB course 5 → ⊥
+  fourth-meets : UnitFailsRegraded more buyerB course 5 → ⊥
   fourth-meets =
       meets-if 5 (λ class other. others-none class other .3)
       (λ class other.
@@ -248,13 +248,13 @@ module _ (buffer : List ℕ) (holds : resultSize * 4 ≤ length buffer) where
 
   -- what is recorded of a unit that fails, and of one that meets
   failing-recorded : (i over : ℕ) (one : OneOfFour i)
-      → toleranceIn buyerB (designatedIn buyerB) 3 + limitIn buyerB (designatedIn buyerB) 3 < course .cusum i 3 + tenTimesCount more i 3
+      → toleranceIn buyerB (secondDesignated buyerB) 3 + limitIn buyerB (secondDesignated buyerB) 3 < course .cusum i 3 + tenTimesCount more i 3
       → course .cusum i 3 + tenTimesCount more i 3 ≡ 155 + over → prerequisite more i ≡ 0
       → ((class : ℕ) → class < length classes → tenTimesCount more i class ≤ toleranceIn buyerB 2 class + limitIn buyerB 2 class)
       → RecordedInstance buffer i 60 over 2 1
   failing-recorded i over one above reached none admits =
       let recorded = by-rules .recorded i (unit-at i one) in
-      let fails : UnitFailsAgain more buyerB course i = record { class = 3; a-class = total; fails = above } in
+      let fails : UnitFailsRegraded more buyerB course i = record { class = 3; a-class = total; fails = above } in
       let grade = grade-c course i (course .defectGrade i) (by-rules .rules .rule-three i (unit-at i one) .fails fails) admits in
       record {
         mark = recorded .mark;
@@ -265,11 +265,11 @@ module _ (buffer : List ℕ) (holds : resultSize * 4 ≤ length buffer) where
         standing-recorded = recorded .standing-failed fails;
       }
 
-  meeting-recorded : (i cusum : ℕ) (one : OneOfFour i) → (UnitFailsAgain more buyerB course i → ⊥)
+  meeting-recorded : (i cusum : ℕ) (one : OneOfFour i) → (UnitFailsRegraded more buyerB course i → ⊥)
       → course .cusum i 3 + tenTimesCount more i 3 ≡ 95 + cusum → cusum ≤ 60 → prerequisite more i ≡ 0 → RecordedInstance buffer i cusum 0 1 0
   meeting-recorded i cusum one meets reached most none =
       let recorded = by-rules .recorded i (unit-at i one) in
-      let within : course .cusum i 3 + tenTimesCount more i 3 ≤ toleranceIn buyerB (designatedIn buyerB) 3 + limitIn buyerB (designatedIn buyerB) 3
+      let within : course .cusum i 3 + tenTimesCount more i 3 ≤ toleranceIn buyerB (secondDesignated buyerB) 3 + limitIn buyerB (secondDesignated buyerB) 3
       = omega (arith, reached, most, T, L) in
       record {
         mark = recorded .mark;
@@ -302,17 +302,17 @@ cut-short : (buffer : List ℕ) → regradeOutcome failureOfSecondPlan (take 74 
 unfolding computing recordedPlan buyerA buyerB failureOfSecondPlan
 cut-short buffer = refl
 
-second-fails-total : failsAgainAt (sheetAgain more buyerB) 3 1 ≡ true
-unfolding computing recordedPlan buyerA buyerB twoFailuresBeforeRedesignation sheetAgain failsAgainAt
+second-fails-total : failsRegradedAt (regradedSheet more buyerB) 3 1 ≡ true
+unfolding computing recordedPlan buyerA buyerB twoFailuresBeforeRedesignation regradedSheet failsRegradedAt
 second-fails-total = refl
 
-second-meets-total : failsAgainAt (sheetAgain fewer buyerB) 3 1 ≡ false
-unfolding computing recordedPlan buyerA buyerB fiveMinorDefectsFewer sheetAgain failsAgainAt
+second-meets-total : failsRegradedAt (regradedSheet fewer buyerB) 3 1 ≡ false
+unfolding computing recordedPlan buyerA buyerB fiveMinorDefectsFewer regradedSheet failsRegradedAt
 second-meets-total = refl
 
 pub regrade-instances : RegradeInstances
 unfolding computing recordedPlan buyerA buyerB twoFailuresBeforeRedesignation twoFailuresBeforeRedesignationResults fiveMinorDefectsFewer
-    fiveMinorDefectsFewerResults sheetAgain tenthsLessT largestForm anchorValue tenthsAt tenthsFrom largestOfZeroAnd sumℤ runsToEnd wideNumber
+    fiveMinorDefectsFewerResults regradedSheet tenthsLessT largestForm anchorValue tenthsAt tenthsFrom largestOfZeroAnd sumℤ runsToEnd wideNumber
 regrade-instances =
     record {
       kept = λ buffer holds.

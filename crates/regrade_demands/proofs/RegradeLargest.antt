@@ -33,7 +33,7 @@ use Rattle.regrade.specs.Regrading.{cusumsBehind, cusumsBefore}
 use Rattle.regrade.specs.Outcome.{sheetUnder}
 use Rattle.regrade.proofs.SecondPlan.{designated-planned}
 use Rattle.regrade.proofs.AcceptedRegrading.{accepted-regrading}
-use Rattle.regrade_demands.specs.RegradeAccepted.{sheetAgain, failsAgainAt}
+use Rattle.regrade_demands.specs.RegradeAccepted.{regradedSheet, failsRegradedAt}
 use Rattle.regrade_demands.specs.RegradeLargest.{RegradeAnchor, at-opening, at-break, at-failure, RegradeAnchorAt, RegradeLargestForm}
 use Rattle.regrade_demands.proofs.RegradeRecorded.{recorded-cusum}
 
@@ -50,8 +50,8 @@ breaks sheet j = isBreak (sheet .entry j)
 
 module _ (sheet : Sheet) (class : ℕ) where
   -- a failing unit is no break
-  failing-goes-on : (j : ℕ) → failsAgainAt sheet class j ≡ true → breaks sheet j ≡ false
-  unfolding failsAgainAt isUnitThat isBreak
+  failing-goes-on : (j : ℕ) → failsRegradedAt sheet class j ≡ true → breaks sheet j ≡ false
+  unfolding failsRegradedAt isUnitThat isBreak
   failing-goes-on j = go (sheet .entry j)
     where
       failing : SampleUnit → Bool
@@ -76,16 +76,16 @@ module _ (sheet : Sheet) (class : ℕ) where
     behind-entry cusums (Redesignation new) trail reached = one-other _ _ trail reached
     behind-entry cusums Break trail reached = reached-start _ _ (starts-at (sheet .table) class in-range (sheet .designated))
 
-    before-reached : (i : ℕ) → Reached numbers (tenthsIn (cusumsBefore sheet i) class) (trailBefore (breaks sheet) (failsAgainAt sheet class) sheet class i)
-    unfolding cusumsBefore trailBefore failsAgainAt
+    before-reached : (i : ℕ) → Reached numbers (tenthsIn (cusumsBefore sheet i) class) (trailBefore (breaks sheet) (failsRegradedAt sheet class) sheet class i)
+    unfolding cusumsBefore trailBefore failsRegradedAt
     before-reached zero = reached-start _ _ (starts-at (sheet .table) class in-range (sheet .designated))
     before-reached (suc i) = behind-entry (cusumsBefore sheet i) (sheet .entry i) _ (before-reached i)
 
     -- and with a unit
     unit-reached : (i : ℕ) (unit : SampleUnit) → sheet .entry i ≡ UnitRecord unit
         → Reached numbers (classCusum (sheet .table) (sheet .designated) (cusumsBefore sheet i) (tenthsOf unit) class)
-        (trailAt (breaks sheet) (failsAgainAt sheet class) sheet class i)
-    unfolding failsAgainAt isUnitThat tenthsAt
+        (trailAt (breaks sheet) (failsRegradedAt sheet class) sheet class i)
+    unfolding failsRegradedAt isUnitThat tenthsAt
     unit-reached i unit is-unit =
         rw is-unit (at-unit (sheet .table) (sheet .designated) planned (cusumsBefore sheet i) unit class _ (before-reached i))
 
@@ -93,13 +93,13 @@ module _ (sheet : Sheet) (class : ℕ) where
 
 module _ (bytes plan : List ℕ) (facts : Facts bytes (recordsIn bytes)) (class : ℕ) where
   abbrev sheet : Sheet
-  sheet = sheetAgain bytes plan
+  sheet = regradedSheet bytes plan
 
   abbrev ByRecords : ℕ → ℕ → Bool → Type 0
-  ByRecords = AnchorBy (breaks sheet) (failsAgainAt sheet class)
+  ByRecords = AnchorBy (breaks sheet) (failsRegradedAt sheet class)
 
   tells-break : (j : ℕ) → j < recordsIn bytes → Tells (breaks sheet j) (IsBreak bytes j)
-  unfolding sheetAgain sheetUnder isBreak
+  unfolding regradedSheet sheetUnder isBreak
   tells-break j inside =
       record {
         so = λ e. go e (kind bytes facts j inside);
@@ -124,8 +124,8 @@ module _ (bytes plan : List ℕ) (facts : Facts bytes (recordsIn bytes)) (class 
 
     an-anchor-at : RegradeAnchorAt bytes plan i class
     an-anchor-at =
-        let last : Found (breaks sheet) (failsAgainAt sheet class) i = found (breaks sheet) (failsAgainAt sheet class) i in
-        let within = anchor-le (breaks sheet) (failsAgainAt sheet class) i (last .place) (last .failed) (last .lies) in
+        let last : Found (breaks sheet) (failsRegradedAt sheet class) i = found (breaks sheet) (failsRegradedAt sheet class) i in
+        let within = anchor-le (breaks sheet) (failsRegradedAt sheet class) i (last .place) (last .failed) (last .lies) in
         record {
           from = last .place;
           records = suc i - last .place;
@@ -136,7 +136,7 @@ module _ (bytes plan : List ℕ) (facts : Facts bytes (recordsIn bytes)) (class 
           no-break = λ j from before. tells-break j (omega arith) .not-so (last .latest .no-restart j from before);
         }
 
-    latest-by-records : (anchor : RegradeAnchorAt bytes plan i class) → LatestBy (breaks sheet) (failsAgainAt sheet class) i (anchor .from)
+    latest-by-records : (anchor : RegradeAnchorAt bytes plan i class) → LatestBy (breaks sheet) (failsRegradedAt sheet class) i (anchor .from)
     latest-by-records anchor =
         record {
           no-failure = anchor .no-failure;
@@ -144,16 +144,16 @@ module _ (bytes plan : List ℕ) (facts : Facts bytes (recordsIn bytes)) (class 
         }
 
 pub regrade-largest-form : RegradeLargestForm
-unfolding sheetAgain sheetUnder
+unfolding regradedSheet sheetUnder
 regrade-largest-form bytes plan buffer answer results graded i at class in-range =
     let accepted = accepted-regrading bytes plan buffer answer results graded in
-    let again : Sheet = sheetAgain bytes plan in
+    let again : Sheet = regradedSheet bytes plan in
     let unit : SampleUnit = sampleUnitAt bytes (offset bytes i) in
     record {
       an-anchor = an-anchor-at bytes plan (accepted .facts) class i (at .inside);
       largest-of = λ anchor.
           ap pos (recorded-cusum bytes plan buffer answer results graded i at class in-range)
-          ∙ largest-from-anchor (breaks again) (failsAgainAt again class) again class _ _ i
+          ∙ largest-from-anchor (breaks again) (failsRegradedAt again class) again class _ _ i
           (unit-reached again class (designated-planned plan (accepted .right)) in-range i unit (entry-unit bytes i (at .is-unit)))
           (anchor .from) (anchor .records) (anchor .failed) (anchor .to-this-unit)
           (by-records bytes plan (accepted .facts) class i (at .inside) (anchor .from) (anchor .failed) (anchor .is-anchor))

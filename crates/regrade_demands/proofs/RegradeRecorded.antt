@@ -34,7 +34,7 @@ use Rattle.regrade.proofs.AcceptedRegrading.{AcceptedRegrading, accepted-regrad
 use Rattle.regrade.proofs.SecondPlan.{plan-facts}
 use Rattle.courses.specs.Demand2.{recordedMark, recordedCode, recordedPlanGrade, recordedStanding, codeOf}
 use Rattle.courses.proofs.ReadBack.{ReadBack, read-back}
-use Rattle.regrade_demands.specs.RegradeAccepted.{RegradedAs, sheetAgain}
+use Rattle.regrade_demands.specs.RegradeAccepted.{RegradedAs, regradedSheet}
 
 -- where S is at most L, no CuSum before a record is above L
 within-limit : (sheet : Sheet) (class : ℕ) → class < length classes →
@@ -66,14 +66,14 @@ module _ (bytes plan buffer : List ℕ) (answer : Answer) (results : List ℕ) (
   second-facts = plan-facts plan (by-check .right)
 
   abbrev sheet : Sheet
-  sheet = sheetAgain bytes plan
+  sheet = regradedSheet bytes plan
 
   module _ (i : ℕ) (at : UnitAt bytes i) where
     abbrev unit : SampleUnit
     unit = sampleUnitAt bytes (offset bytes i)
 
     there : ReadBack bytes results i (regradedResult sheet i unit) (regradedCode sheet (unit .code))
-    unfolding sheetAgain sheetUnder
+    unfolding regradedSheet sheetUnder
     there =
         read-back bytes results (regradedResult sheet) (regradedCode sheet) (drop (resultSize * unitsBefore bytes (recordsIn bytes)) buffer)
         (by-check .filled) i at
@@ -85,28 +85,28 @@ module _ (bytes plan buffer : List ℕ) (answer : Answer) (results : List ℕ) (
     unfolding resultUnder sampleUnitAt
     recorded-code small = there .code (code-fits bytes small i unit (entry-unit bytes i (at .is-unit)))
 
-    pub recorded-plan : recordedPlanGrade bytes results i ≡ sheetAgain bytes plan .designated
+    pub recorded-plan : recordedPlanGrade bytes results i ≡ regradedSheet bytes plan .designated
     unfolding resultUnder
     recorded-plan = there .plan-grade
 
-    pub recorded-portion : recordedPortionGrade bytes results i ≡ regradedPortion (sheetAgain bytes plan) i (sampleUnitAt bytes (offset bytes i))
+    pub recorded-portion : recordedPortionGrade bytes results i ≡ regradedPortion (regradedSheet bytes plan) i (sampleUnitAt bytes (offset bytes i))
     unfolding resultUnder regradedPortion
     recorded-portion = there .portion
 
-    pub recorded-code-grade : recordedCodeGrade bytes results i ≡ regradedCode (sheetAgain bytes plan) (sampleUnitAt bytes (offset bytes i) .code)
+    pub recorded-code-grade : recordedCodeGrade bytes results i ≡ regradedCode (regradedSheet bytes plan) (sampleUnitAt bytes (offset bytes i) .code)
     recorded-code-grade = there .code-grade
 
     pub recorded-standing : recordedStanding bytes results i
-        ≡ cond (unitFails (sheetAgain bytes plan .table) (sheetAgain bytes plan .designated) (cusumsBefore (sheetAgain bytes plan) i)
+        ≡ cond (unitFails (regradedSheet bytes plan .table) (regradedSheet bytes plan .designated) (cusumsBefore (regradedSheet bytes plan) i)
         (tenthsOf (sampleUnitAt bytes (offset bytes i)))) 1 0
     unfolding resultUnder
     recorded-standing = there .standing
 
     pub recorded-cusum : (class : ℕ) → class < length classes
         → recordedCusum bytes results i class
-        ≡ classCusum (sheetAgain bytes plan .table) (sheetAgain bytes plan .designated) (cusumsBefore (sheetAgain bytes plan) i)
+        ≡ classCusum (regradedSheet bytes plan .table) (regradedSheet bytes plan .designated) (cusumsBefore (regradedSheet bytes plan) i)
         (tenthsOf (sampleUnitAt bytes (offset bytes i))) class
-    unfolding resultUnder newCusums sheetAgain sheetUnder
+    unfolding resultUnder newCusums regradedSheet sheetUnder
     recorded-cusum class known =
         let is = at-class (classCusum (sheet .table) (sheet .designated) (cusumsBefore sheet i) (tenthsOf unit)) class known in
         let most = class-cusum-le (sheet .table) (sheet .designated) (cusumsBefore sheet i) (tenthsOf unit) class in
@@ -115,17 +115,17 @@ module _ (bytes plan buffer : List ℕ) (answer : Answer) (results : List ℕ) (
 
     -- an overshoot is at most the unit's own defects
     pub overshoot-at-most : (class : ℕ) → class < length classes
-        → classOvershoot (sheetAgain bytes plan .table) (sheetAgain bytes plan .designated) (cusumsBefore (sheetAgain bytes plan) i)
+        → classOvershoot (regradedSheet bytes plan .table) (regradedSheet bytes plan .designated) (cusumsBefore (regradedSheet bytes plan) i)
         (tenthsOf (sampleUnitAt bytes (offset bytes i))) class
         ≤ countTenths (tenthsOf (sampleUnitAt bytes (offset bytes i))) class
-    unfolding sheetAgain sheetUnder
+    unfolding regradedSheet sheetUnder
     overshoot-at-most class known =
         class-overshoot-le (sheet .table) (sheet .designated) (cusumsBefore sheet i) (tenthsOf unit) class
         (λ planned. within-limit sheet class known (start-le-limit plan 0 second-facts (sheet .designated) class) i)
 
     pub recorded-overshoot : (class : ℕ) → class < length classes
         → recordedOvershoot bytes results i class
-        ≡ classOvershoot (sheetAgain bytes plan .table) (sheetAgain bytes plan .designated) (cusumsBefore (sheetAgain bytes plan) i)
+        ≡ classOvershoot (regradedSheet bytes plan .table) (regradedSheet bytes plan .designated) (cusumsBefore (regradedSheet bytes plan) i)
         (tenthsOf (sampleUnitAt bytes (offset bytes i))) class
     unfolding resultUnder newOvershoots
     recorded-overshoot class known =

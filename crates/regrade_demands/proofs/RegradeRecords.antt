@@ -46,8 +46,8 @@ use Rattle.courses.proofs.CourseWords as words
 use Rattle.courses.proofs.CodeGrades.{worst-of-code}
 use Rattle.courses.proofs.OneCourse.{settled}
 use Rattle.courses.proofs.Graded.{same-records}
-use Rattle.regrade_demands.specs.RegradeAccepted.{RegradedAs, sheetAgain, designatedIn, numbersAgain, failsAgainAt}
-use Rattle.regrade_demands.specs.RegradeRecords.{RegradeCourse, RuleTwoBy, ClassFailsAgain, UnitFailsAgain, BestLowerAgain, RuleThreeAgain, RegradeRules, RegradeRecorded, SameAgainAt, RegradedByRules, RegradeGraded}
+use Rattle.regrade_demands.specs.RegradeAccepted.{RegradedAs, regradedSheet, secondDesignated, secondNumbers, failsRegradedAt}
+use Rattle.regrade_demands.specs.RegradeRecords.{RegradeCourse, RuleTwoBy, ClassFailsRegraded, UnitFailsRegraded, BestLowerUnder, RuleThreeUnder, RegradeRules, RegradeRecorded, SameRegradedAt, RegradedByRules, RegradeGraded}
 use Rattle.regrade_demands.proofs.RegradeRecorded.{its-facts, second-facts, recorded-mark, recorded-code, recorded-plan, recorded-portion, recorded-code-grade, recorded-standing, recorded-cusum, overshoot-at-most, recorded-overshoot}
 
 -- ---- rule 2 tells one CuSum and one overshoot
@@ -77,13 +77,13 @@ over-or-not bound reached = go (ltb bound reached) refl
     go false e = inr (ltb-false bound reached e)
 
 -- no grade is better than the best lower one, so that there is one; whatever course it is of
-not-better : (bytes plan : List ℕ) (course other : RegradeCourse) (i grade grade' : ℕ) → BestLowerAgain bytes plan course i grade
-    → BestLowerAgain bytes plan other i grade' → grade < grade' → ⊥
+not-better : (bytes plan : List ℕ) (course other : RegradeCourse) (i grade grade' : ℕ) → BestLowerUnder bytes plan course i grade
+    → BestLowerUnder bytes plan other i grade' → grade < grade' → ⊥
 not-better bytes plan course other i grade grade' one two less =
     two .none-better grade (one .lower) less (one .admits (omega (arith, less, two .a-grade)))
 
-one-best : (bytes plan : List ℕ) (course other : RegradeCourse) (i grade grade' : ℕ) → BestLowerAgain bytes plan course i grade
-    → BestLowerAgain bytes plan other i grade' → grade ≡ grade'
+one-best : (bytes plan : List ℕ) (course other : RegradeCourse) (i grade grade' : ℕ) → BestLowerUnder bytes plan course i grade
+    → BestLowerUnder bytes plan other i grade' → grade ≡ grade'
 one-best bytes plan course other i grade grade' one two = go (ltb grade grade') refl (ltb grade' grade) refl
   where
     go : (less : Bool) → ltb grade grade' ≡ less → (more : Bool) → ltb grade' grade ≡ more → grade ≡ grade'
@@ -93,9 +93,9 @@ one-best bytes plan course other i grade grade' one two = go (ltb grade grade') 
 
 -- ---- the course of the definitions
 
-abbrev courseAgain : List ℕ → List ℕ → RegradeCourse
-courseAgain bytes plan =
-    let sheet = sheetAgain bytes plan in
+abbrev regradedCourse : List ℕ → List ℕ → RegradeCourse
+regradedCourse bytes plan =
+    let sheet = regradedSheet bytes plan in
     record {
       cusum = λ i class. tenthsIn (cusumsBefore sheet i) class;
       newCusum = λ i class. classCusum (sheet .table) (sheet .designated) (cusumsBefore sheet i) (tenthsOf (unitIn bytes i)) class;
@@ -105,35 +105,35 @@ courseAgain bytes plan =
 
 module _ (bytes plan : List ℕ) (facts : Facts bytes (recordsIn bytes)) (second : Facts plan 0) where
   abbrev sheet : Sheet
-  sheet = sheetAgain bytes plan
+  sheet = regradedSheet bytes plan
 
   abbrev course : RegradeCourse
-  course = courseAgain bytes plan
+  course = regradedCourse bytes plan
 
   abbrev its-grade : ℕ
-  its-grade = designatedIn plan
+  its-grade = secondDesignated plan
 
-  designated-is : sheet .designated ≡ designatedIn plan
-  unfolding sheetAgain sheetUnder planOf
+  designated-is : sheet .designated ≡ secondDesignated plan
+  unfolding regradedSheet sheetUnder planOf
   designated-is = refl
 
-  planned : designatedIn plan < substandard
+  planned : secondDesignated plan < substandard
   unfolding planOf
   planned = omega (arith, designated-le plan 0 second)
 
   entry-here : (i : ℕ) {entry : Entry} → entryAt bytes i ≡ entry → sheet .entry i ≡ entry
-  unfolding sheetAgain sheetUnder
+  unfolding regradedSheet sheetUnder
   entry-here i reads = reads
 
   -- S, T and L of a grade of the second plan
   numbers-in : (grade class : ℕ) → grade < substandard → class < length classes →
       let numbers = numbersOf (sheet .table) grade class in
       (numbers .start ≡ startIn plan grade class) × (numbers .tolerance ≡ toleranceIn plan grade class) × (numbers .limit ≡ limitIn plan grade class)
-  unfolding sheetAgain sheetUnder
+  unfolding regradedSheet sheetUnder
   numbers-in grade class has known = rw (numbers-there plan grade class has known) (refl, refl, refl)
 
   numbers-here : (class : ℕ) → class < length classes →
-      let numbers = numbersAgain bytes plan class in
+      let numbers = secondNumbers bytes plan class in
       (numbers .start ≡ startIn plan its-grade class) × (numbers .tolerance ≡ toleranceIn plan its-grade class) × (numbers .limit ≡ limitIn plan its-grade class)
   numbers-here class known =
       subst⁻¹ (λ (grade : ℕ).
@@ -153,7 +153,7 @@ module _ (bytes plan : List ℕ) (facts : Facts bytes (recordsIn bytes)) (second
   cusum-is i class known =
       let (start, tolerance, limit) = numbers-here class known in
       rw (has-plan, ← tolerance, ← limit, ← count-is bytes i class)
-      (new-cusum-is (numbersAgain bytes plan class) (course .cusum i class) (countTenths (tenthsOf (unitIn bytes i)) class))
+      (new-cusum-is (secondNumbers bytes plan class) (course .cusum i class) (countTenths (tenthsOf (unitIn bytes i)) class))
 
   overshoot-is-above : (i class : ℕ) → class < length classes
       → course .overshoot i class
@@ -162,7 +162,7 @@ module _ (bytes plan : List ℕ) (facts : Facts bytes (recordsIn bytes)) (second
   overshoot-is-above i class known =
       let (start, tolerance, limit) = numbers-here class known in
       rw (has-plan, ← tolerance, ← limit, ← count-is bytes i class)
-      (overshoot-is (numbersAgain bytes plan class) (course .cusum i class) (countTenths (tenthsOf (unitIn bytes i)) class))
+      (overshoot-is (secondNumbers bytes plan class) (course .cusum i class) (countTenths (tenthsOf (unitIn bytes i)) class))
 
   rule-two : (i class : ℕ) → class < length classes
       → RuleTwoBy (course .cusum i class + tenTimesCount bytes i class) (toleranceIn plan its-grade class) (limitIn plan its-grade class)
@@ -178,7 +178,7 @@ module _ (bytes plan : List ℕ) (facts : Facts bytes (recordsIn bytes)) (second
 
   -- a class fails
   tells-class : (i class : ℕ) → class < length classes
-      → Tells (classFails (sheet .table) (sheet .designated) (cusumsBefore sheet i) (tenthsOf (unitIn bytes i)) class) (ClassFailsAgain bytes plan course i class)
+      → Tells (classFails (sheet .table) (sheet .designated) (cusumsBefore sheet i) (tenthsOf (unitIn bytes i)) class) (ClassFailsRegraded bytes plan course i class)
   unfolding classFails
   tells-class i class known =
       let (start, tolerance, limit) = numbers-here class known in
@@ -193,13 +193,13 @@ module _ (bytes plan : List ℕ) (facts : Facts bytes (recordsIn bytes)) (second
   abbrev failing : ℕ → Bool
   failing i = unitFails (sheet .table) (sheet .designated) (cusumsBefore sheet i) (tenthsOf (unitIn bytes i))
 
-  tells-unit : (i : ℕ) → Tells (failing i) (UnitFailsAgain bytes plan course i)
+  tells-unit : (i : ℕ) → Tells (failing i) (UnitFailsRegraded bytes plan course i)
   unfolding unitFails
   tells-unit i =
       tells-as
       (λ (class, known, here). record { class = class; a-class = known; fails = here })
-      (λ (found : UnitFailsAgain bytes plan course i). (found .class, found .a-class, found .fails))
-      (tells-any (length classes) _ (ClassFailsAgain bytes plan course i) (tells-class i))
+      (λ (found : UnitFailsRegraded bytes plan course i). (found .class, found .a-class, found .fails))
+      (tells-any (length classes) _ (ClassFailsRegraded bytes plan course i) (tells-class i))
 
   defect-meets : (i : ℕ) → failing i ≡ false → course .defectGrade i ≡ its-grade
   unfolding defectGrade
@@ -217,7 +217,7 @@ module _ (bytes plan : List ℕ) (facts : Facts bytes (recordsIn bytes)) (second
       let (start, tolerance, limit) = numbers-in grade class has known in
       omega (arith, tolerance, limit)
 
-  best-lower : (i grade : ℕ) → BestLower (sheet .table) (sheet .designated) (tenthsOf (unitIn bytes i)) grade → BestLowerAgain bytes plan course i grade
+  best-lower : (i grade : ℕ) → BestLower (sheet .table) (sheet .designated) (tenthsOf (unitIn bytes i)) grade → BestLowerUnder bytes plan course i grade
   best-lower i grade best =
       record {
         lower = omega (arith, best .lower, designated-is);
@@ -229,7 +229,7 @@ module _ (bytes plan : List ℕ) (facts : Facts bytes (recordsIn bytes)) (second
             omega (arith, every class known, count-is bytes i class, bound-is better class (omega (arith, below, best .grade-or-none)) known));
       }
 
-  rule-three : (i : ℕ) → RuleThreeAgain bytes plan course i
+  rule-three : (i : ℕ) → RuleThreeUnder bytes plan course i
   rule-three i =
       record {
         meets = λ none. defect-meets i (not-told (tells-unit i) none);
@@ -296,11 +296,11 @@ module _ (bytes plan : List ℕ) (facts : Facts bytes (recordsIn bytes)) (second
         go (inr (inr is-break)) same = break-restarts i class is-break known ∙ sym (others .break-restarts i class is-break known)
 
     -- a unit fails in both or in neither
-    fails-too : (i : ℕ) → SameBefore i → UnitFailsAgain bytes plan course i → UnitFailsAgain bytes plan other i
+    fails-too : (i : ℕ) → SameBefore i → UnitFailsRegraded bytes plan course i → UnitFailsRegraded bytes plan other i
     fails-too i same here =
         record { class = here .class; a-class = here .a-class; fails = omega (arith, here .fails, same (here .class) (here .a-class)) }
 
-    fails-first : (i : ℕ) → SameBefore i → UnitFailsAgain bytes plan other i → UnitFailsAgain bytes plan course i
+    fails-first : (i : ℕ) → SameBefore i → UnitFailsRegraded bytes plan other i → UnitFailsRegraded bytes plan course i
     fails-first i same here =
         record { class = here .class; a-class = here .a-class; fails = omega (arith, here .fails, same (here .class) (here .a-class)) }
 
@@ -312,7 +312,7 @@ module _ (bytes plan : List ℕ) (facts : Facts bytes (recordsIn bytes)) (second
         (λ none. rule-three i .meets none ∙ sym (others .rule-three i at .meets (λ here. none (fails-first i same here))))
         (settled (tells-unit i))
 
-    only-course : (i : ℕ) → UnitAt bytes i → SameAgainAt course other i
+    only-course : (i : ℕ) → UnitAt bytes i → SameRegradedAt course other i
     only-course i at =
         let same = same-before i (omega (arith, at .inside)) in
         record {
@@ -324,12 +324,12 @@ module _ (bytes plan : List ℕ) (facts : Facts bytes (recordsIn bytes)) (second
   -- ---- the words of demand 3
 
   tells-class-at : (i class : ℕ) → UnitAt bytes i → class < length classes
-      → Tells (failsAgainAt sheet class i) (ClassFailsAgain bytes plan course i class)
-  unfolding failsAgainAt isUnitThat
+      → Tells (failsRegradedAt sheet class i) (ClassFailsRegraded bytes plan course i class)
+  unfolding failsRegradedAt isUnitThat
   tells-class-at i class at known = rw (entry-here i (entry-unit bytes i (at .is-unit))) (tells-class i class known)
 
-  only-units-fail : (i class : ℕ) → (UnitAt bytes i → ⊥) → failsAgainAt sheet class i ≡ false
-  unfolding failsAgainAt isUnitThat sheetAgain sheetUnder
+  only-units-fail : (i class : ℕ) → (UnitAt bytes i → ⊥) → failsRegradedAt sheet class i ≡ false
+  unfolding failsRegradedAt isUnitThat regradedSheet sheetUnder
   only-units-fail i class none = go (entryAt bytes i) refl
     where
       go : (entry : Entry) → entryAt bytes i ≡ entry
@@ -339,12 +339,12 @@ module _ (bytes plan : List ℕ) (facts : Facts bytes (recordsIn bytes)) (second
       go Break e = refl
 
   -- counts go by the records of the sheet, whatever plan stands before them
-  tenths-of-unit : (i class : ℕ) → UnitAt bytes i → tenthsFrom (sheetAgain bytes plan) class i 1 ≡ tenTimesCount bytes i class ∷ []
-  unfolding sheetAgain sheetUnder sheetIn sheetOf tenthsFrom
+  tenths-of-unit : (i class : ℕ) → UnitAt bytes i → tenthsFrom (regradedSheet bytes plan) class i 1 ≡ tenTimesCount bytes i class ∷ []
+  unfolding regradedSheet sheetUnder sheetIn sheetOf tenthsFrom
   tenths-of-unit = words.tenths-of-unit bytes facts
 
-  tenths-of-other : (i class : ℕ) → (UnitAt bytes i → ⊥) → tenthsFrom (sheetAgain bytes plan) class i 1 ≡ []
-  unfolding sheetAgain sheetUnder sheetIn sheetOf tenthsFrom
+  tenths-of-other : (i class : ℕ) → (UnitAt bytes i → ⊥) → tenthsFrom (regradedSheet bytes plan) class i 1 ≡ []
+  unfolding regradedSheet sheetUnder sheetIn sheetOf tenthsFrom
   tenths-of-other = words.tenths-of-other bytes facts
 
 -- ---- what is recorded
@@ -357,20 +357,20 @@ module _ (bytes plan buffer : List ℕ) (answer : Answer) (results : List ℕ) (
   right = second-facts bytes plan buffer answer results accepted
 
   abbrev its-course : RegradeCourse
-  its-course = courseAgain bytes plan
+  its-course = regradedCourse bytes plan
 
   module _ (i : ℕ) (at : UnitAt bytes i) where
     standing-by : (fails : Bool) → failing bytes plan passed right i ≡ fails → recordedStanding bytes results i ≡ cond fails 1 0
     standing-by fails e = recorded-standing bytes plan buffer answer results accepted i at ∙ ap (λ (b : Bool). cond b 1 0) e
 
-    overshoot-tells : (class : ℕ) → class < length classes → ClassFailsAgain bytes plan its-course i class ↔ (0 < recordedOvershoot bytes results i class)
+    overshoot-tells : (class : ℕ) → class < length classes → ClassFailsRegraded bytes plan its-course i class ↔ (0 < recordedOvershoot bytes results i class)
     overshoot-tells class known =
         let rule = rule-two bytes plan passed right i class known in
         let is = recorded-overshoot bytes plan buffer answer results accepted i at class known in (
           λ fails. omega (arith, is, rule .over-by fails, fails),
           λ positive.
               ⊎-elim (λ fails. fails) (λ none. absurd (omega (arith, is, positive, rule .not-over (omega (arith, none)))))
-              (over-or-not (toleranceIn plan (designatedIn plan) class + limitIn plan (designatedIn plan) class)
+              (over-or-not (toleranceIn plan (secondDesignated plan) class + limitIn plan (secondDesignated plan) class)
               (its-course .cusum i class + tenTimesCount bytes i class)),
         )
 
@@ -397,9 +397,9 @@ module _ (bytes plan buffer : List ℕ) (answer : Answer) (results : List ℕ) (
         }
 
   code-grades : (i : ℕ) → UnitAt bytes i → WorstOfCode bytes results i
-  unfolding regradedCode sheetAgain sheetUnder
+  unfolding regradedCode regradedSheet sheetUnder
   code-grades =
-      worst-of-code bytes results (regradedPortion (sheetAgain bytes plan)) (recorded-portion bytes plan buffer answer results accepted)
+      worst-of-code bytes results (regradedPortion (regradedSheet bytes plan)) (recorded-portion bytes plan buffer answer results accepted)
       (recorded-code-grade bytes plan buffer answer results accepted)
 
 pub regrade-graded : RegradeGraded
@@ -408,7 +408,7 @@ regrade-graded bytes plan buffer answer results accepted =
     let facts = its-facts bytes plan buffer answer results accepted in
     let second = second-facts bytes plan buffer answer results accepted in
     record {
-      course = courseAgain bytes plan;
+      course = regradedCourse bytes plan;
       rules = rules bytes plan facts second;
       only-course-before = λ other others i class inside known. same-before bytes plan facts second other others i inside class known;
       only-course = only-course bytes plan facts second;
@@ -418,7 +418,7 @@ regrade-graded bytes plan buffer answer results accepted =
       only-units-fail = only-units-fail bytes plan facts second;
       numbers = numbers-here bytes plan facts second;
       tenths-of-none = λ class from. refl;
-      tenths-go-on = tenths-go-on (sheetAgain bytes plan);
+      tenths-go-on = tenths-go-on (regradedSheet bytes plan);
       tenths-of-unit = tenths-of-unit bytes plan facts second;
       tenths-of-other = tenths-of-other bytes plan facts second;
       same-records = same-records bytes facts;

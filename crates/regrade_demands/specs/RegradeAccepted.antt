@@ -20,18 +20,18 @@ abbrev pub RegradedAs : List ℕ → List ℕ → List ℕ → Answer → List �
 RegradedAs bytes plan buffer answer results = AcceptedBy (λ sheet room. regradeOutcome sheet plan room) bytes buffer answer results
 
 -- the sheet's records behind the second plan, as the definitions grade them: failures are told from it, never from the result records
-unfoldable pub sheetAgain : List ℕ → List ℕ → Sheet
-sheetAgain bytes plan = sheetUnder bytes (planOf plan) (recordsIn bytes)
+unfoldable pub regradedSheet : List ℕ → List ℕ → Sheet
+regradedSheet bytes plan = sheetUnder bytes (planOf plan) (recordsIn bytes)
 
 -- the second plan's designated grade, which is that of the plan in force for every unit
-abbrev pub designatedIn : List ℕ → ℕ
-designatedIn plan = byte plan gradeOffset
+abbrev pub secondDesignated : List ℕ → ℕ
+secondDesignated plan = byte plan gradeOffset
 
 -- S, T and L of a class in that plan
-abbrev pub numbersAgain : List ℕ → List ℕ → ℕ → PlanNumbers
-numbersAgain bytes plan class = numbersOf (sheetAgain bytes plan .table) (sheetAgain bytes plan .designated) class
+abbrev pub secondNumbers : List ℕ → List ℕ → ℕ → PlanNumbers
+secondNumbers bytes plan class = numbersOf (regradedSheet bytes plan .table) (regradedSheet bytes plan .designated) class
 
 -- record j is a unit at which the class fails, by rule 2
-unfoldable pub failsAgainAt : Sheet → ℕ → ℕ → Bool
-failsAgainAt sheet class j =
+unfoldable pub failsRegradedAt : Sheet → ℕ → ℕ → Bool
+failsRegradedAt sheet class j =
     isUnitThat (λ unit. classFails (sheet .table) (sheet .designated) (cusumsBefore sheet j) (tenthsOf unit) class) (sheet .entry j)

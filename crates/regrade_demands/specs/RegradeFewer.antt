@@ -9,10 +9,10 @@ use Rattle.units.specs.Words.{classes}
 use Rattle.outcome.specs.declared.Answer.{Answer}
 use Rattle.tally.specs.Accepted.{UnitAt, recordedCusum, recordedOvershoot, recordedPortionGrade, recordedCodeGrade}
 use Rattle.alike.specs.Alike.{Alike, NoMore}
-use Rattle.regrade_demands.specs.RegradeAccepted.{RegradedAs, sheetAgain, failsAgainAt}
+use Rattle.regrade_demands.specs.RegradeAccepted.{RegradedAs, regradedSheet, failsRegradedAt}
 
 -- two accepted regradings under the same second plan, of sheets alike except that no count in the first exceeds its fellow in the second
-pub record FewerAgain (bytes bytes' plan buffer buffer' : List ℕ) (answer answer' : Answer) (results results' : List ℕ) : Type 0 where
+pub record FewerRegraded (bytes bytes' plan buffer buffer' : List ℕ) (answer answer' : Answer) (results results' : List ℕ) : Type 0 where
   pub first : RegradedAs bytes plan buffer answer results
   pub second : RegradedAs bytes' plan buffer' answer' results'
   pub alike : Alike bytes bytes'
@@ -24,7 +24,7 @@ pub record NoWorseAt (bytes bytes' plan results results' : List ℕ) (i : ℕ) :
   pub cusums : (class : ℕ) → class < length classes → recordedCusum bytes results i class ≤ recordedCusum bytes' results' i class
   pub overshoots : (class : ℕ) → class < length classes → recordedOvershoot bytes results i class ≤ recordedOvershoot bytes' results' i class
   pub failures : (class : ℕ) → class < length classes
-      → failsAgainAt (sheetAgain bytes plan) class i ≡ true → failsAgainAt (sheetAgain bytes' plan) class i ≡ true
+      → failsRegradedAt (regradedSheet bytes plan) class i ≡ true → failsRegradedAt (regradedSheet bytes' plan) class i ≡ true
   pub portions : recordedPortionGrade bytes results i ≤ recordedPortionGrade bytes' results' i
   pub codes : recordedCodeGrade bytes results i ≤ recordedCodeGrade bytes' results' i
 
@@ -32,4 +32,4 @@ pub record NoWorseAt (bytes bytes' plan results results' : List ℕ) (i : ℕ) :
 abbrev pub RegradeFewerDefects : Type 0
 RegradeFewerDefects =
     (bytes bytes' plan buffer buffer' : List ℕ) (answer answer' : Answer) (results results' : List ℕ)
-    → FewerAgain bytes bytes' plan buffer buffer' answer answer' results results' → (i : ℕ) → UnitAt bytes i → NoWorseAt bytes bytes' plan results results' i
+    → FewerRegraded bytes bytes' plan buffer buffer' answer answer' results results' → (i : ℕ) → UnitAt bytes i → NoWorseAt bytes bytes' plan results results' i

@@ -22,7 +22,7 @@ pub data SecondPlanWrong (plan : List ℕ) : Type 0 where
   plan-ground : {number : ℕ} → PlanRow plan number → SecondPlanWrong plan
 
 -- 14: "a CuSum too large for two bytes"
-pub record CusumAboveAgain (bytes plan : List ℕ) : Type 0 where
+pub record CusumAboveRegraded (bytes plan : List ℕ) : Type 0 where
   pub records : ℕ
   pub filled : FilledBy bytes records
   pub i : ℕ
@@ -36,7 +36,7 @@ pub record CusumAboveAgain (bytes plan : List ℕ) : Type 0 where
 pub data LastRow (bytes plan buffer : List ℕ) : ℕ → Type 0 where
   row18 : SecondPlanWrong plan → LastRow bytes plan buffer 18
   row13 : BufferShort bytes buffer → LastRow bytes plan buffer 13
-  row14 : CusumAboveAgain bytes plan → LastRow bytes plan buffer 14
+  row14 : CusumAboveRegraded bytes plan → LastRow bytes plan buffer 14
 
 abbrev pub regradeGrounds : List ℕ → List ℕ → List ℕ → Grounds
 regradeGrounds bytes plan buffer =

@@ -16,7 +16,7 @@ use Rattle.tally.specs.Accepted.{recordedCusum, recordedOvershoot, recordedPort
 use Rattle.answers.specs.Grounds.{IsBreak}
 use Rattle.courses.specs.Demand2.{recordedMark, recordedPlanGrade, recordedStanding}
 use Rattle.regrade.specs.Outcome.{regradeOutcome}
-use Rattle.regrade_demands.specs.RegradeAccepted.{sheetAgain, numbersAgain, failsAgainAt}
+use Rattle.regrade_demands.specs.RegradeAccepted.{regradedSheet, secondNumbers, failsRegradedAt}
 use Rattle.regrade_demands.specs.RegradeGrounds.{regradeGrounds}
 use Rattle.regrade_demands.specs.RegradeLargest.{RegradeAnchor}
 use Rattle.regrade_demands.specs.RegradeSheets.{buyerB, twoFailuresBeforeRedesignation, twoFailuresBeforeRedesignationResults, fiveMinorDefectsFewer, fiveMinorDefectsFewerResults, failureOfSecondPlan}
@@ -50,8 +50,8 @@ pub record NoWorseInstance (buffer buffer' : List ℕ) (i : ℕ) : Type 0 where
       → recordedCusum fiveMinorDefectsFewer (fewerLeft buffer) i class ≤ recordedCusum twoFailuresBeforeRedesignation (moreLeft buffer') i class
   pub overshoots : (class : ℕ) → class < length classes
       → recordedOvershoot fiveMinorDefectsFewer (fewerLeft buffer) i class ≤ recordedOvershoot twoFailuresBeforeRedesignation (moreLeft buffer') i class
-  pub failures : (class : ℕ) → class < length classes → failsAgainAt (sheetAgain fiveMinorDefectsFewer buyerB) class i ≡ true
-      → failsAgainAt (sheetAgain twoFailuresBeforeRedesignation buyerB) class i ≡ true
+  pub failures : (class : ℕ) → class < length classes → failsRegradedAt (regradedSheet fiveMinorDefectsFewer buyerB) class i ≡ true
+      → failsRegradedAt (regradedSheet twoFailuresBeforeRedesignation buyerB) class i ≡ true
   pub portions : recordedPortionGrade fiveMinorDefectsFewer (fewerLeft buffer) i ≤ recordedPortionGrade twoFailuresBeforeRedesignation (moreLeft buffer') i
   pub codes : recordedCodeGrade fiveMinorDefectsFewer (fewerLeft buffer) i ≤ recordedCodeGrade twoFailuresBeforeRedesignation (moreLeft buffer') i
 
@@ -73,16 +73,16 @@ pub record RegradeInstances : Type 0 where
   -- demand 3: from any latest anchor of each of the four units, wherever it lies, in every class
   pub largest-of : (buffer : List ℕ) → resultSize * 4 ≤ length buffer → (i : ℕ) → OneOfFour i → (class : ℕ) → class < length classes
       → (from records : ℕ) (failed : Bool) → from + records ≡ suc i → RegradeAnchor twoFailuresBeforeRedesignation buyerB class i from failed
-      → ((j : ℕ) → from ≤ j → j ≤ i → failsAgainAt (sheetAgain twoFailuresBeforeRedesignation buyerB) class j ≡ false)
+      → ((j : ℕ) → from ≤ j → j ≤ i → failsRegradedAt (regradedSheet twoFailuresBeforeRedesignation buyerB) class j ≡ false)
       → ((j : ℕ) → from ≤ j → j < i → IsBreak twoFailuresBeforeRedesignation j → ⊥)
       → pos (recordedCusum twoFailuresBeforeRedesignation (moreLeft buffer) i class)
-      ≡ largestForm (numbersAgain twoFailuresBeforeRedesignation buyerB class) (anchorValue (numbersAgain twoFailuresBeforeRedesignation buyerB class) failed)
-      (tenthsFrom (sheetAgain twoFailuresBeforeRedesignation buyerB) class from records)
+      ≡ largestForm (secondNumbers twoFailuresBeforeRedesignation buyerB class) (anchorValue (secondNumbers twoFailuresBeforeRedesignation buyerB class) failed)
+      (tenthsFrom (regradedSheet twoFailuresBeforeRedesignation buyerB) class from records)
   -- and of total at record 3 in numbers: L at the failure of record 1, and 9 defects since it, as the redesignation is no restart
   pub anchor-of-failure : RegradeAnchor twoFailuresBeforeRedesignation buyerB 3 3 2 true
-  pub tenths-since : tenthsFrom (sheetAgain twoFailuresBeforeRedesignation buyerB) 3 2 2 ≡ 90 ∷ []
-  pub largest-in-numbers : largestForm (numbersAgain twoFailuresBeforeRedesignation buyerB 3)
-      (anchorValue (numbersAgain twoFailuresBeforeRedesignation buyerB 3) true) (90 ∷ [])
+  pub tenths-since : tenthsFrom (regradedSheet twoFailuresBeforeRedesignation buyerB) 3 2 2 ≡ 90 ∷ []
+  pub largest-in-numbers : largestForm (secondNumbers twoFailuresBeforeRedesignation buyerB 3)
+      (anchorValue (secondNumbers twoFailuresBeforeRedesignation buyerB 3) true) (90 ∷ [])
       ≡ pos 55
   -- the pair: alike but for five minor defects of record 1. No unit is worse, behind the two failures in a row of the second and behind the
   -- redesignation, too; at records 1 and 3 the first is better, and so is its code behind the break
@@ -96,5 +96,5 @@ pub record RegradeInstances : Type 0 where
       → recordedOvershoot fiveMinorDefectsFewer (fewerLeft buffer) 1 3 < recordedOvershoot twoFailuresBeforeRedesignation (moreLeft buffer') 1 3
   pub better-code : (buffer buffer' : List ℕ)
       → recordedCodeGrade fiveMinorDefectsFewer (fewerLeft buffer) 5 < recordedCodeGrade twoFailuresBeforeRedesignation (moreLeft buffer') 5
-  pub fails-only-in-second : (failsAgainAt (sheetAgain fiveMinorDefectsFewer buyerB) 3 1 ≡ false)
-      × (failsAgainAt (sheetAgain twoFailuresBeforeRedesignation buyerB) 3 1 ≡ true)
+  pub fails-only-in-second : (failsRegradedAt (regradedSheet fiveMinorDefectsFewer buyerB) 3 1 ≡ false)
+      × (failsRegradedAt (regradedSheet twoFailuresBeforeRedesignation buyerB) 3 1 ≡ true)

@@ -12,14 +12,14 @@ use Rattle.outcome.specs.declared.Answer.{Answer}
 use Rattle.anchors.specs.Anchor.{tenthsFrom}
 use Rattle.tally.specs.Accepted.{UnitAt, recordedCusum}
 use Rattle.answers.specs.Grounds.{IsBreak}
-use Rattle.regrade_demands.specs.RegradeAccepted.{RegradedAs, sheetAgain, numbersAgain, failsAgainAt}
+use Rattle.regrade_demands.specs.RegradeAccepted.{RegradedAs, regradedSheet, secondNumbers, failsRegradedAt}
 
 -- an anchor of the class for the unit that is record i, right before record `from`: S at the opening or at a break before the unit, L (true)
 -- at a failing unit, this one included
 pub data RegradeAnchor (bytes plan : List ℕ) (class i : ℕ) : ℕ → Bool → Type 0 where
   at-opening : RegradeAnchor bytes plan class i 0 false
   at-break : (j : ℕ) → j < i → IsBreak bytes j → RegradeAnchor bytes plan class i (suc j) false
-  at-failure : (j : ℕ) → j ≤ i → failsAgainAt (sheetAgain bytes plan) class j ≡ true → RegradeAnchor bytes plan class i (suc j) true
+  at-failure : (j : ℕ) → j ≤ i → failsRegradedAt (regradedSheet bytes plan) class j ≡ true → RegradeAnchor bytes plan class i (suc j) true
 
 -- the latest anchor of the class for that unit: from record `from` on there is no failure of the class, record i's included, and no break
 -- before record i. So many records lie from there to this unit's, none if the anchor lies at this unit
@@ -29,7 +29,7 @@ pub record RegradeAnchorAt (bytes plan : List ℕ) (i class : ℕ) : Type 0 wher
   pub failed : Bool
   pub to-this-unit : from + records ≡ suc i
   pub is-anchor : RegradeAnchor bytes plan class i from failed
-  pub no-failure : (j : ℕ) → from ≤ j → j ≤ i → failsAgainAt (sheetAgain bytes plan) class j ≡ false
+  pub no-failure : (j : ℕ) → from ≤ j → j ≤ i → failsRegradedAt (regradedSheet bytes plan) class j ≡ false
   pub no-break : (j : ℕ) → from ≤ j → j < i → IsBreak bytes j → ⊥
 
 -- there is such an anchor, and with any such anchor the recorded CuSum is the largest of zero, the anchor plus the sum of defects less T
@@ -38,8 +38,8 @@ pub record RegradeLargestOf (bytes plan results : List ℕ) (i class : ℕ) : Ty
   pub an-anchor : RegradeAnchorAt bytes plan i class
   pub largest-of : (anchor : RegradeAnchorAt bytes plan i class) →
       pos (recordedCusum bytes results i class)
-      ≡ largestForm (numbersAgain bytes plan class) (anchorValue (numbersAgain bytes plan class) (anchor .failed))
-      (tenthsFrom (sheetAgain bytes plan) class (anchor .from) (anchor .records))
+      ≡ largestForm (secondNumbers bytes plan class) (anchorValue (secondNumbers bytes plan class) (anchor .failed))
+      (tenthsFrom (regradedSheet bytes plan) class (anchor .from) (anchor .records))
 
 -- for every accepted regrading, whatever the sheet lists: at every unit, for every class
 abbrev pub RegradeLargestForm : Type 0

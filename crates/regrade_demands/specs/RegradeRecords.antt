@@ -17,7 +17,7 @@ use Rattle.tally.specs.Accepted.{UnitAt, recordedCusum, recordedOvershoot, reco
 use Rattle.answers.specs.Grounds.{startIn, toleranceIn, limitIn, IsRedesignation, IsBreak}
 use Rattle.courses.specs.Course.{tenTimesCount, prerequisite}
 use Rattle.courses.specs.Demand2.{recordedMark, recordedCode, recordedPlanGrade, recordedStanding, codeOf, WorstOfCode, SameRecords}
-use Rattle.regrade_demands.specs.RegradeAccepted.{RegradedAs, sheetAgain, designatedIn, numbersAgain, failsAgainAt}
+use Rattle.regrade_demands.specs.RegradeAccepted.{RegradedAs, regradedSheet, secondDesignated, secondNumbers, failsRegradedAt}
 
 -- before record i the CuSum of each class; of the unit that is record i its CuSums, its overshoots and its defect grade. CuSums and
 -- overshoots are tenths
@@ -38,55 +38,55 @@ pub record RuleTwoBy (reached tolerance limit new over : ℕ) : Type 0 where
 
 module _ (bytes plan : List ℕ) (course : RegradeCourse) where
   -- old CuSum + ten times the count; the raw value is this less T
-  abbrev pub reachedAgain : ℕ → ℕ → ℕ
-  reachedAgain i class = course .cusum i class + tenTimesCount bytes i class
+  abbrev pub reachedRegraded : ℕ → ℕ → ℕ
+  reachedRegraded i class = course .cusum i class + tenTimesCount bytes i class
 
   -- S, T and L of a class in the plan of the second plan's designated grade
-  abbrev pub startAgain : ℕ → ℕ
-  startAgain class = startIn plan (designatedIn plan) class
+  abbrev pub secondStart : ℕ → ℕ
+  secondStart class = startIn plan (secondDesignated plan) class
 
-  abbrev pub toleranceAgain : ℕ → ℕ
-  toleranceAgain class = toleranceIn plan (designatedIn plan) class
+  abbrev pub secondTolerance : ℕ → ℕ
+  secondTolerance class = toleranceIn plan (secondDesignated plan) class
 
-  abbrev pub limitAgain : ℕ → ℕ
-  limitAgain class = limitIn plan (designatedIn plan) class
+  abbrev pub secondLimit : ℕ → ℕ
+  secondLimit class = limitIn plan (secondDesignated plan) class
 
   -- a class fails at a unit: the raw value is above L
-  abbrev pub ClassFailsAgain : ℕ → ℕ → Type 0
-  ClassFailsAgain i class = toleranceAgain class + limitAgain class < reachedAgain i class
+  abbrev pub ClassFailsRegraded : ℕ → ℕ → Type 0
+  ClassFailsRegraded i class = secondTolerance class + secondLimit class < reachedRegraded i class
 
   -- rule 3: a unit fails if a class fails
-  pub record UnitFailsAgain (i : ℕ) : Type 0 where
+  pub record UnitFailsRegraded (i : ℕ) : Type 0 where
     pub class : ℕ
     pub a-class : class < length classes
-    pub fails : ClassFailsAgain i class
+    pub fails : ClassFailsRegraded i class
 
   -- a grade of the second plan admits the counts: its T+L is not exceeded by ten times the count in any class
-  abbrev pub AdmitsAgain : ℕ → ℕ → Type 0
-  AdmitsAgain i grade = (class : ℕ) → class < length classes → tenTimesCount bytes i class ≤ toleranceIn plan grade class + limitIn plan grade class
+  abbrev pub AdmitsUnder : ℕ → ℕ → Type 0
+  AdmitsUnder i grade = (class : ℕ) → class < length classes → tenTimesCount bytes i class ≤ toleranceIn plan grade class + limitIn plan grade class
 
   -- a grade is the best lower one that admits the counts; it is Substandard exactly if none does
-  pub record BestLowerAgain (i grade : ℕ) : Type 0 where
-    pub lower : designatedIn plan < grade
+  pub record BestLowerUnder (i grade : ℕ) : Type 0 where
+    pub lower : secondDesignated plan < grade
     pub a-grade : grade ≤ substandard
-    pub admits : grade < substandard → AdmitsAgain i grade
-    pub none-better : (better : ℕ) → designatedIn plan < better → better < grade → AdmitsAgain i better → ⊥
+    pub admits : grade < substandard → AdmitsUnder i grade
+    pub none-better : (better : ℕ) → secondDesignated plan < better → better < grade → AdmitsUnder i better → ⊥
 
-  pub record RuleThreeAgain (i : ℕ) : Type 0 where
-    pub meets : (UnitFailsAgain i → ⊥) → course .defectGrade i ≡ designatedIn plan
-    pub fails : UnitFailsAgain i → BestLowerAgain i (course .defectGrade i)
+  pub record RuleThreeUnder (i : ℕ) : Type 0 where
+    pub meets : (UnitFailsRegraded i → ⊥) → course .defectGrade i ≡ secondDesignated plan
+    pub fails : UnitFailsRegraded i → BestLowerUnder i (course .defectGrade i)
 
   pub record RegradeRules : Type 0 where
     -- the opening: every class at its S
-    pub opening : (class : ℕ) → class < length classes → course .cusum 0 class ≡ startAgain class
+    pub opening : (class : ℕ) → class < length classes → course .cusum 0 class ≡ secondStart class
     -- units, graded by rules 2 and 3 under the second plan's designated grade
     pub rule-two : (i class : ℕ) → UnitAt bytes i → class < length classes
-        → RuleTwoBy (reachedAgain i class) (toleranceAgain class) (limitAgain class) (course .newCusum i class) (course .overshoot i class)
-    pub rule-three : (i : ℕ) → UnitAt bytes i → RuleThreeAgain i
+        → RuleTwoBy (reachedRegraded i class) (secondTolerance class) (secondLimit class) (course .newCusum i class) (course .overshoot i class)
+    pub rule-three : (i : ℕ) → UnitAt bytes i → RuleThreeUnder i
     -- behind a unit its CuSums go on, whether it failed or not and whatever failed before it: "the rule of two in a row doesn't apply"
     pub unit-goes-on : (i class : ℕ) → UnitAt bytes i → class < length classes → course .cusum (suc i) class ≡ course .newCusum i class
     -- "breaks restart"
-    pub break-restarts : (i class : ℕ) → IsBreak bytes i → class < length classes → course .cusum (suc i) class ≡ startAgain class
+    pub break-restarts : (i class : ℕ) → IsBreak bytes i → class < length classes → course .cusum (suc i) class ≡ secondStart class
     -- "redesignations are passed over"
     pub redesignation-passed : (i class : ℕ) → IsRedesignation bytes i → class < length classes → course .cusum (suc i) class ≡ course .cusum i class
 
@@ -95,21 +95,21 @@ pub record RegradeRecorded (bytes plan results : List ℕ) (course : RegradeCour
   pub mark : recordedMark bytes results i ≡ 0x4752
   -- (that the sheet is made of bytes, as every sheet is, the other fields need not know)
   pub code : ((place : ℕ) → byte bytes place < 256) → recordedCode bytes results i ≡ codeOf bytes i
-  pub plan-grade : recordedPlanGrade bytes results i ≡ designatedIn plan
+  pub plan-grade : recordedPlanGrade bytes results i ≡ secondDesignated plan
   pub cusums : (class : ℕ) → class < length classes → recordedCusum bytes results i class ≡ course .newCusum i class
   pub overshoots : (class : ℕ) → class < length classes → recordedOvershoot bytes results i class ≡ course .overshoot i class
   -- a class fails exactly if its overshoot is above zero
-  pub overshoot-tells : (class : ℕ) → class < length classes → ClassFailsAgain bytes plan course i class ↔ (0 < recordedOvershoot bytes results i class)
+  pub overshoot-tells : (class : ℕ) → class < length classes → ClassFailsRegraded bytes plan course i class ↔ (0 < recordedOvershoot bytes results i class)
   -- and no class is over by more than its own defects at this unit
   pub overshoot-at-most : (class : ℕ) → class < length classes → recordedOvershoot bytes results i class ≤ tenTimesCount bytes i class
   -- rule 4, "Prerequisites and codes count as before": no portion is recovered
   pub portion : recordedPortionGrade bytes results i ≡ worse (course .defectGrade i) (prerequisite bytes i)
   -- "standing is 0 or 1": met, failed
-  pub standing-met : (UnitFailsAgain bytes plan course i → ⊥) → recordedStanding bytes results i ≡ 0
-  pub standing-failed : UnitFailsAgain bytes plan course i → recordedStanding bytes results i ≡ 1
+  pub standing-met : (UnitFailsRegraded bytes plan course i → ⊥) → recordedStanding bytes results i ≡ 0
+  pub standing-failed : UnitFailsRegraded bytes plan course i → recordedStanding bytes results i ≡ 1
 
 -- two courses agree at the unit that is record i
-pub record SameAgainAt (course other : RegradeCourse) (i : ℕ) : Type 0 where
+pub record SameRegradedAt (course other : RegradeCourse) (i : ℕ) : Type 0 where
   pub new-cusums : (class : ℕ) → class < length classes → course .newCusum i class ≡ other .newCusum i class
   pub overshoots : (class : ℕ) → class < length classes → course .overshoot i class ≡ other .overshoot i class
   pub defect-grade : course .defectGrade i ≡ other .defectGrade i
@@ -121,26 +121,26 @@ pub record RegradedByRules (bytes plan results : List ℕ) : Type 0 where
   -- every other course that follows the rules agrees with it before every record and behind the last, and at every unit
   pub only-course-before : (other : RegradeCourse) → RegradeRules bytes plan other → (i class : ℕ) → i ≤ recordsIn bytes → class < length classes
       → course .cusum i class ≡ other .cusum i class
-  pub only-course : (other : RegradeCourse) → RegradeRules bytes plan other → (i : ℕ) → UnitAt bytes i → SameAgainAt course other i
+  pub only-course : (other : RegradeCourse) → RegradeRules bytes plan other → (i : ℕ) → UnitAt bytes i → SameRegradedAt course other i
   pub recorded : (i : ℕ) → UnitAt bytes i → RegradeRecorded bytes plan results course i
   -- "Prerequisites and codes count as before": the worst portion grade among all units of the sheet with that code
   pub code-grades : (i : ℕ) → UnitAt bytes i → WorstOfCode bytes results i
   -- words of demand 3 mean what the course says and what the bytes say: a class fails; S, T and L; the counts of a class; records and units
   pub class-fails : (i class : ℕ) → UnitAt bytes i → class < length classes
-      → Tells (failsAgainAt (sheetAgain bytes plan) class i) (ClassFailsAgain bytes plan course i class)
-  pub only-units-fail : (i class : ℕ) → (UnitAt bytes i → ⊥) → failsAgainAt (sheetAgain bytes plan) class i ≡ false
+      → Tells (failsRegradedAt (regradedSheet bytes plan) class i) (ClassFailsRegraded bytes plan course i class)
+  pub only-units-fail : (i class : ℕ) → (UnitAt bytes i → ⊥) → failsRegradedAt (regradedSheet bytes plan) class i ≡ false
   pub numbers : (class : ℕ) → class < length classes →
-      let numbers = numbersAgain bytes plan class in
-      (numbers .start ≡ startIn plan (designatedIn plan) class)
-      × (numbers .tolerance ≡ toleranceIn plan (designatedIn plan) class)
-      × (numbers .limit ≡ limitIn plan (designatedIn plan) class)
+      let numbers = secondNumbers bytes plan class in
+      (numbers .start ≡ startIn plan (secondDesignated plan) class)
+      × (numbers .tolerance ≡ toleranceIn plan (secondDesignated plan) class)
+      × (numbers .limit ≡ limitIn plan (secondDesignated plan) class)
   -- the counts of a class from a record on: none of no record, and one for each further record that is a unit
-  pub tenths-of-none : (class from : ℕ) → tenthsFrom (sheetAgain bytes plan) class from 0 ≡ []
+  pub tenths-of-none : (class from : ℕ) → tenthsFrom (regradedSheet bytes plan) class from 0 ≡ []
   pub tenths-go-on : (class from records : ℕ) →
-      let tenths = tenthsFrom (sheetAgain bytes plan) class in
+      let tenths = tenthsFrom (regradedSheet bytes plan) class in
       tenths from (suc records) ≡ tenths from records ++ tenths (from + records) 1
-  pub tenths-of-unit : (i class : ℕ) → UnitAt bytes i → tenthsFrom (sheetAgain bytes plan) class i 1 ≡ tenTimesCount bytes i class ∷ []
-  pub tenths-of-other : (i class : ℕ) → (UnitAt bytes i → ⊥) → tenthsFrom (sheetAgain bytes plan) class i 1 ≡ []
+  pub tenths-of-unit : (i class : ℕ) → UnitAt bytes i → tenthsFrom (regradedSheet bytes plan) class i 1 ≡ tenTimesCount bytes i class ∷ []
+  pub tenths-of-other : (i class : ℕ) → (UnitAt bytes i → ⊥) → tenthsFrom (regradedSheet bytes plan) class i 1 ≡ []
   -- which records the sheet has, and which of them are units
   pub same-records : SameRecords bytes
 
