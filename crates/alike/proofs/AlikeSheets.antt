@@ -123,6 +123,12 @@ module _ (bytes bytes' : List ℕ) (alike : Alike bytes bytes') where
       go (inr (inl same)) = same
       go (inr (inr less)) = absurd (omega (arith, facts' .end, facts .within n' less .0, same-offsets n', alike .same-length))
 
+  -- the fellow of a unit is a unit
+  pub unit-fellow : Facts bytes' (recordsIn bytes') → (i : ℕ) → UnitAt bytes i → UnitAt bytes' i
+  unit-fellow facts' i at =
+      let is-unit : mark bytes' i ≡ UnitMark = sym (same-marks i) ∙ at .is-unit in
+      record { inside = inside-unit bytes' (recordsIn bytes') (facts' .end) i is-unit; is-unit = is-unit }
+
   module _ (facts : Facts bytes (recordsIn bytes)) where
     unit-at : (i : ℕ) → mark bytes i ≡ UnitMark → UnitAt bytes i
     unit-at i e = record { inside = inside-unit bytes (recordsIn bytes) (facts .end) i e; is-unit = e }

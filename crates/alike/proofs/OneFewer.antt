@@ -1,6 +1,6 @@
 -- Two sheets that differ in one byte of a count, which is smaller in the first, are alike, and no count in the first exceeds its fellow.
 -- Bytes other than the one that differs by the law of a store.
-use Prim.Native.Nat.{ℕ, _+_, _*_, _≤_, _<_}
+use Prim.Native.Nat.{ℕ, _+_, _≤_, _<_}
 use mathlib.Core.Path.{_≡_, refl, sym, subst, _∙_, ap}
 use mathlib.Core.Bool.{Bool, true, false}
 use mathlib.Core.List.{List}

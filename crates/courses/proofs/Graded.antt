@@ -16,7 +16,7 @@ use Rattle.encoding.specs.Bytes.{byte}
 use Rattle.units.specs.Words.{substandard, hasPlan, classes, worse, rowOf, inClass, numbersOf, tenthsOf, countTenths, tenthsIn}
 use Rattle.units.specs.Unit.{starting, classFails, classCusum, classOvershoot, unitFails, defectGrade, portionGradeOf}
 use Rattle.units.specs.BestLower.{BestLower}
-use Rattle.units.specs.Records.{isUnitThat, designatedBy, worstBefore}
+use Rattle.units.specs.Records.{isUnitThat, designatedBy}
 use Rattle.units.specs.declared.SampleUnit.{SampleUnit}
 use Rattle.units.specs.declared.Entry.the-variants.{Redesignation, Break}
 use Rattle.units.proofs.BestLower.{best-lower-is}
@@ -45,9 +45,9 @@ use Rattle.sheet.proofs.Ranges.{designated-le, start-le-limit, tolerance-rises}
 use Rattle.recording.specs.Sheet.{sheetOf}
 use Rattle.outcome.specs.declared.Answer.{Answer}
 use Rattle.tally.specs.Outcome.{recordsIn}
-use Rattle.tally.specs.Accepted.{AcceptedAs, sheetIn, UnitAt, recordedOvershoot, recordedPortionGrade, recordedCodeGrade}
+use Rattle.tally.specs.Accepted.{AcceptedAs, sheetIn, UnitAt, recordedOvershoot, recordedPortionGrade}
 use Rattle.tally.proofs.AcceptedSheet.{accepted-sheet}
-use Rattle.tally.proofs.Entries.{unit-is, new-grades}
+use Rattle.tally.proofs.Entries.{new-grades}
 use Rattle.tally.proofs.Overfull.{cusum-graded}
 use Rattle.answers.specs.Grounds.{startIn, toleranceIn, limitIn, newGrade, IsBreak, IsRedesignation}
 use Rattle.courses.specs.Course.{Course, tenTimesCount, prerequisite, ClassFails, UnitFails, SecondFails, SecondFailsLower, Qualifies, AmongThree, Recovered, Restart, RuleTwo, BestLowerGrade, RuleThree, Rules, LowerPlans, SameBefore, SameAt}

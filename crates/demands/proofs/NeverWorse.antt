@@ -2,7 +2,7 @@
 -- these no lower grade.
 -- From the same laws over records: the second sheet is told with the plan and the number of records of the first.
 use Prim.Native.Nat.{ℕ, _≤_, _<_}
-use mathlib.Core.Path.{_≡_, refl, sym, _∙_, subst⁻¹}
+use mathlib.Core.Path.{_≡_, refl, sym, subst⁻¹}
 use mathlib.Core.Bool.{Bool, true, false}
 use mathlib.Core.List.{List}
 use native.Mathlib.Omega.{arith}
@@ -19,11 +19,10 @@ use Rattle.units.specs.declared.Entry.the-variants.{Break}
 use Rattle.anchors.proofs.TwoFailures.{not-second}
 use Rattle.anchors.proofs.Fellows.{Below}
 use Rattle.anchors.proofs.SideBySide.{NoRedesignation, second, fewer-cusums, fewer-grades}
-use Rattle.layout.specs.Layout.{planOf, sampleUnitAt, offset, mark, entryAt}
+use Rattle.layout.specs.Layout.{planOf, sampleUnitAt, offset, entryAt}
 use Rattle.recording.specs.Sheet.{sheetOf}
-use Rattle.layout.specs.declared.Mark.the-variants.{UnitMark}
 use Rattle.sheet.proofs.Accepted.{Facts}
-use Rattle.layout.proofs.Offsets.{past-entry, inside-unit}
+use Rattle.layout.proofs.Offsets.{past-entry}
 use Rattle.layout.proofs.Units.{entry-unit}
 use Rattle.sheet.proofs.Ranges.{designated-le}
 use Rattle.outcome.specs.declared.Answer.{Answer}
@@ -32,7 +31,7 @@ use Rattle.tally.specs.Accepted.{sheetIn, UnitAt}
 use Rattle.demands.specs.Demand3.{FewerDefects, NoHigherAt, NoLowerAt, Demand3FewerDefects}
 use Rattle.tally.proofs.AcceptedSheet.{accepted-sheet}
 use Rattle.courses.proofs.Recorded.{recorded-cusum, recorded-overshoot, recorded-portion, recorded-code-grade}
-use Rattle.alike.proofs.AlikeSheets.{same-plans, same-marks, same-records, fellows-below, no-redesignations}
+use Rattle.alike.proofs.AlikeSheets.{same-plans, unit-fellow, same-records, fellows-below, no-redesignations}
 
 -- behind the last record no unit fails
 never-behind : (bytes : List ℕ) (n : ℕ) → Facts bytes n → ((j : ℕ) → j < n → secondInARow (sheetOf bytes n) j ≡ false)
@@ -71,11 +70,8 @@ module _ (bytes bytes' buffer buffer' : List ℕ) (answer answer' : Answer) (res
     size = sym (same-records bytes bytes' (pair .alike) (recordsIn bytes) (recordsIn bytes') facts facts') k;
   }
 
-  -- the fellow of a unit is a unit
-  unit-fellow : (i : ℕ) → UnitAt bytes i → UnitAt bytes' i
-  unit-fellow i at =
-      let is-unit : mark bytes' i ≡ UnitMark = sym (same-marks bytes bytes' (pair .alike) i) ∙ at .is-unit in
-      record { inside = inside-unit bytes' (recordsIn bytes') (facts' .end) i is-unit; is-unit = is-unit }
+  other : (i : ℕ) → UnitAt bytes i → UnitAt bytes' i
+  other = unit-fellow bytes bytes' (pair .alike) facts'
 
   module _ (i : ℕ) (at : UnitAt bytes i) where
     abbrev unit : SampleUnit
@@ -100,7 +96,7 @@ module _ (bytes bytes' buffer buffer' : List ℕ) (answer answer' : Answer) (res
         ≤ classOvershoot (s .table) (inForceAt s i) (before s i .cusums) (tenthsOf unit') class)
         × (classFailsAt (sheetIn bytes) class i ≡ true → classFailsAt s class i ≡ true)) is-fellow
         (fewer-cusums (tableOf (planOf bytes)) (planOf bytes .designated) (entryAt bytes) (entryAt bytes') (recordsIn bytes) fellows none i unit unit'
-        (entry-unit bytes i (at .is-unit)) (entry-unit bytes' i (unit-fellow i at .is-unit)))
+        (entry-unit bytes i (at .is-unit)) (entry-unit bytes' i (other i at .is-unit)))
 
     no-higher : ((j : ℕ) → j < i → secondInARow (sheetIn bytes') j ≡ false) → NoHigherAt bytes bytes' results results' i
     no-higher never =
@@ -110,14 +106,14 @@ module _ (bytes bytes' buffer buffer' : List ℕ) (answer answer' : Answer) (res
                 arith,
                 compared never class .0,
                 recorded-cusum bytes buffer answer results (pair .first) i at class in-range,
-                recorded-cusum bytes' buffer' answer' results' (pair .second) i (unit-fellow i at) class in-range,
+                recorded-cusum bytes' buffer' answer' results' (pair .second) i (other i at) class in-range,
               );
           overshoots = λ class in-range.
               omega (
                 arith,
                 compared never class .1,
                 recorded-overshoot bytes buffer answer results (pair .first) i at class in-range,
-                recorded-overshoot bytes' buffer' answer' results' (pair .second) i (unit-fellow i at) class in-range,
+                recorded-overshoot bytes' buffer' answer' results' (pair .second) i (other i at) class in-range,
               );
           failures = λ class in-range. compared never class .2;
         }
@@ -132,7 +128,7 @@ module _ (bytes bytes' buffer buffer' : List ℕ) (answer answer' : Answer) (res
         subst⁻¹ (λ (s : Sheet). ((j : ℕ) → secondInARow s j ≡ false)
         → (portionGrade (sheetIn bytes) i unit ≤ portionGrade s i unit') × (codeGrade (sheetIn bytes) (unit .code) ≤ codeGrade s (unit' .code))) is-fellow
         (λ never. fewer-grades (tableOf (planOf bytes)) (planOf bytes .designated) (entryAt bytes) (entryAt bytes') (recordsIn bytes) fellows none
-        (omega arith) never i unit unit' (entry-unit bytes i (at .is-unit)) (entry-unit bytes' i (unit-fellow i at .is-unit)))
+        (omega arith) never i unit unit' (entry-unit bytes i (at .is-unit)) (entry-unit bytes' i (other i at .is-unit)))
 
     no-lower : ((j : ℕ) → j < recordsIn bytes' → secondInARow (sheetIn bytes') j ≡ false) → NoLowerAt bytes bytes' results results' i
     unfolding sheetIn
@@ -144,14 +140,14 @@ module _ (bytes bytes' buffer buffer' : List ℕ) (answer answer' : Answer) (res
                 arith,
                 grades .0,
                 recorded-portion bytes buffer answer results (pair .first) i at,
-                recorded-portion bytes' buffer' answer' results' (pair .second) i (unit-fellow i at),
+                recorded-portion bytes' buffer' answer' results' (pair .second) i (other i at),
               );
           codes =
               omega (
                 arith,
                 grades .1,
                 recorded-code-grade bytes buffer answer results (pair .first) i at,
-                recorded-code-grade bytes' buffer' answer' results' (pair .second) i (unit-fellow i at),
+                recorded-code-grade bytes' buffer' answer' results' (pair .second) i (other i at),
               );
         }
 

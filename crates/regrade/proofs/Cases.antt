@@ -10,9 +10,8 @@ use borrow.Author.Tests.{lt-ltb, le-ltb}
 use Rattle.cusum.specs.Step.{largestTenths}
 use Rattle.encoding.specs.Bytes.{byte}
 use Rattle.units.specs.Conditions.{pick}
-use Rattle.units.specs.Words.{substandard, classes, tenthsIn, tenthsOf, tableOf}
-use Rattle.units.specs.Unit.{classCusum, newCusums, defectGrade}
-use Rattle.units.specs.Records.{unitsAmong}
+use Rattle.units.specs.Words.{classes, tenthsIn, tenthsOf}
+use Rattle.units.specs.Unit.{classCusum, newCusums}
 use Rattle.units.specs.declared.Plan.{Plan}
 use Rattle.units.specs.declared.SampleUnit.{SampleUnit}
 use Rattle.units.specs.declared.Entry.the-variants.{UnitRecord}

@@ -12,7 +12,6 @@ use Rattle.units.specs.Words.{Table, tableOf, rowOf, tenthsOf}
 use Rattle.units.specs.Unit.{starting, gradingOf}
 use Rattle.units.specs.Records.{unitsOf, unitsAmong}
 use Rattle.units.specs.declared.Plan.{Plan}
-use Rattle.units.specs.declared.SampleUnit.{SampleUnit}
 use Rattle.units.specs.declared.Entry.{Entry}
 use Rattle.rules.specs.Sheet.{Sheet}
 use Rattle.layout.specs.Layout.{entryAt, unitsBefore}

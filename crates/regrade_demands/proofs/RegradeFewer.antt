@@ -1,14 +1,13 @@
 -- Fewer defects never grade worse in a regrading, through the whole sheet: before every record no CuSum of the first sheet is higher, by
 -- induction on the records, as a failure starts nothing; the rest follows unit by unit from the laws of a unit.
-use Prim.Native.Nat.{ℕ, zero, suc, _+_, _≤_, _<_}
-use mathlib.Core.Path.{_≡_, sym, _∙_, subst⁻¹, subst₂, ap}
+use Prim.Native.Nat.{ℕ, zero, suc, _≤_}
+use mathlib.Core.Path.{_≡_, sym, subst⁻¹, subst₂, ap}
 use mathlib.Core.Bool.{true}
 use mathlib.Core.List.{List}
 use native.Mathlib.Omega.{arith}
-use lib.ListN.{length}
 use Rattle.cusum.specs.declared.Cusum.{Cusum}
 use Rattle.units.specs.Words.{substandard, Table, rowOf, tenthsOf, tableOf}
-use Rattle.units.specs.Unit.{starting, classCusum, classOvershoot, gradingOf}
+use Rattle.units.specs.Unit.{starting, classCusum, classOvershoot}
 use Rattle.units.specs.Records.{isUnitThat}
 use Rattle.units.specs.declared.SampleUnit.{SampleUnit}
 use Rattle.units.specs.declared.Entry.{Entry}
@@ -16,18 +15,16 @@ use Rattle.units.specs.declared.Entry.the-variants.{UnitRecord, Redesignation, 
 use Rattle.units.proofs.Monotone.{counts-fewer, NoHigher, same-no-higher, class-cusum-mono, class-overshoot-mono, cusums-mono, class-fails-mono, defect-grade-mono}
 use Rattle.rules.specs.Sheet.{Sheet}
 use Rattle.anchors.proofs.Fellows.{UnitBelow, Below, worst-mono}
-use Rattle.layout.specs.Layout.{planOf, sampleUnitAt, offset, mark, entryAt}
-use Rattle.layout.specs.declared.Mark.the-variants.{UnitMark}
+use Rattle.layout.specs.Layout.{planOf, sampleUnitAt, offset, entryAt}
 use Rattle.layout.proofs.Units.{entry-unit}
-use Rattle.layout.proofs.Offsets.{inside-unit}
 use Rattle.sheet.proofs.Accepted.{Facts}
 use Rattle.sheet.proofs.Ranges.{designated-le}
 use Rattle.outcome.specs.declared.Answer.{Answer}
 use Rattle.tally.specs.Outcome.{recordsIn}
 use Rattle.tally.specs.Accepted.{UnitAt}
-use Rattle.regrade.specs.Regrading.{atStart, cusumsBehind, cusumsBefore, regradedPortion, regradedCode}
+use Rattle.regrade.specs.Regrading.{cusumsBehind, cusumsBefore, regradedPortion, regradedCode}
 use Rattle.regrade.specs.Outcome.{sheetUnder}
-use Rattle.alike.proofs.AlikeSheets.{same-marks, same-records, fellows-below}
+use Rattle.alike.proofs.AlikeSheets.{unit-fellow, same-records, fellows-below}
 use Rattle.regrade_demands.specs.RegradeAccepted.{regradedSheet, failsRegradedAt}
 use Rattle.regrade_demands.specs.RegradeFewer.{FewerRegraded, NoWorseAt, RegradeFewerDefects}
 use Rattle.regrade_demands.proofs.RegradeRecorded.{its-facts, second-facts, recorded-portion, recorded-code-grade, recorded-cusum, recorded-overshoot}
@@ -113,10 +110,8 @@ module _ (bytes bytes' plan buffer buffer' : List ℕ) (answer answer' : Answer)
   unfolding regradedSheet sheetUnder
   is-fellow = ap (sheetUnder bytes' (planOf plan)) (sym (same-records bytes bytes' (pair .alike) (recordsIn bytes) (recordsIn bytes') facts facts'))
 
-  unit-fellow : (i : ℕ) → UnitAt bytes i → UnitAt bytes' i
-  unit-fellow i at =
-      let is-unit : mark bytes' i ≡ UnitMark = sym (same-marks bytes bytes' (pair .alike) i) ∙ at .is-unit in
-      record { inside = inside-unit bytes' (recordsIn bytes') (facts' .end) i is-unit; is-unit = is-unit }
+  other : (i : ℕ) → UnitAt bytes i → UnitAt bytes' i
+  other = unit-fellow bytes bytes' (pair .alike) facts'
 
   module _ (i : ℕ) (at : UnitAt bytes i) where
     abbrev unit : SampleUnit
@@ -140,10 +135,10 @@ module _ (bytes bytes' plan buffer buffer' : List ℕ) (answer answer' : Answer)
         subst⁻¹ (Compared (regradedSheet bytes plan)) is-fellow
         (unfold regradedSheet sheetUnder in (
           fewer-cusums (tableOf (planOf plan)) (planOf plan .designated) (entryAt bytes) (entryAt bytes') (recordsIn bytes) fellows i unit unit'
-              (entry-unit bytes i (at .is-unit)) (entry-unit bytes' i (unit-fellow i at .is-unit)),
+              (entry-unit bytes i (at .is-unit)) (entry-unit bytes' i (other i at .is-unit)),
           fewer-grades (tableOf (planOf plan)) (planOf plan .designated) (entryAt bytes) (entryAt bytes') (recordsIn bytes) fellows
               (omega (arith, designated-le plan 0 (second-facts bytes plan buffer answer results (pair .first)))) i unit unit'
-              (entry-unit bytes i (at .is-unit)) (entry-unit bytes' i (unit-fellow i at .is-unit)),
+              (entry-unit bytes i (at .is-unit)) (entry-unit bytes' i (other i at .is-unit)),
         ))
 
     no-worse : NoWorseAt bytes bytes' plan results results' i
@@ -155,14 +150,14 @@ module _ (bytes bytes' plan buffer buffer' : List ℕ) (answer answer' : Answer)
                 arith,
                 by-class class .0,
                 recorded-cusum bytes plan buffer answer results (pair .first) i at class known,
-                recorded-cusum bytes' plan buffer' answer' results' (pair .second) i (unit-fellow i at) class known,
+                recorded-cusum bytes' plan buffer' answer' results' (pair .second) i (other i at) class known,
               );
           overshoots = λ class known.
               omega (
                 arith,
                 by-class class .1,
                 recorded-overshoot bytes plan buffer answer results (pair .first) i at class known,
-                recorded-overshoot bytes' plan buffer' answer' results' (pair .second) i (unit-fellow i at) class known,
+                recorded-overshoot bytes' plan buffer' answer' results' (pair .second) i (other i at) class known,
               );
           failures = λ class known. by-class class .2;
           portions =
@@ -170,14 +165,14 @@ module _ (bytes bytes' plan buffer buffer' : List ℕ) (answer answer' : Answer)
                 arith,
                 grades .0,
                 recorded-portion bytes plan buffer answer results (pair .first) i at,
-                recorded-portion bytes' plan buffer' answer' results' (pair .second) i (unit-fellow i at),
+                recorded-portion bytes' plan buffer' answer' results' (pair .second) i (other i at),
               );
           codes =
               omega (
                 arith,
                 grades .1,
                 recorded-code-grade bytes plan buffer answer results (pair .first) i at,
-                recorded-code-grade bytes' plan buffer' answer' results' (pair .second) i (unit-fellow i at),
+                recorded-code-grade bytes' plan buffer' answer' results' (pair .second) i (other i at),
               );
         }
 

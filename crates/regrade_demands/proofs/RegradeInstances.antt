@@ -2,7 +2,7 @@
 use Prim.Native.Nat.{ℕ, zero, suc, _+_, _*_, _<_, _≤_}
 use mathlib.Core.Path.{_≡_, refl, sym, _∙_, ap, subst, subst⁻¹}
 use mathlib.Core.Bool.{Bool, true, false}
-use mathlib.Core.List.{List, [], _∷_}
+use mathlib.Core.List.{List}
 use mathlib.Core.Logic.{inl}
 use native.Mathlib.Omega.{arith}
 use lib.Dec.{ltb, lit<, lit≤}
@@ -11,7 +11,7 @@ use borrow.Author.Tests.{ltb-true, ltb-false}
 use Rattle.cusum.specs.Integers.{largestOfZeroAnd, sumℤ, runsToEnd}
 use Rattle.cusum.specs.LargestForm.{tenthsLessT, largestForm, anchorValue}
 use Rattle.encoding.specs.Bytes.{wideNumber}
-use Rattle.units.specs.Words.{classes, substandard}
+use Rattle.units.specs.Words.{classes}
 use Rattle.anchors.specs.Anchor.{tenthsAt, tenthsFrom}
 use Rattle.results.specs.Record.{resultSize}
 use Rattle.outcome.specs.declared.Answer.{Answer}

@@ -1,24 +1,23 @@
 -- What the result buffer of an accepted regrading records of a unit. Fields are read back; no CuSum is above its L, so that each fits in its
 -- two bytes and a class is over by no more than the unit's own defects, which fit in the overshoot's four.
 use Prim.Native.Nat.{ℕ, zero, suc, _*_, _≤_, _<_}
-use mathlib.Core.Path.{_≡_, refl, _∙_}
+use mathlib.Core.Path.{_≡_, _∙_}
 use mathlib.Core.Bool.{cond}
 use mathlib.Core.List.{List}
 use native.Mathlib.Omega.{arith}
 use lib.ListN.{length, drop}
-use Rattle.cusum.specs.declared.Cusum.{Cusum}
 use Rattle.encoding.specs.Bytes.{byte}
-use Rattle.units.specs.Words.{classes, numbersOf, tenthsIn, overshootFor, tenthsOf, countTenths, tableOf}
+use Rattle.units.specs.Words.{classes, numbersOf, tenthsIn, tenthsOf, countTenths}
 use Rattle.units.specs.Unit.{classCusum, classOvershoot, newCusums, newOvershoots, unitFails}
 use Rattle.units.specs.declared.SampleUnit.{SampleUnit}
 use Rattle.units.specs.declared.Entry.{Entry}
 use Rattle.units.specs.declared.Entry.the-variants.{UnitRecord, Redesignation, Break}
 use Rattle.units.proofs.Bounds.{class-cusum-le, class-overshoot-le}
 use Rattle.units.proofs.Classes.{at-class}
-use Rattle.units.proofs.Lists.{map-at, in-none, none-in}
+use Rattle.units.proofs.Lists.{map-at}
 use Rattle.rules.specs.Sheet.{Sheet}
 use Rattle.rules.proofs.FailingUnits.{starts-at}
-use Rattle.layout.specs.Layout.{planOf, sampleUnitAt, offset, unitsBefore}
+use Rattle.layout.specs.Layout.{sampleUnitAt, offset, unitsBefore}
 use Rattle.layout.proofs.Units.{entry-unit}
 use Rattle.sheet.proofs.Accepted.{Facts}
 use Rattle.sheet.proofs.Ranges.{limit-le, start-le-limit, count-le}
@@ -28,7 +27,7 @@ use Rattle.outcome.specs.declared.Answer.{Answer}
 use Rattle.tally.specs.Outcome.{recordsIn}
 use Rattle.tally.specs.Accepted.{UnitAt, recordedCusum, recordedOvershoot, recordedPortionGrade, recordedCodeGrade}
 use Rattle.tally.proofs.Entries.{code-fits}
-use Rattle.regrade.specs.Regrading.{cusumsBehind, cusumsBefore, regradedAt, regradedResult, regradedPortion, regradedCode}
+use Rattle.regrade.specs.Regrading.{cusumsBehind, cusumsBefore, regradedResult, regradedPortion, regradedCode}
 use Rattle.regrade.specs.Outcome.{sheetUnder}
 use Rattle.regrade.proofs.AcceptedRegrading.{AcceptedRegrading, accepted-regrading}
 use Rattle.regrade.proofs.SecondPlan.{plan-facts}

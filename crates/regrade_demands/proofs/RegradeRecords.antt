@@ -2,21 +2,19 @@
 -- it says. Each rule is a law of the definitions; that there is one course only is by induction on the records.
 use Prim.Native.Nat.{ℕ, zero, suc, _+_, _-_, _<_, _≤_, min}
 use mathlib.Core.Path.{_≡_, refl, sym, _∙_, ap, subst⁻¹}
-use mathlib.Core.Bool.{Bool, true, false, cond, false≢true, true≢false}
+use mathlib.Core.Bool.{Bool, true, false, cond}
 use mathlib.Core.Logic.{_⊎_, inl, inr, ⊎-elim, _↔_}
 use mathlib.Core.List.{List, [], _∷_}
 use native.Mathlib.Omega.{arith}
 use lib.Dec.{ltb}
 use lib.ListN.{length}
 use borrow.Author.Tests.{ltb-true, ltb-false, lt-ltb}
-use Rattle.cusum.specs.declared.Cusum.{Cusum}
 use Rattle.cusum.specs.Step.{fails}
 use Rattle.cusum.proofs.Laws.{new-cusum-is, overshoot-is, fails-true, fails-false}
-use Rattle.units.specs.Words.{substandard, hasPlan, classes, numbersOf, tenthsIn, tenthsOf, countTenths, tableOf}
+use Rattle.units.specs.Words.{substandard, hasPlan, classes, numbersOf, tenthsIn, tenthsOf, countTenths}
 use Rattle.units.specs.Unit.{classCusum, classOvershoot, classFails, unitFails, newCusums, defectGrade}
 use Rattle.units.specs.Records.{isUnitThat}
 use Rattle.units.specs.BestLower.{BestLower}
-use Rattle.units.specs.declared.SampleUnit.{SampleUnit}
 use Rattle.units.specs.declared.Entry.{Entry}
 use Rattle.units.specs.declared.Entry.the-variants.{UnitRecord, Redesignation, Break}
 use Rattle.units.proofs.BestLower.{best-lower-is}
@@ -25,7 +23,7 @@ use Rattle.rules.specs.Sheet.{Sheet}
 use Rattle.rules.proofs.FailingUnits.{starts-at}
 use Rattle.anchors.specs.Anchor.{tenthsFrom}
 use Rattle.anchors.proofs.Trails.{tenths-go-on}
-use Rattle.layout.specs.Layout.{planOf, sampleUnitAt, offset, entryAt}
+use Rattle.layout.specs.Layout.{planOf, sampleUnitAt, entryAt}
 use Rattle.layout.proofs.Units.{entry-unit}
 use Rattle.sheet.proofs.Accepted.{Facts}
 use Rattle.sheet.proofs.Ranges.{designated-le}
@@ -37,9 +35,9 @@ use Rattle.regrade.specs.Regrading.{cusumsBehind, cusumsBefore, regradedPortion
 use Rattle.regrade.specs.Outcome.{sheetUnder}
 use Rattle.grounds.specs.Tells.{Tells}
 use Rattle.grounds.proofs.Tells.{told, not-told, tells-as, tells-any}
-use Rattle.answers.specs.Grounds.{startIn, toleranceIn, limitIn, IsRedesignation, IsBreak, newGrade}
+use Rattle.answers.specs.Grounds.{startIn, toleranceIn, limitIn, IsRedesignation, IsBreak}
 use Rattle.answers.proofs.Rows.{numbers-there}
-use Rattle.courses.specs.Course.{tenTimesCount, prerequisite}
+use Rattle.courses.specs.Course.{tenTimesCount}
 use Rattle.courses.specs.Demand2.{recordedStanding, WorstOfCode}
 use Rattle.courses.proofs.CourseWords.{unitIn, count-is, break-entry, redesignation-entry}
 use Rattle.courses.proofs.CourseWords as words
@@ -47,7 +45,7 @@ use Rattle.courses.proofs.CodeGrades.{worst-of-code}
 use Rattle.courses.proofs.OneCourse.{settled}
 use Rattle.courses.proofs.Graded.{same-records}
 use Rattle.regrade_demands.specs.RegradeAccepted.{RegradedAs, regradedSheet, secondDesignated, secondNumbers, failsRegradedAt}
-use Rattle.regrade_demands.specs.RegradeRecords.{RegradeCourse, RuleTwoBy, ClassFailsRegraded, UnitFailsRegraded, BestLowerUnder, RuleThreeUnder, RegradeRules, RegradeRecorded, SameRegradedAt, RegradedByRules, RegradeGraded}
+use Rattle.regrade_demands.specs.RegradeRecords.{RegradeCourse, RuleTwoBy, ClassFailsRegraded, UnitFailsRegraded, BestLowerUnder, RuleThreeUnder, RegradeRules, RegradeRecorded, SameRegradedAt, RegradeGraded}
 use Rattle.regrade_demands.proofs.RegradeRecorded.{its-facts, second-facts, recorded-mark, recorded-code, recorded-plan, recorded-portion, recorded-code-grade, recorded-standing, recorded-cusum, overshoot-at-most, recorded-overshoot}
 
 -- ---- rule 2 tells one CuSum and one overshoot

@@ -10,7 +10,7 @@ use Rattle.units.specs.Records.{isUnitThat}
 use Rattle.rules.specs.Sheet.{Sheet}
 use Rattle.layout.specs.Layout.{gradeOffset, planOf}
 use Rattle.outcome.specs.declared.Answer.{Answer}
-use Rattle.outcome.specs.Outcome.{Outcome, AcceptedBy}
+use Rattle.outcome.specs.Outcome.{AcceptedBy}
 use Rattle.tally.specs.Outcome.{recordsIn}
 use Rattle.regrade.specs.Regrading.{cusumsBefore}
 use Rattle.regrade.specs.Outcome.{sheetUnder, regradeOutcome}

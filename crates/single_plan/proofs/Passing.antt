@@ -18,11 +18,10 @@ use Rattle.units.specs.declared.SampleUnit.{SampleUnit}
 use Rattle.units.specs.declared.SteppedClasses.{SteppedClasses}
 use Rattle.units.specs.declared.Grading.{Grading}
 use Rattle.units.specs.declared.Entry.{Entry}
-use Rattle.units.specs.declared.Entry.the-variants.{UnitRecord, Redesignation, Break}
+use Rattle.units.specs.declared.Entry.the-variants.{UnitRecord, Break}
 use Rattle.units.proofs.Planned.{stepped-under, none-over}
 use Rattle.rules.specs.StepThree.{inForceIn}
 use Rattle.rules.specs.Sheet.{standingOf}
-use Rattle.rules.specs.declared.Phase.{Phase}
 use Rattle.rules.specs.declared.Phase.the-variants.{Designated}
 use Rattle.rules.specs.declared.State.{State}
 use Rattle.encoding.specs.Bytes.{byte}
@@ -32,7 +31,7 @@ use Rattle.layout.specs.declared.Mark.{Mark}
 use Rattle.layout.specs.declared.Mark.the-variants.{UnitMark, RedesignationMark, BreakMark, NoMark}
 use Rattle.layout.specs.declared.Place.{Place}
 use Rattle.layout.proofs.Mark as mark-type
-use Rattle.layout.proofs.Walk.{at-is, units-are, mark-here, whole-here, entry-is, walk-on, room-past}
+use Rattle.layout.proofs.Walk.{units-are, mark-here, whole-here, entry-is, walk-on, room-past}
 use Rattle.layout.proofs.Units.{unit-mark, next-units, units-mono}
 use Rattle.results.specs.Record.{resultSize, resultBytes}
 use Rattle.codes.specs.Codes.{ungraded}

@@ -8,7 +8,7 @@ use native.Mathlib.Omega.{arith}
 use lib.ListN.{length}
 use lib.Seq.{sets, length-sets}
 use Rattle.cusum.specs.declared.Cusum.{Cusum}
-use Rattle.units.specs.Words.{hasPlan, Table, tableOf, rowOf, tenthsOf}
+use Rattle.units.specs.Words.{hasPlan, Table, tableOf, tenthsOf}
 use Rattle.units.specs.Unit.{unitFails, gradingOf}
 use Rattle.units.specs.Records.{unitsOf}
 use Rattle.units.specs.declared.SampleUnit.{SampleUnit}
@@ -32,7 +32,7 @@ use Rattle.single_plan.specs.SinglePlan.{resultUnder}
 use Rattle.single_plan.proofs.Passing.{result-outside}
 use Rattle.single_plan.specs.Passing.{Passed, none, unit, restart, over, Passable}
 use Rattle.writing.specs.declared.Position.{Position}
-use Rattle.writing.specs.Passes.{reachedAt, outside, Met, some, none as nothing}
+use Rattle.writing.specs.Passes.{outside, Met, some, none as nothing}
 use Rattle.writing.specs.Writing.{UnitHere, RecordHere, positionAt, OneMore, Underway, Further}
 use Rattle.writing.proofs.Passing.{nothing-more, further-none, further-one, underway-on, record-here}
 use Rattle.writing.proofs.Writing.{unit-under-designated}

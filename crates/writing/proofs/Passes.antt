@@ -1,20 +1,19 @@
 -- The pass over the records, graded once and again: how far it has gone, from the opening past each record to the last. Graded once it goes by
 -- the laws of the writing; graded again by those of records passed under one plan, the state outside step 3 with no failure just before.
 use Prim.Native.Nat.{ℕ, suc, _≤_, _<_}
-use mathlib.Core.Path.{_≡_, refl, sym, _∙_, ap, subst, subst⁻¹}
+use mathlib.Core.Path.{_≡_, refl, _∙_, ap, subst, subst⁻¹}
 use mathlib.Core.Bool.{Bool, true, false}
 use mathlib.Core.List.{List}
 use native.Mathlib.Omega.{arith}
 use lib.ListN.{length}
-use Rattle.units.specs.Words.{hasPlan, Table}
+use Rattle.units.specs.Words.{Table}
 use Rattle.rules.specs.StepThree.{inForceIn, restarted, opening}
 use Rattle.rules.specs.declared.State.{State}
-use Rattle.layout.specs.Walk.{firstPlace, Walk}
+use Rattle.layout.specs.Walk.{firstPlace}
 use Rattle.layout.specs.declared.Place.{Place}
 use Rattle.recording.specs.Sheet.{sheetOf}
 use Rattle.single_plan.specs.Passing.{Passable, openingUnder}
 use Rattle.single_plan.specs.Passing as single
-use Rattle.single_plan.specs.declared.Reached.{Reached}
 use Rattle.single_plan.proofs.Passing as under
 use Rattle.writing.specs.declared.Position.{Position}
 use Rattle.writing.specs.Writable.{Writable}
