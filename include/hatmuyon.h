@@ -212,9 +212,8 @@ struct hatmuyon_answer {
 
 /*
  * Each function needs at most 2 KiB of stack, its return address among them. This is measured and
- * not proved: hatmuyon_grade, disassembled, takes about 1,600 bytes and hatmuyon_regrade about 900,
- * in frames of fixed size and without recursion, and a test of bindings/rust fails if one takes more
- * than this of a painted stack.
+ * not proved: hatmuyon_grade and hatmuyon_regrade take some 900 bytes, in frames of fixed size and
+ * without recursion, and a test of bindings/rust fails if one takes more than this of a painted stack.
  */
 #define HATMUYON_STACK_SIZE 2048
 
