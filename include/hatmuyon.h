@@ -92,7 +92,7 @@ enum hatmuyon_grade_code {
     HATMUYON_GRADE_SUBSTANDARD = 3
 };
 
-/* The standing of a unit. */
+/* The standing of a unit; in a regrading the designated plan is that of the second plan. */
 enum hatmuyon_standing {
     HATMUYON_MET = 0,           /* it met the designated plan */
     HATMUYON_FAILED = 1,        /* it failed the designated plan */

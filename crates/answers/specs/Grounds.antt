@@ -180,8 +180,8 @@ pub data BufferRow (bytes buffer : List ℕ) : ℕ → Type 0 where
   row13 : BufferShort bytes buffer → BufferRow bytes buffer 13
   row14 : CusumAbove bytes → BufferRow bytes buffer 14
 
--- the numbers from the first row of the table to its last, for gradings and regradings; 18 is a row of these alone, between the records and
--- the result buffer
+-- the numbers from the first row of the table to its last, for gradings and regradings; 18, between the records and the result buffer, is a
+-- row of regradings alone
 abbrev pub rows : List ℕ
 rows = 1 ∷ 2 ∷ 3 ∷ 4 ∷ 5 ∷ 6 ∷ 7 ∷ 12 ∷ 8 ∷ 9 ∷ 10 ∷ 11 ∷ 18 ∷ 13 ∷ 14 ∷ []
 

@@ -3,7 +3,6 @@ use Prim.Native.Nat.{ℕ, zero, suc, _+_, _*_, _<_, _≤_}
 use mathlib.Core.Path.{_≡_, refl, sym, _∙_, ap, subst, subst⁻¹}
 use mathlib.Core.Bool.{Bool, true, false}
 use mathlib.Core.List.{List}
-use mathlib.Core.Logic.{inl}
 use native.Mathlib.Omega.{arith}
 use lib.Dec.{ltb, lit<, lit≤}
 use lib.ListN.{length, drop, take}
@@ -320,9 +319,9 @@ regrade-instances =
           ∙ regrade-answered more buyerB buffer fourAccepted (moreLeft buffer) (more-accepted buffer holds .promise) .accepted-rest refl;
       none-accepted = λ buffer holds.
           regrade-refusals more buyerB buffer fourAccepted (moreLeft buffer) (more-accepted buffer holds .promise) .by-ground .accepted refl;
-      none-earlier = λ buffer number at before.
+      first-is-18 = λ buffer.
           regrade-refusals failureOfSecondPlan (take 74 buyerB) buffer (refusedAs 18 0) buffer (sym (cut-short buffer)) .by-ground .refused
-          (λ none. omega arith) .none-earlier number at (inl before);
+          (λ none. omega arith);
       opening-fails = opening-fails;
       fails-again = fails-again;
       behind-redesignation = behind-redesignation;

@@ -12,6 +12,7 @@ use Rattle.layout.specs.Layout.{gradeOffset, planOf}
 use Rattle.outcome.specs.declared.Answer.{Answer}
 use Rattle.outcome.specs.Outcome.{AcceptedBy}
 use Rattle.tally.specs.Outcome.{recordsIn}
+use Rattle.answers.specs.Grounds.{startIn, toleranceIn, limitIn}
 use Rattle.regrade.specs.Regrading.{cusumsBefore}
 use Rattle.regrade.specs.Outcome.{sheetUnder, regradeOutcome}
 
@@ -27,7 +28,17 @@ regradedSheet bytes plan = sheetUnder bytes (planOf plan) (recordsIn bytes)
 abbrev pub secondDesignated : List ℕ → ℕ
 secondDesignated plan = byte plan gradeOffset
 
--- S, T and L of a class in that plan
+-- S, T and L of a class in the plan of that grade, as they stand in the second plan's bytes
+abbrev pub secondStart : List ℕ → ℕ → ℕ
+secondStart plan class = startIn plan (secondDesignated plan) class
+
+abbrev pub secondTolerance : List ℕ → ℕ → ℕ
+secondTolerance plan class = toleranceIn plan (secondDesignated plan) class
+
+abbrev pub secondLimit : List ℕ → ℕ → ℕ
+secondLimit plan class = limitIn plan (secondDesignated plan) class
+
+-- and as the definitions have them
 abbrev pub secondNumbers : List ℕ → List ℕ → ℕ → PlanNumbers
 secondNumbers bytes plan class = numbersOf (regradedSheet bytes plan .table) (regradedSheet bytes plan .designated) class
 

@@ -58,7 +58,7 @@ pub record RegradeRefused (bytes plan buffer : List ℕ) (answer : Answer) : Typ
   -- refused exactly if a ground applies, and then the first row met is returned, with its number and place
   pub by-ground : RefusedByGround (regradeGrounds bytes plan buffer) (WholeSheet bytes) (whereLookedAt bytes answer)
   pub offset-of-18 : answer .number ≡ 18 → answer .offset ≡ 0
-  -- number 14 never applies
+  -- number 14 is never returned
   pub never-14 : answer .number ≡ 14 → ⊥
 
 -- for every sheet, every second plan and every buffer, as the promise of `regrade` says

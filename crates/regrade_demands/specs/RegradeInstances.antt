@@ -1,6 +1,6 @@
 -- The demands once more on one regrading and its pair, written out here and proved from their theorems: statements for fewer sheets, units or
 -- classes, or without one of the parts used here, would no longer give these. The sheet has units as its records 0, 1, 3 and 5; records 0
--- and 1 fail, record 2 is a redesignation, and record 4 a break.
+-- and 1 fail, record 2 is a redesignation, and record 4 a break. For number 18 it is another sheet.
 use Prim.Native.Nat.{ℕ, suc, _+_, _*_, _<_, _≤_}
 use mathlib.Core.Path.{_≡_}
 use mathlib.Core.Bool.{Bool, true, false}
@@ -11,7 +11,7 @@ use Rattle.cusum.specs.LargestForm.{largestForm, anchorValue}
 use Rattle.units.specs.Words.{classes}
 use Rattle.anchors.specs.Anchor.{tenthsFrom}
 use Rattle.results.specs.Record.{resultSize}
-use Rattle.grounds.specs.Grounds.{Ground}
+use Rattle.grounds.specs.Grounds.{Ground, FirstRowMet}
 use Rattle.tally.specs.Accepted.{recordedCusum, recordedOvershoot, recordedPortionGrade, recordedCodeGrade}
 use Rattle.answers.specs.Grounds.{IsBreak}
 use Rattle.courses.specs.Demand2.{recordedMark, recordedPlanGrade, recordedStanding}
@@ -59,11 +59,11 @@ pub record RegradeInstances : Type 0 where
   -- demand 1: every byte behind the four records is kept
   pub kept : (buffer : List ℕ) → resultSize * 4 ≤ length buffer
       → drop (resultSize * 4) (regradeOutcome twoFailuresBeforeRedesignation buyerB buffer .buffer) ≡ drop (resultSize * 4) buffer
-  -- the grounds: none applies to it; under a second plan cut short by its last byte none before 18 applies to another sheet
+  -- the grounds: none applies to it; under a second plan cut short by its last byte 18 is the first row met of another sheet, behind its
+  -- records and before 13, whatever the buffer
   pub none-accepted : (buffer : List ℕ) → resultSize * 4 ≤ length buffer → (number at : ℕ)
       → Ground (regradeGrounds twoFailuresBeforeRedesignation buyerB buffer) number at → ⊥
-  pub none-earlier : (buffer : List ℕ) (number at : ℕ) → at < length failureOfSecondPlan
-      → Ground (regradeGrounds failureOfSecondPlan (take 74 buyerB) buffer) number at → ⊥
+  pub first-is-18 : (buffer : List ℕ) → FirstRowMet (regradeGrounds failureOfSecondPlan (take 74 buyerB) buffer) 18 (length failureOfSecondPlan)
   -- demand 2: record 1 fails from L of record 0, record 3 goes on from L behind the redesignation, record 5 from S behind the break. C is
   -- the lower grade of B that 14 defects get; standing 1 failed, 0 met
   pub opening-fails : (buffer : List ℕ) → resultSize * 4 ≤ length buffer → RecordedInstance buffer 0 60 10 2 1

@@ -14,10 +14,10 @@ use Rattle.grounds.specs.Tells.{Tells}
 use Rattle.anchors.specs.Anchor.{tenthsFrom}
 use Rattle.tally.specs.Outcome.{recordsIn}
 use Rattle.tally.specs.Accepted.{UnitAt, recordedCusum, recordedOvershoot, recordedPortionGrade}
-use Rattle.answers.specs.Grounds.{startIn, toleranceIn, limitIn, IsRedesignation, IsBreak}
+use Rattle.answers.specs.Grounds.{toleranceIn, limitIn, IsRedesignation, IsBreak}
 use Rattle.courses.specs.Course.{tenTimesCount, prerequisite}
 use Rattle.courses.specs.Demand2.{recordedMark, recordedCode, recordedPlanGrade, recordedStanding, codeOf, WorstOfCode, SameRecords}
-use Rattle.regrade_demands.specs.RegradeAccepted.{RegradedAs, regradedSheet, secondDesignated, secondNumbers, failsRegradedAt}
+use Rattle.regrade_demands.specs.RegradeAccepted.{RegradedAs, regradedSheet, secondDesignated, secondStart, secondTolerance, secondLimit, secondNumbers, failsRegradedAt}
 
 -- before record i the CuSum of each class; of the unit that is record i its CuSums, its overshoots and its defect grade. CuSums and
 -- overshoots are tenths
@@ -41,19 +41,9 @@ module _ (bytes plan : List ℕ) (course : RegradeCourse) where
   abbrev pub reachedRegraded : ℕ → ℕ → ℕ
   reachedRegraded i class = course .cusum i class + tenTimesCount bytes i class
 
-  -- S, T and L of a class in the plan of the second plan's designated grade
-  abbrev pub secondStart : ℕ → ℕ
-  secondStart class = startIn plan (secondDesignated plan) class
-
-  abbrev pub secondTolerance : ℕ → ℕ
-  secondTolerance class = toleranceIn plan (secondDesignated plan) class
-
-  abbrev pub secondLimit : ℕ → ℕ
-  secondLimit class = limitIn plan (secondDesignated plan) class
-
   -- a class fails at a unit: the raw value is above L
   abbrev pub ClassFailsRegraded : ℕ → ℕ → Type 0
-  ClassFailsRegraded i class = secondTolerance class + secondLimit class < reachedRegraded i class
+  ClassFailsRegraded i class = secondTolerance plan class + secondLimit plan class < reachedRegraded i class
 
   -- rule 3: a unit fails if a class fails
   pub record UnitFailsRegraded (i : ℕ) : Type 0 where
@@ -72,21 +62,23 @@ module _ (bytes plan : List ℕ) (course : RegradeCourse) where
     pub admits : grade < substandard → AdmitsUnder i grade
     pub none-better : (better : ℕ) → secondDesignated plan < better → better < grade → AdmitsUnder i better → ⊥
 
+  -- rule 3: the defect grade of a unit that meets is the designated one, of a unit that fails the best lower one
   pub record RuleThreeUnder (i : ℕ) : Type 0 where
     pub meets : (UnitFailsRegraded i → ⊥) → course .defectGrade i ≡ secondDesignated plan
     pub fails : UnitFailsRegraded i → BestLowerUnder i (course .defectGrade i)
 
+  -- which course a sheet takes under the second plan, record by record
   pub record RegradeRules : Type 0 where
     -- the opening: every class at its S
-    pub opening : (class : ℕ) → class < length classes → course .cusum 0 class ≡ secondStart class
+    pub opening : (class : ℕ) → class < length classes → course .cusum 0 class ≡ secondStart plan class
     -- units, graded by rules 2 and 3 under the second plan's designated grade
     pub rule-two : (i class : ℕ) → UnitAt bytes i → class < length classes
-        → RuleTwoBy (reachedRegraded i class) (secondTolerance class) (secondLimit class) (course .newCusum i class) (course .overshoot i class)
+        → RuleTwoBy (reachedRegraded i class) (secondTolerance plan class) (secondLimit plan class) (course .newCusum i class) (course .overshoot i class)
     pub rule-three : (i : ℕ) → UnitAt bytes i → RuleThreeUnder i
     -- behind a unit its CuSums go on, whether it failed or not and whatever failed before it: "the rule of two in a row doesn't apply"
     pub unit-goes-on : (i class : ℕ) → UnitAt bytes i → class < length classes → course .cusum (suc i) class ≡ course .newCusum i class
     -- "breaks restart"
-    pub break-restarts : (i class : ℕ) → IsBreak bytes i → class < length classes → course .cusum (suc i) class ≡ secondStart class
+    pub break-restarts : (i class : ℕ) → IsBreak bytes i → class < length classes → course .cusum (suc i) class ≡ secondStart plan class
     -- "redesignations are passed over"
     pub redesignation-passed : (i class : ℕ) → IsRedesignation bytes i → class < length classes → course .cusum (suc i) class ≡ course .cusum i class
 
@@ -131,9 +123,7 @@ pub record RegradedByRules (bytes plan results : List ℕ) : Type 0 where
   pub only-units-fail : (i class : ℕ) → (UnitAt bytes i → ⊥) → failsRegradedAt (regradedSheet bytes plan) class i ≡ false
   pub numbers : (class : ℕ) → class < length classes →
       let numbers = secondNumbers bytes plan class in
-      (numbers .start ≡ startIn plan (secondDesignated plan) class)
-      × (numbers .tolerance ≡ toleranceIn plan (secondDesignated plan) class)
-      × (numbers .limit ≡ limitIn plan (secondDesignated plan) class)
+      (numbers .start ≡ secondStart plan class) × (numbers .tolerance ≡ secondTolerance plan class) × (numbers .limit ≡ secondLimit plan class)
   -- the counts of a class from a record on: none of no record, and one for each further record that is a unit
   pub tenths-of-none : (class from : ℕ) → tenthsFrom (regradedSheet bytes plan) class from 0 ≡ []
   pub tenths-go-on : (class from records : ℕ) →

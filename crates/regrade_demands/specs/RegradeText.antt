@@ -1,5 +1,5 @@
--- What is printed for a regrading, for every sheet and every second plan; and the pair's second sheet, whose lines are in its computed
--- regrading.
+-- What is printed for a regrading, for every sheet and every second plan; and the lines of one regrading in full, which stand as comments
+-- beside its result bytes in `RegradeSheets`, and of a refusal with 18.
 use Prim.Native.Nat.{ℕ}
 use mathlib.Core.Path.{_≡_}
 use mathlib.Core.List.{List}

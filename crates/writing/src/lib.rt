@@ -197,7 +197,7 @@ fn write_while_met(
 }
 
 // Goes past such records if the designated plan is in force and no unit just before failed: where one did, the next may well fail, too,
-// and would be stepped twice.
+// and would be stepped twice. A regrading remembers no failure.
 fn past_meeting(
     bytes: &[u8],
     records: usize,
