@@ -4,6 +4,8 @@ ghost use Rattle.outcome.specs.Outcome.{Outcome};
 ghost use Rattle.mold.specs.Outcome.{moldOutcome};
 ghost use Rattle.tally.specs.Outcome.{outcome};
 ghost use Rattle.regrade.specs.Outcome.{regradeOutcome};
+ghost use Rattle.lookup.specs.Lookup.{lookup};
+use lookup::Part;
 use outcome::Answer;
 
 // Grades a tally sheet into a result buffer; see tally::grade. A slice passes as a pointer and then a length.
@@ -28,4 +30,12 @@ pub extern "C" fn hatmuyon_regrade(sheet: &[u8], plan: &[u8], results: &mut [u8]
     ensures { λ r. ⌜ _≡_ {A = Outcome} (record { answer = r; buffer = now (results .exit) }) (regradeOutcome (now (sheet .entry)) (now (plan .entry)) (now (results .entry))) ⌝ }
 {
     regrade::regrade(sheet, plan, results)
+}
+
+// Finds the first record of the worst portion grade of a code in finished results: its place; see lookup::find_place.
+#[no_mangle]
+pub extern "C" fn hatmuyon_find_code(results: &[u8], code: u16) -> Part
+    ensures { λ r. ⌜ r ≡ lookup (now (results .entry)) code ⌝ }
+{
+    lookup::find_place(results, code)
 }

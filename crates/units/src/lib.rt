@@ -16,7 +16,7 @@ pub const CLASSES: usize = 4;
 // Grades A, B and C, coded 0 to 2, have a plan; Substandard, coded 3, has none.
 const GRADES: usize = 3;
 
-const SUBSTANDARD: u8 = 3;
+pub const SUBSTANDARD: u8 = 3;
 
 // The cells of a plan's table: a class of a grade.
 pub const CELLS: usize = GRADES * CLASSES;

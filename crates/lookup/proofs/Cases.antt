@@ -1,0 +1,85 @@
+-- What a look-up comes to, case by case: refused, found, not on this sheet; and that the part lies inside the results. Each by its tests.
+use Prim.Native.Nat.{ℕ, _+_, _-_, _%_, _≤_, _<_}
+use mathlib.Core.Path.{_≡_, refl, ap₂}
+use mathlib.Core.Bool.{Bool, true, false}
+use mathlib.Core.List.{List}
+use native.Mathlib.Omega.{arith}
+use borrow.Author.Tests.{ltb-true, ltb-false, lt-ltb, le-ltb, eqb-true, eqb-false, eq-eqb, ne-eqb}
+use lib.Dec.{ltb, eqb}
+use lib.ListN.{length, take, drop}
+use Rattle.units.specs.Conditions.{pick}
+use Rattle.results.specs.Record.{resultSize}
+use Rattle.lookup.specs.declared.Part.{Part}
+use Rattle.lookup.specs.Records.{wholeRecords, recordsIn}
+use Rattle.lookup.specs.Lookup.{foundAt, notOnThisSheet, refusedResults, firstOfWorst, lookup, Handed, handedAs}
+
+module _ (results : List ℕ) (code : ℕ) where
+  -- a rest is left
+  pub refused-is : (length results % resultSize ≡ 0 → ⊥) → lookup results code ≡ refusedResults
+  unfolding lookup wholeRecords pick
+  refused-is rest = rw (ne-eqb (length results % resultSize) 0 rest)
+
+  -- there is none, and a record is found
+  pub found-is : {first : ℕ} → length results % resultSize ≡ 0 → firstOfWorst results code (recordsIn results) ≡ first → first < recordsIn results
+      → lookup results code ≡ foundAt first
+  unfolding lookup wholeRecords pick
+  found-is {first} whole same inside = rw (eq-eqb (length results % resultSize) 0 whole, same, lt-ltb first (recordsIn results) inside)
+
+  -- or not
+  pub none-is : {first : ℕ} → length results % resultSize ≡ 0 → firstOfWorst results code (recordsIn results) ≡ first → recordsIn results ≤ first
+      → lookup results code ≡ notOnThisSheet
+  unfolding lookup wholeRecords pick
+  none-is {first} whole same behind = rw (eq-eqb (length results % resultSize) 0 whole, same, le-ltb first (recordsIn results) behind)
+
+  -- one of these it is
+  pub data Case : Type 0 where
+    refused : (length results % resultSize ≡ 0 → ⊥) → lookup results code ≡ refusedResults → Case
+    found : (first : ℕ) → length results % resultSize ≡ 0 → firstOfWorst results code (recordsIn results) ≡ first → first < recordsIn results
+        → lookup results code ≡ foundAt first → Case
+    none : length results % resultSize ≡ 0 → recordsIn results ≤ firstOfWorst results code (recordsIn results) → lookup results code ≡ notOnThisSheet → Case
+
+  pub case-of : Case
+  case-of = by-rest (eqb (length results % resultSize) 0) refl
+    where
+      first : ℕ
+      first = firstOfWorst results code (recordsIn results)
+
+      by-first : length results % resultSize ≡ 0 → (inside : Bool) → ltb first (recordsIn results) ≡ inside → Case
+      by-first whole true test =
+          let below = ltb-true first (recordsIn results) test in
+          found first whole refl below (found-is whole refl below)
+      by-first whole false test =
+          let behind = ltb-false first (recordsIn results) test in
+          none whole behind (none-is whole refl behind)
+
+      by-rest : (whole : Bool) → eqb (length results % resultSize) 0 ≡ whole → Case
+      by-rest true test = by-first (eqb-true (length results % resultSize) 0 test) (ltb first (recordsIn results)) refl
+      by-rest false test = let rest = eqb-false (length results % resultSize) 0 test in refused rest (refused-is rest)
+
+-- ---- the part
+
+abbrev pub Inside : List ℕ → Part → Type 0
+Inside results part = part .offset + part .length ≤ length results
+
+pub part-inside : (results : List ℕ) (code : ℕ) → Inside results (lookup results code)
+part-inside results code = go (case-of results code)
+  where
+    go : Case results code → Inside results (lookup results code)
+    go (refused rest is) = rw is (omega arith)
+    go (found first whole same inside is) = rw is (omega arith)
+    go (none whole behind is) = rw is (omega arith)
+
+-- taken from its start to its end
+pub handed-part : (start : ℕ × ℕ) (results : List ℕ) (part : Part)
+    → _≡_ {A = Handed}
+    (record {
+      number = part .number;
+      start = (start .0, part .offset + start .1);
+      bytes = take (part .offset + part .length - part .offset) (drop (part .offset) results);
+    })
+    (handedAs start results part)
+unfolding handedAs
+handed-part start results part =
+    let size : part .offset + part .length - part .offset ≡ part .length = omega arith in
+    let begin : part .offset + start .1 ≡ start .1 + part .offset = omega arith in
+    ap₂ (λ (from many : ℕ). record { number = part .number; start = (start .0, from); bytes = take many (drop (part .offset) results) }) begin size

@@ -1,0 +1,5 @@
+pub mod First
+pub mod Worst
+pub mod Ends
+pub mod Cases
+mod SoFar

@@ -1,0 +1,93 @@
+-- The loop of a reading, with so many of n records read: none of them has the code, or the first of the worst among them is found, and it
+-- is not Substandard. What it comes to where the reading ends.
+use Prim.Native.Nat.{ℕ, suc, _+_, _≤_, _<_}
+use mathlib.Core.Path.{_≡_, refl, sym, _∙_, ap₂, subst}
+use mathlib.Core.List.{List}
+use native.Mathlib.Numerals.{add-one}
+use native.Mathlib.Omega.{arith}
+use Rattle.units.specs.Words.{substandard}
+use Rattle.results.specs.Record.{codeIn, portionGradeIn}
+use Rattle.lookup.specs.declared.Reading.{Reading}
+use Rattle.lookup.specs.Records.{gradeIn}
+use Rattle.lookup.specs.Lookup.{firstOfWorst}
+use Rattle.lookup.specs.Reading.{recordsRead}
+use Rattle.lookup.proofs.Worst.{grade-below, grade-from, FirstOf, NoneOf, first-of-worst-is, first-of-none, none-next, first-stays, first-here}
+use Rattle.lookup.proofs.Ends.{FirstSubstandard, first-of-substandard, reads-up-to, reads-all}
+
+-- what a reading answers
+abbrev pub readingOf : List ℕ → ℕ → ℕ → Reading
+readingOf results code n = record { first = firstOfWorst results code n; read = recordsRead results code n }
+
+same-reading : {first read first' read' : ℕ} → first ≡ first' → read ≡ read'
+    → _≡_ {A = Reading} (record { first = first; read = read }) (record { first = first'; read = read' })
+same-reading e e' = ap₂ (λ (x y : ℕ). record { first = x; read = y }) e e'
+
+module _ (results : List ℕ) (code n : ℕ) where
+  -- `worse` is the best grade that is worse than all those of the code so far
+  pub data SoFar (first worse read : ℕ) : Type 0 where
+    none-yet : first ≡ n → worse ≡ 0 → NoneOf results code read → SoFar first worse read
+    found-yet : FirstOf results code read first → worse ≡ suc (gradeIn results first) → gradeIn results first < substandard → SoFar first worse read
+
+  module _ {first worse read : ℕ} where
+    -- no grade of the code was Substandard
+    all-better : SoFar first worse read → (j : ℕ) → j < read → codeIn results j ≡ code → gradeIn results j < worse
+    all-better (none-yet end least before) j below own = absurd (before .none j below own)
+    all-better (found-yet found next not-yet) j below own = omega (arith, found .none-worse j below own, next)
+
+    not-past : SoFar first worse read → worse ≤ substandard
+    not-past (none-yet end least before) = omega (arith, least)
+    not-past (found-yet found next not-yet) = omega (arith, next, not-yet)
+
+    -- ---- one record more
+
+    -- of another code
+    pub other-code : SoFar first worse read → (codeIn results read ≡ code → ⊥) → SoFar first worse (read + 1)
+    other-code (none-yet end least before) other = rw (add-one read) (none-yet end least (none-next results code before other))
+    other-code (found-yet found next not-yet) other =
+        rw (add-one read) (found-yet (first-stays results code found (λ own. absurd (other own))) next not-yet)
+
+    -- no worse than one before it
+    pub no-worse : SoFar first worse read → portionGradeIn results read < worse → SoFar first worse (read + 1)
+    no-worse (none-yet end least before) less = absurd (omega (arith, least))
+    no-worse (found-yet found next not-yet) less =
+        let same = grade-below (portionGradeIn results read) (omega (arith, next, not-yet)) in
+        rw (add-one read) (found-yet (first-stays results code found (λ own. omega (arith, next, same))) next not-yet)
+
+    -- worse than all before it, and not Substandard
+    pub worse-here : SoFar first worse read → codeIn results read ≡ code → worse ≤ portionGradeIn results read
+        → portionGradeIn results read < substandard → SoFar read (portionGradeIn results read + 1) (read + 1)
+    worse-here so-far own more less =
+        let same = grade-below (portionGradeIn results read) less in
+        let here = first-here results code own (λ j below its. omega (arith, all-better so-far j below its, same)) in
+        rw (add-one read) (found-yet here (omega (arith, same)) (omega (arith, same)))
+
+    -- ---- where the reading ends
+
+    -- at a Substandard portion
+    pub ends-here : SoFar first worse read → read < n → codeIn results read ≡ code → substandard ≤ portionGradeIn results read
+        → _≡_ {A = Reading} (record { first = read; read = read + 1 }) (readingOf results code n)
+    ends-here so-far inside own above =
+        let here : FirstSubstandard results code n read =
+        record {
+          inside = inside;
+          has-code = own;
+          is-substandard = grade-from (portionGradeIn results read) above;
+          none-before = λ j below its. omega (arith, all-better so-far j below its, not-past so-far);
+        } in
+        same-reading (sym (first-of-worst-is results code (first-of-substandard here))) (omega (arith, reads-up-to here))
+
+    -- with the last record
+    pub ends-all : SoFar first worse read → n ≤ read → read ≤ n
+        → _≡_ {A = Reading} (record { first = first; read = read }) (readingOf results code n)
+    ends-all so-far behind inside =
+        let end : read ≡ n = omega arith in
+        let all = reads-all results code n (λ j below its. omega (arith, all-better so-far j (omega arith) its, not-past so-far)) in
+        same-reading (go so-far end) (omega (arith, all, end))
+      where
+        go : SoFar first worse read → read ≡ n → first ≡ firstOfWorst results code n
+        go (none-yet none least before) end = none ∙ sym (first-of-none results code (subst (NoneOf results code) end before))
+        go (found-yet found next not-yet) end =
+            sym (first-of-worst-is results code (subst (λ (m : ℕ). FirstOf results code m first) end found))
+
+  pub start : SoFar n 0 0
+  start = none-yet refl refl (record { none = λ j below own. omega arith })

@@ -1,0 +1,98 @@
+// What became of a code: a part of finished results, the first record of the code whose portion grade is the worst that the code has.
+ghost use mathlib.Core.Path.{_≡_};
+ghost use Prim.Native.Nat.{_*_, _≤_};
+ghost use lib.ListN.{length};
+ghost use Rattle.results.specs.Record.{resultSize};
+ghost use Rattle.lookup.specs.declared.Reading.{Reading};
+ghost use Rattle.lookup.specs.Lookup.{firstOfWorst, lookup, Handed, handed};
+ghost use Rattle.lookup.specs.Reading.{recordsRead};
+use encoding::holds_at;
+use results::CODE_OFFSET;
+use results::PORTION_GRADE_OFFSET;
+use results::RESULT_SIZE;
+use units::SUBSTANDARD;
+
+// The place of a part of the results, behind its number: 0 found, 1 not on this sheet, 19 refused. It is empty after 1 and 19.
+#[repr(C)]
+pub struct Part {
+    pub number: u32,
+    pub offset: usize,
+    pub length: usize,
+}
+
+// A reading of records in their order: the first of the worst portions of a code, or the number of records if none has the code; and how
+// many records were read.
+struct Reading {
+    first: usize,
+    read: usize,
+}
+
+// Reads so many records up to the first Substandard portion of this code, which no later one is worse than, else all of them.
+fn read_records(results: &[u8], code: u16, records: usize) -> Reading
+    requires { ⌜ resultSize * records ≤ length (now results) ⌝ }
+    ensures { λ r. ⌜ r ≡ record { first = firstOfWorst (now (results .entry)) code records; read = recordsRead (now (results .entry)) code records } ⌝ }
+{
+    let mut first = records;
+    // The best grade that is worse than all those of the code so far.
+    let mut worse: u8 = 0;
+    let mut read: usize = 0;
+    while read < records {
+        let record = read;
+        read += 1;
+        if holds_at(results, RESULT_SIZE * record + CODE_OFFSET, code) {
+            let grade = results[RESULT_SIZE * record + PORTION_GRADE_OFFSET];
+            if worse <= grade {
+                first = record;
+                if SUBSTANDARD <= grade {
+                    return Reading {
+                        first: first,
+                        read: read,
+                    };
+                }
+                worse = grade + 1;
+            }
+        }
+    }
+    Reading {
+        first: first,
+        read: read,
+    }
+}
+
+// The number of a look-up, and the place of the part that is handed back.
+pub fn find_place(results: &[u8], code: u16) -> Part
+    ensures { λ r. ⌜ r ≡ lookup (now (results .entry)) code ⌝ }
+{
+    if results.len() % RESULT_SIZE != 0 {
+        return Part {
+            number: 19,
+            offset: 0,
+            length: 0,
+        };
+    }
+    let records = results.len() / RESULT_SIZE;
+    let reading = read_records(results, code, records);
+    if reading.first < records {
+        return Part {
+            number: 0,
+            offset: RESULT_SIZE * reading.first,
+            length: RESULT_SIZE,
+        };
+    }
+    Part {
+        number: 1,
+        offset: 0,
+        length: 0,
+    }
+}
+
+// Hands back the part of the lent results themselves, and its number.
+pub fn find<'a>(results: &'a [u8], code: u16, number: &mut u32) -> &'a [u8]
+    ensures { λ r. ⌜ _≡_ {A = Handed} (record { number = now (number .exit); start = r .ptr; bytes = now r }) (handed (results .entry .ptr) (now (results .entry)) code) ⌝ }
+{
+    let part = find_place(results, code);
+    let offset = part.offset;
+    let end = offset + part.length;
+    *number = part.number;
+    &results[offset..end]
+}
