@@ -2,7 +2,8 @@
 //! CuSum by the formula of demand 3, every overshoot by sums like those, finds every start of a lower
 //! plan by the failures in a row, and panics if one differs. `grader --mold` takes a mold sheet, and
 //! `grader --regrade PLANFILE` regrades the sheet under the plan record in that file; both also with
-//! `--check`.
+//! `--check`. `grader --find CODE`, the code in decimal, reads results from standard input and prints
+//! what became of it.
 
 use std::io::{Read, Write};
 
@@ -12,7 +13,10 @@ fn main() -> std::io::Result<()> {
     let check = place("--check").is_some();
     let mut sheet = Vec::new();
     std::io::stdin().read_to_end(&mut sheet)?;
-    let lines = if let Some(place) = place("--regrade") {
+    let lines = if let Some(place) = place("--find") {
+        let code = arguments.get(place + 1).and_then(|code| code.parse().ok());
+        grader::lookup::print(&sheet, code.expect("--find needs a code from 0 to 65535"))
+    } else if let Some(place) = place("--regrade") {
         let file = arguments.get(place + 1).expect("--regrade needs the file of a plan");
         grader::regrade::print_checked(&sheet, &std::fs::read(file)?, check)
     } else if place("--mold").is_some() {
