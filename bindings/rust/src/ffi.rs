@@ -51,6 +51,18 @@ pub struct Answer {
     pub offset: usize,
 }
 
+/// `struct hatmuyon_part`: the place of a part of results.
+#[derive(Clone, Copy, Debug, PartialEq, Eq)]
+#[repr(C)]
+pub struct Part {
+    /// 0 found, 1 not on this sheet, 19 refused.
+    pub number: u32,
+    /// Found: where the part begins in the results. Else 0.
+    pub offset: usize,
+    /// Found: the bytes of the part, which are those of a result record. Else 0.
+    pub length: usize,
+}
+
 extern "C" {
     /// Grades a tally sheet into a result buffer.
     ///
@@ -93,4 +105,12 @@ extern "C" {
         results: *mut u8,
         results_length: usize,
     ) -> Answer;
+
+    /// Finds the first record of the worst portion grade of a code in finished results.
+    ///
+    /// # Safety
+    ///
+    /// `results` must be valid for reads of `results_length` bytes, all of them initialized, and not
+    /// null, also where the length is 0. During the call no other thread may write to them.
+    pub fn hatmuyon_find_code(results: *const u8, results_length: usize, code: u16) -> Part;
 }
