@@ -1,0 +1,3 @@
+pub mod HandedBack
+pub mod LookupAnswers
+pub mod LookupReading
