@@ -4,14 +4,15 @@ use mathlib.Core.Path.{_≡_, refl, ap₂}
 use mathlib.Core.Bool.{Bool, true, false}
 use mathlib.Core.List.{List}
 use native.Mathlib.Omega.{arith}
-use borrow.Author.Tests.{ltb-true, ltb-false, lt-ltb, le-ltb, eqb-true, eqb-false, eq-eqb, ne-eqb}
-use lib.Dec.{ltb, eqb}
+use borrow.Author.Tests.{lt-ltb, le-ltb, eqb-true, eqb-false, eq-eqb, ne-eqb}
+use lib.Dec.{eqb}
 use lib.ListN.{length, take, drop}
 use Rattle.units.specs.Conditions.{pick}
 use Rattle.results.specs.Record.{resultSize}
 use Rattle.lookup.specs.declared.Part.{Part}
 use Rattle.lookup.specs.Records.{wholeRecords, recordsIn}
 use Rattle.lookup.specs.Lookup.{foundAt, notOnThisSheet, refusedResults, firstOfWorst, lookup, Handed, handedAs}
+use Rattle.lookup.proofs.Worst.{FirstOf, NoneOf, first-of-worst-is, first-of-none, Search, none-has-code, first-found, search-all}
 
 module _ (results : List ℕ) (code : ℕ) where
   -- a rest is left
@@ -34,26 +35,17 @@ module _ (results : List ℕ) (code : ℕ) where
   -- one of these it is
   pub data Case : Type 0 where
     refused : (length results % resultSize ≡ 0 → ⊥) → lookup results code ≡ refusedResults → Case
-    found : (first : ℕ) → length results % resultSize ≡ 0 → firstOfWorst results code (recordsIn results) ≡ first → first < recordsIn results
-        → lookup results code ≡ foundAt first → Case
-    none : length results % resultSize ≡ 0 → recordsIn results ≤ firstOfWorst results code (recordsIn results) → lookup results code ≡ notOnThisSheet → Case
+    found : length results % resultSize ≡ 0 → (first : ℕ) → FirstOf results code (recordsIn results) first → lookup results code ≡ foundAt first → Case
+    none : length results % resultSize ≡ 0 → NoneOf results code (recordsIn results) → lookup results code ≡ notOnThisSheet → Case
 
   pub case-of : Case
   case-of = by-rest (eqb (length results % resultSize) 0) refl
     where
-      first : ℕ
-      first = firstOfWorst results code (recordsIn results)
-
-      by-first : length results % resultSize ≡ 0 → (inside : Bool) → ltb first (recordsIn results) ≡ inside → Case
-      by-first whole true test =
-          let below = ltb-true first (recordsIn results) test in
-          found first whole refl below (found-is whole refl below)
-      by-first whole false test =
-          let behind = ltb-false first (recordsIn results) test in
-          none whole behind (none-is whole refl behind)
-
+      by-search : length results % resultSize ≡ 0 → Search results code (recordsIn results) → Case
+      by-search whole (first-found first is) = found whole first is (found-is whole (first-of-worst-is results code is) (is .inside))
+      by-search whole (none-has-code is) = none whole is (none-is whole (first-of-none results code is) (omega arith))
       by-rest : (whole : Bool) → eqb (length results % resultSize) 0 ≡ whole → Case
-      by-rest true test = by-first (eqb-true (length results % resultSize) 0 test) (ltb first (recordsIn results)) refl
+      by-rest true test = by-search (eqb-true (length results % resultSize) 0 test) (search-all results code (recordsIn results))
       by-rest false test = let rest = eqb-false (length results % resultSize) 0 test in refused rest (refused-is rest)
 
 -- ---- the part
@@ -66,8 +58,8 @@ part-inside results code = go (case-of results code)
   where
     go : Case results code → Inside results (lookup results code)
     go (refused rest is) = rw is (omega arith)
-    go (found first whole same inside is) = rw is (omega arith)
-    go (none whole behind is) = rw is (omega arith)
+    go (found whole first at is) = rw is (omega (arith, at .inside))
+    go (none whole no-record is) = rw is (omega arith)
 
 -- taken from its start to its end
 pub handed-part : (start : ℕ × ℕ) (results : List ℕ) (part : Part)

@@ -1,0 +1,3 @@
+mod Words
+pub mod LookupAnswers
+pub mod LookupReading

@@ -1,0 +1,88 @@
+-- The answer of a look-up, by its case: what refuses one case of the answer is the first of the worst portions, or its absence, in the
+-- other. There is one first of the worst, as `firstOfWorst` gives it.
+use Prim.Native.Nat.{ℕ, _+_, _*_, _%_, _≤_, _<_}
+use mathlib.Core.Path.{_≡_, refl, sym, _∙_, ap, subst}
+use mathlib.Core.List.{List}
+use mathlib.Core.Logic.{inl, inr}
+use native.Mathlib.Omega.{arith}
+use lib.ListN.{length, take, drop, length-take, length-drop}
+use lib.Seq.{getD-drop, getD-take}
+use Rattle.encoding.specs.Bytes.{byte}
+use Rattle.results.specs.Record.{resultSize}
+use Rattle.lookup.specs.declared.Part.{Part}
+use Rattle.lookup.specs.Records.{recordsIn}
+use Rattle.lookup.specs.Lookup.{foundAt, notOnThisSheet, refusedResults, firstOfWorst, lookup, Handed, handedAs, handed}
+use Rattle.lookup.proofs.Worst.{FirstOf, NoneOf, first-of-worst-is}
+use Rattle.lookup.proofs.Cases.{Case, refused, found, none, case-of, part-inside}
+use Rattle.lookup_demands.specs.LookupAnswers.{FirstOfWorst, NotThere, LookupAnswered, PartOfResults, LookupAnswers}
+use Rattle.lookup_demands.proofs.Words.{no-rest, are-records, first-by-place, by-place-first, none-by-place, by-place-none}
+
+module _ (results : List ℕ) (code : ℕ) where
+  -- results with a rest
+  of-refused : (length results % resultSize ≡ 0 → ⊥) → LookupAnswered results code refusedResults
+  of-refused rest =
+      record {
+        listed = inr (inr refl);
+        refused = ((λ _ records whole. rest (no-rest results records whole)), λ _. refl);
+        not-there = ((λ is. absurd (omega (arith, is))), λ has. absurd (rest (no-rest results (has .records) (has .whole))));
+        found = λ index is. absurd (rest (no-rest results (is .records) (is .whole)));
+        a-record = λ is. absurd (omega (arith, is));
+        empty = λ _. (refl, refl);
+      }
+
+  -- a record is the first of the worst
+  of-found : (first : ℕ) → length results % resultSize ≡ 0 → FirstOf results code (recordsIn results) first → LookupAnswered results code (foundAt first)
+  of-found first whole at =
+      record {
+        listed = inl refl;
+        refused = ((λ is. absurd (omega (arith, is))), λ not-records. absurd (not-records (recordsIn results) (are-records results whole)));
+        not-there = ((λ is. absurd (omega (arith, is))), λ has. absurd (by-place-none has .none first (at .inside) (at .has-code)));
+        found = λ index is. (refl, ap (λ (place : ℕ). resultSize * place) (only index is), refl);
+        a-record = λ _. (first, first-by-place whole at);
+        empty = λ not-found. absurd (not-found refl);
+      }
+    where
+      only : (index : ℕ) → FirstOfWorst results code index → first ≡ index
+      only index is = sym (first-of-worst-is results code at) ∙ first-of-worst-is results code (by-place-first is)
+
+  -- no record has the code
+  of-none : length results % resultSize ≡ 0 → NoneOf results code (recordsIn results) → LookupAnswered results code notOnThisSheet
+  of-none whole has =
+      record {
+        listed = inr (inl refl);
+        refused = ((λ is. absurd (omega (arith, is))), λ not-records. absurd (not-records (recordsIn results) (are-records results whole)));
+        not-there = ((λ _. none-by-place whole has), λ _. refl);
+        found = λ index is. let at = by-place-first is in absurd (has .none index (at .inside) (at .has-code));
+        a-record = λ is. absurd (omega (arith, is));
+        empty = λ _. (refl, refl);
+      }
+
+  answered : LookupAnswered results code (lookup results code)
+  answered = go (case-of results code)
+    where
+      go : Case results code → LookupAnswered results code (lookup results code)
+      go (refused rest is) = subst (LookupAnswered results code) (sym is) (of-refused rest)
+      go (found whole first at is) = subst (LookupAnswered results code) (sym is) (of-found first whole at)
+      go (none whole has is) = subst (LookupAnswered results code) (sym is) (of-none whole has)
+
+-- ---- the part in memory
+
+part-of : (block at : ℕ) (results : List ℕ) (part : Part) → part .offset + part .length ≤ length results
+    → PartOfResults block at results part (handedAs (block, at) results part)
+unfolding handedAs
+part-of block at results part inside =
+    record {
+      number = refl;
+      start = refl;
+      size = simp (length-take, length-drop) (omega arith);
+      bytes = λ i below. rw (getD-take, getD-drop);
+      inside = inside;
+    }
+
+pub lookup-answers : LookupAnswers
+lookup-answers =
+    record {
+      place = λ results code part is. subst (LookupAnswered results code) (sym is) (answered results code);
+      in-memory = λ block at results code back is.
+          subst (PartOfResults block at results (lookup results code)) (sym is) (part-of block at results (lookup results code) (part-inside results code));
+    }

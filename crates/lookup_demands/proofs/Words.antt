@@ -1,0 +1,113 @@
+-- The words of the statements are those of the definitions: how many records, which grade a byte is, and the first of the worst portions.
+use Prim.Native.Nat.{ℕ, _%_, _≤_, _<_}
+use mathlib.Core.Path.{_≡_, refl}
+use mathlib.Core.Bool.{Bool, true, false}
+use mathlib.Core.List.{List}
+use mathlib.Core.Logic.{inl, inr}
+use native.Mathlib.Omega.{arith}
+use borrow.Author.Tests.{ltb-true, ltb-false}
+use lib.Dec.{ltb}
+use lib.ListN.{length}
+use Rattle.results.specs.Record.{resultSize, portionGradeIn}
+use Rattle.lookup.specs.Records.{recordsIn, gradeOf}
+use Rattle.lookup.proofs.Worst.{grade-below, grade-from, grade-at-most, FirstOf, NoneOf}
+use Rattle.lookup_demands.specs.LookupAnswers.{AreRecords, gradeByteAt, NoWorse, Better, NotThere, FirstOfWorst}
+
+-- ---- so many records
+
+module _ (results : List ℕ) where
+  pub no-rest : (records : ℕ) → AreRecords results records → length results % resultSize ≡ 0
+  no-rest records whole = omega arith
+
+  pub so-many : (records : ℕ) → AreRecords results records → recordsIn results ≡ records
+  so-many records whole = omega arith
+
+  pub are-records : length results % resultSize ≡ 0 → AreRecords results (recordsIn results)
+  are-records whole = omega arith
+
+-- ---- grades of bytes
+
+-- a byte is its grade, or Substandard
+data Graded (gradeByte : ℕ) : Type 0 where
+  as-it-is : gradeByte < 3 → gradeOf gradeByte ≡ gradeByte → Graded gradeByte
+  substandard : 3 ≤ gradeByte → gradeOf gradeByte ≡ 3 → Graded gradeByte
+
+graded : (gradeByte : ℕ) → Graded gradeByte
+graded gradeByte = go (ltb gradeByte 3) refl
+  where
+    go : (below : Bool) → ltb gradeByte 3 ≡ below → Graded gradeByte
+    go true test = let below = ltb-true gradeByte 3 test in as-it-is below (grade-below gradeByte below)
+    go false test = let above = ltb-false gradeByte 3 test in substandard above (grade-from gradeByte above)
+
+module _ (gradeByte other : ℕ) where
+  pub no-worse : gradeOf gradeByte ≤ gradeOf other → NoWorse gradeByte other
+  no-worse at-most = go (graded gradeByte) (graded other)
+    where
+      go : Graded gradeByte → Graded other → NoWorse gradeByte other
+      go its (substandard above is) = inr above
+      go (as-it-is below is) (as-it-is below' is') = inl (omega (arith, is, is'))
+      go (substandard above is) (as-it-is below' is') = absurd (omega (arith, is, is', below'))
+
+  pub at-most : NoWorse gradeByte other → gradeOf gradeByte ≤ gradeOf other
+  at-most (inr above) = omega (arith, grade-at-most gradeByte, grade-from other above)
+  at-most (inl less) = go (graded gradeByte) (graded other)
+    where
+      go : Graded gradeByte → Graded other → gradeOf gradeByte ≤ gradeOf other
+      go its (substandard above is) = omega (arith, grade-at-most gradeByte, is)
+      go (as-it-is below is) (as-it-is below' is') = omega (arith, is, is')
+      go (substandard above is) (as-it-is below' is') = absurd (omega (arith, above, below'))
+
+  pub better : gradeOf gradeByte < gradeOf other → Better gradeByte other
+  better less = go (graded gradeByte) (graded other)
+    where
+      go : Graded gradeByte → Graded other → Better gradeByte other
+      go (as-it-is below is) (as-it-is below' is') = (omega (arith, is, is'), below)
+      go (as-it-is below is) (substandard above is') = (omega (arith, below, above), below)
+      go (substandard above is) its = absurd (omega (arith, is, grade-at-most other))
+
+  pub less-than : Better gradeByte other → gradeOf gradeByte < gradeOf other
+  less-than (less, below) = go (graded other)
+    where
+      go : Graded other → gradeOf gradeByte < gradeOf other
+      go (as-it-is below' is) = omega (arith, is, grade-below gradeByte below)
+      go (substandard above is) = omega (arith, is, grade-below gradeByte below)
+
+-- Substandard is 3 or more
+pub below-three : (gradeByte : ℕ) → gradeOf gradeByte < 3 → gradeByte < 3
+below-three gradeByte less = go (graded gradeByte)
+  where
+    go : Graded gradeByte → gradeByte < 3
+    go (as-it-is below is) = below
+    go (substandard above is) = absurd (omega (arith, is))
+
+-- ---- the first of the worst portions, and that there is none
+
+module _ {results : List ℕ} {code : ℕ} where
+  pub first-by-place : {first : ℕ} → length results % resultSize ≡ 0 → FirstOf results code (recordsIn results) first → FirstOfWorst results code first
+  first-by-place {first} whole found =
+      record {
+        records = recordsIn results;
+        whole = are-records results whole;
+        inside = found .inside;
+        of-code = found .has-code;
+        worst = λ j below own. no-worse (gradeByteAt results j) (gradeByteAt results first) (found .none-worse j below own);
+        first = λ j below own. better (gradeByteAt results j) (gradeByteAt results first) (found .earlier-better j below own);
+      }
+
+  pub by-place-first : {first : ℕ} → FirstOfWorst results code first → FirstOf results code (recordsIn results) first
+  by-place-first {first} found =
+      let same = so-many results (found .records) (found .whole) in
+      record {
+        inside = omega (arith, same, found .inside);
+        has-code = found .of-code;
+        none-worse = λ j below own. at-most (gradeByteAt results j) (gradeByteAt results first) (found .worst j (omega (arith, same, below)) own);
+        earlier-better = λ j below own. less-than (gradeByteAt results j) (gradeByteAt results first) (found .first j below own);
+      }
+
+  pub none-by-place : length results % resultSize ≡ 0 → NoneOf results code (recordsIn results) → NotThere results code
+  none-by-place whole has = record { records = recordsIn results; whole = are-records results whole; no-record = has .none }
+
+  pub by-place-none : NotThere results code → NoneOf results code (recordsIn results)
+  by-place-none has =
+      let same = so-many results (has .records) (has .whole) in
+      record { none = λ j below own. has .no-record j (omega (arith, same, below)) own }
