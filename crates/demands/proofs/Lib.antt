@@ -4,4 +4,5 @@ pub mod OneFewer
 pub mod AtUnits
 pub mod Computing
 pub mod Instances
+pub mod LookupGraded
 pub mod Demands
