@@ -114,7 +114,7 @@ module _ (bytes results : List ℕ) (units : ℕ) (counted : units ≡ unitsBefo
           shows-code-grade = omega (arith, worst i at .none-worse i at refl, its-worst, has .same-grade, grade-in i at, grade-in k (has .unit));
           first = λ j below there same.
               let earlier : unitsBefore bytes j < unitsBefore bytes i =
-                  omega (arith, next-units bytes j (there .is-unit), units-mono bytes (suc j) i (omega (arith, below))) in
+              omega (arith, next-units bytes j (there .is-unit), units-mono bytes (suc j) i (omega (arith, below))) in
               omega (arith, is .earlier-better (unitsBefore bytes j) earlier (its-code j there ∙ same), grade-in j there, grade-in i at);
         }
 
@@ -172,7 +172,7 @@ regraded-portion-le bytes plan buffer answer results accepted i at =
     let facts = its-facts bytes plan buffer answer results accepted in
     let designated = designated-le plan 0 (second-facts bytes plan buffer answer results accepted) in
     let defects =
-        defect-grade-at-most (sheet .table) (sheet .designated) (cusumsBefore sheet i) (tenthsOf unit) (omega (arith, designated)) in
+    defect-grade-at-most (sheet .table) (sheet .designated) (cusumsBefore sheet i) (tenthsOf unit) (omega (arith, designated)) in
     let prerequisite = prerequisite-le bytes (recordsIn bytes) facts i unit (entry-unit bytes i (at .is-unit)) in
     rw (regraded.recorded-portion bytes plan buffer answer results accepted i at) (omega (arith, defects, prerequisite))
 

@@ -44,6 +44,7 @@ module _ (results : List ℕ) (code : ℕ) where
       by-search : length results % resultSize ≡ 0 → Search results code (recordsIn results) → Case
       by-search whole (first-found first is) = found whole first is (found-is whole (first-of-worst-is results code is) (is .inside))
       by-search whole (none-has-code is) = none whole is (none-is whole (first-of-none results code is) (omega arith))
+
       by-rest : (whole : Bool) → eqb (length results % resultSize) 0 ≡ whole → Case
       by-rest true test = by-search (eqb-true (length results % resultSize) 0 test) (search-all results code (recordsIn results))
       by-rest false test = let rest = eqb-false (length results % resultSize) 0 test in refused rest (refused-is rest)

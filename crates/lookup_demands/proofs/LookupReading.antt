@@ -41,9 +41,11 @@ read-to results code records =
 
 same-grade : {results results' : List ℕ} {j : ℕ} → SameLook results results' j → gradeIn results' j ≡ gradeIn results j
 same-grade {results} {results'} {j} same =
-    omega (arith,
+    omega (
+      arith,
       at-most (portionGradeIn results j) (portionGradeIn results' j) (same .no-worse),
-      at-most (portionGradeIn results' j) (portionGradeIn results j) (same .no-better))
+      at-most (portionGradeIn results' j) (portionGradeIn results j) (same .no-better),
+    )
 
 module _ (results results' : List ℕ) (code : ℕ) (same-length : length results ≡ length results')
     (alike : (j : ℕ) → 32 * j + 32 ≤ length results → NoneBefore results code j → SameLook results results' j) where
@@ -97,6 +99,7 @@ module _ (results results' : List ℕ) (code : ℕ) (same-length : length result
     where
       many : recordsIn results' ≡ recordsIn results
       many = omega (arith, same-length)
+
       go : Case results code → lookup results code ≡ lookup results' code
       go (refused rest is) = is ∙ sym (refused-is results' code (λ whole. rest (omega (arith, same-length, whole))))
       go (found whole first at is) =

@@ -1,8 +1,9 @@
-// Prints many sheets of every kind. Standard input has the cases one after the other: the kind (a byte), the length of the sheet (four
-// bytes, the high byte first), then the sheet. For each a line `case NUMBER`, then what is printed for a sheet of this kind: 0 a tally
+// Prints many cases of every kind. Standard input has the cases one after the other: the kind (a byte), the length of the sheet (four
+// bytes, the high byte first), then the sheet. For each a line `case NUMBER`, then what is printed for a case of this kind: 0 a tally
 // sheet, as the printing program prints it; 1 a mold sheet; 2 a tally sheet graded again under a second plan, which stands behind the sheet,
-// its length (four bytes) before it. A sheet and a second plan have any length up to one byte more than is taken for a sheet. A case of
-// another kind or with more bytes ends the program.
+// its length (four bytes) before it; 3 a look-up: finished results in place of a sheet, and behind them the code (two bytes). A sheet, a
+// second plan and results have any length up to one byte more than is taken for a sheet. A case of another kind or with more bytes ends the
+// program.
 use encoding::number_at;
 use layout::NUMBER_SIZE;
 use lines::TEXT_SIZE;
@@ -23,6 +24,8 @@ const TALLY: u8 = 0;
 const MOLD: u8 = 1;
 
 const REGRADING: u8 = 2;
+
+const LOOKUP: u8 = 3;
 
 const NO_CASE: u8 = 255;
 
@@ -93,6 +96,48 @@ fn print_regrading(sheet: &[u8]) -> bool {
     true
 }
 
+// The place of the part in the results, and its bytes.
+fn print_found(offset: usize, part: &[u8]) {
+    io::write_all(libc::STDOUT_FILENO, b"found ");
+    io::print_decimal(libc::STDOUT_FILENO, offset as u64);
+    let mut i: usize = 0;
+    while i < part.len() {
+        io::write_all(libc::STDOUT_FILENO, b" ");
+        io::print_decimal(libc::STDOUT_FILENO, part[i] as u64);
+        i += 1;
+    }
+    io::write_all(libc::STDOUT_FILENO, b"\n");
+}
+
+// The number says that nothing is found: the code is not there, or the results are refused.
+fn print_not_found(number: u32) {
+    if number == 1 {
+        io::write_all(libc::STDOUT_FILENO, b"not on this sheet\n");
+        return;
+    }
+    io::write_all(libc::STDOUT_FILENO, b"refused ");
+    io::print_decimal(libc::STDOUT_FILENO, number as u64);
+    io::write_all(libc::STDOUT_FILENO, b" 0\n");
+}
+
+// Reads the code, and prints the look-up; false where there is no code.
+fn print_lookup(results: &[u8]) -> bool {
+    let mut bytes = [0u8; NUMBER_SIZE];
+    let got = io::read_full(libc::STDIN_FILENO, &mut bytes);
+    if got < NUMBER_SIZE {
+        return false;
+    }
+    let code = number_at(&bytes, 0);
+    let mut number: u32 = 0;
+    let part = lookup::find(results, code, &mut number);
+    if number == 0 {
+        print_found(lookup::find_place(results, code).offset, part);
+    } else {
+        print_not_found(number);
+    }
+    true
+}
+
 fn print_sheet(kind: u8, sheet: &[u8]) -> bool {
     if kind == TALLY {
         print_tally(sheet);
@@ -102,13 +147,16 @@ fn print_sheet(kind: u8, sheet: &[u8]) -> bool {
         print_mold(sheet);
         return true;
     }
-    print_regrading(sheet)
+    if kind == REGRADING {
+        return print_regrading(sheet);
+    }
+    print_lookup(sheet)
 }
 
 // Prints one case; false where none is left, or it is none of these.
 fn print_case(number: u64) -> bool {
     let kind = read_kind();
-    if REGRADING < kind {
+    if LOOKUP < kind {
         return false;
     }
     let mut sheet = [0u8; ROOM];
