@@ -1,14 +1,18 @@
 /*
  * Grades a tally sheet, a recorded one again under the plan of a new buyer, or a mold sheet, and
- * prints the answer and the result records.
+ * prints the answer and the result records; or grades a tally sheet and prints what became of a code.
  *
  *   grade [FILE]                      reads standard input if no file is named
  *   grade -regrade PLANFILE [FILE]    the buyer's plan is in PLANFILE, one plan record
  *   grade -mold [FILE]
+ *   grade -find CODE [FILE]           the code in decimal, 0 to 65535
  *
  * The first line has number, units and offset; then comes a line for each result record, its fields
- * in hexadecimal. The exit status is 0 for an accepted sheet, 2 for a refused one, and 1 if the
- * input cannot be read or the output cannot be written.
+ * in hexadecimal. With -find come the offset in the results at which the code is found and the line
+ * of that record, or 'not on this sheet'; of a refused sheet the first line as above.
+ *
+ * The exit status is 0 for an accepted sheet, 2 for a refused one, 3 for a code that is not on this
+ * sheet, and 1 if the input cannot be read or the output cannot be written.
  */
 #include <errno.h>
 #include <stdint.h>
@@ -92,17 +96,59 @@ static void print_mold_record(const uint8_t *record)
            two(record + HATMUYON_MOLD_RESULT_CUSUM));
 }
 
+/* The code that decimal digits name, or -1 if they name none. */
+static long code_of(const char *digits)
+{
+    long code = 0;
+
+    if (*digits == '\0')
+        return -1;
+    for (; *digits != '\0'; digits++) {
+        if (*digits < '0' || *digits > '9')
+            return -1;
+        code = 10 * code + (*digits - '0');
+        if (code > UINT16_MAX)
+            return -1;
+    }
+    return code;
+}
+
+/* Prints what became of a code in finished results, and tells the exit status. */
+static int print_code(const uint8_t *results, size_t results_length, uint16_t code)
+{
+    struct hatmuyon_part part = hatmuyon_find_code(results, results_length, code);
+
+    switch (part.number) {
+    case HATMUYON_FOUND:
+        printf("found at offset %zu\n", part.offset);
+        print_record(results + part.offset);
+        return 0;
+    case HATMUYON_NOT_ON_THIS_SHEET:
+        printf("not on this sheet\n");
+        return 3;
+    default: /* not after a grading, whose results are whole records */
+        printf("number %lu, offset %zu\n", (unsigned long)part.number, part.offset);
+        return 2;
+    }
+}
+
 int main(int argc, char **argv)
 {
     /* Of a mold sheet the result records are smaller. */
     static uint8_t results[HATMUYON_RESULT_SIZE * HATMUYON_MOST_UNITS];
     int mold = argc > 1 && strcmp(argv[1], "-mold") == 0;
     int regrade = argc > 1 && strcmp(argv[1], "-regrade") == 0;
+    int find = argc > 1 && strcmp(argv[1], "-find") == 0;
     /* The arguments before the name of the sheet, that of the program among them. */
-    int before = mold ? 2 : regrade ? 3 : 1;
+    int before = mold ? 2 : regrade || find ? 3 : 1;
 
     if (argc < before || argc > before + 1) {
-        fprintf(stderr, "usage: grade [-mold | -regrade PLANFILE] [FILE]\n");
+        fprintf(stderr, "usage: grade [-mold | -regrade PLANFILE | -find CODE] [FILE]\n");
+        return 1;
+    }
+    long code = find ? code_of(argv[2]) : 0;
+    if (code < 0) {
+        fprintf(stderr, "grade: '%s' is not a code from 0 to 65535\n", argv[2]);
         return 1;
     }
     size_t sheet_length, plan_length = 0;
@@ -119,17 +165,22 @@ int main(int argc, char **argv)
     free(sheet);
     free(plan);
 
-    printf("number %lu, units %zu, offset %zu\n", (unsigned long)answer.number, answer.units,
-           answer.offset);
-    for (size_t unit = 0; unit < answer.units; unit++)
-        if (mold)
-            print_mold_record(results + HATMUYON_MOLD_RESULT_SIZE * unit);
-        else
-            print_record(results + HATMUYON_RESULT_SIZE * unit);
+    int status = answer.number == HATMUYON_ACCEPTED ? 0 : 2;
+    if (find && status == 0) {
+        status = print_code(results, HATMUYON_RESULT_SIZE * answer.units, (uint16_t)code);
+    } else {
+        printf("number %lu, units %zu, offset %zu\n", (unsigned long)answer.number, answer.units,
+               answer.offset);
+        for (size_t unit = 0; unit < answer.units; unit++)
+            if (mold)
+                print_mold_record(results + HATMUYON_MOLD_RESULT_SIZE * unit);
+            else
+                print_record(results + HATMUYON_RESULT_SIZE * unit);
+    }
 
     if (fflush(stdout) != 0 || ferror(stdout)) {
         fprintf(stderr, "grade: cannot write: %s\n", strerror(errno));
         return 1;
     }
-    return answer.number == HATMUYON_ACCEPTED ? 0 : 2;
+    return status;
 }

@@ -1,7 +1,7 @@
 /*
  * hatmuyon: grades the tally sheet of an on-line inspection, and the mold sheet of a tomato line,
  * under the USDA cumulative sum plan, File Code 120 A-6 of August 1978; and a recorded tally sheet
- * again, under a second plan.
+ * again, under a second plan. In finished results it looks up what became of a code.
  *
  * Link with libhatmuyon.a, which `rt staticlib hatmuyon` writes to target/staticlib (x86-64).
  * The archive needs no other library. The header is C99 and C++11.
@@ -21,9 +21,9 @@ extern "C" {
  * and of the functions and types in C or Rust. A program, the header and the archive of one version
  * belong together. The archive does not carry its version, so that nothing notices another one.
  */
-#define HATMUYON_VERSION "0.6.0"
+#define HATMUYON_VERSION "0.7.0"
 #define HATMUYON_VERSION_MAJOR 0
-#define HATMUYON_VERSION_MINOR 6
+#define HATMUYON_VERSION_MINOR 7
 #define HATMUYON_VERSION_PATCH 0
 
 /*
@@ -117,6 +117,20 @@ enum hatmuyon_standing {
  */
 
 /*
+ * What became of a code may be looked up in finished results, those of a grading or a regrading. The
+ * answer is a part of them: the first record of the code whose portion grade is the worst that the
+ * code has.
+ *
+ *   - The results are bytes of any origin, taken as result records one after the other.
+ *   - Of a record the code and the portion grade are looked at; its mark, its code grade and all else
+ *     are not. A portion grade of 3 or more is Substandard.
+ *   - Reading ends at the first Substandard portion of the code; the answer is that of a full reading.
+ *   - A code is not on this sheet exactly if no record has it.
+ *
+ * The result records of a mold sheet, below, have no code, and nothing is looked up in them.
+ */
+
+/*
  * A mold sheet is an opening and then sample units, with marks and numbers as on a tally sheet.
  *
  *   opening        4D 44, level row (1)
@@ -180,7 +194,8 @@ enum hatmuyon_standing {
  *   6     one byte left, or a mark not 4D 55
  *   13    result buffer shorter than 5 times the units
  *
- * 15 is answered by the printing program alone, for an input above 65,536 bytes.
+ * 15 is answered by the printing program alone, for an input above 65,536 bytes. 19 is answered by a
+ * look-up, whose numbers are apart from these.
  */
 enum hatmuyon_number {
     HATMUYON_ACCEPTED = 0,
@@ -203,17 +218,32 @@ enum hatmuyon_number {
     HATMUYON_REFUSED_BAD_SECOND_PLAN = 18           /* second plan not exactly one plan record free of 2 to 5 */
 };
 
-/* What each function answers. */
+/* What a grading or a regrading answers. */
 struct hatmuyon_answer {
     uint32_t number; /* an enum hatmuyon_number */
     size_t units;    /* accepted: the sample units, which is the number of result records; refused: 0 */
     size_t offset;   /* accepted: the sheet's length; refused: the place, see above */
 };
 
+/* The number of a look-up, apart from those above: 1 is no refusal here. 19 comes before reading. */
+enum hatmuyon_lookup_number {
+    HATMUYON_FOUND = 0,
+    HATMUYON_NOT_ON_THIS_SHEET = 1,         /* no record has the code */
+    HATMUYON_REFUSED_NOT_WHOLE_RECORDS = 19 /* results not a multiple of 32 bytes long */
+};
+
+/* What a look-up answers: a part of the results, which is empty unless the code is found. */
+struct hatmuyon_part {
+    uint32_t number; /* an enum hatmuyon_lookup_number */
+    size_t offset;   /* found: where the record begins in the results; else 0 */
+    size_t length;   /* found: HATMUYON_RESULT_SIZE; else 0 */
+};
+
 /*
  * Each function needs at most 2 KiB of stack, its return address among them. This is measured and
  * not proved: hatmuyon_grade and hatmuyon_regrade take some 900 bytes, in frames of fixed size and
- * without recursion, and a test of bindings/rust fails if one takes more than this of a painted stack.
+ * without recursion, hatmuyon_find_code hardly any, and a test of bindings/rust fails if one takes
+ * more than this of a painted stack.
  */
 #define HATMUYON_STACK_SIZE 2048
 
@@ -233,7 +263,7 @@ struct hatmuyon_answer {
  *     results.
  * Nothing is owed of the bytes: any sheet may be passed, any second plan, and any result buffer.
  *
- * Each function promises:
+ * Each of the three promises:
  *   - it accepts the sheet, or refuses it by one of the numbers for this function with the place, and
  *     refuses none to which no ground applies;
  *   - refused: every byte of `results` is kept;
@@ -252,14 +282,35 @@ struct hatmuyon_answer hatmuyon_regrade(const uint8_t *sheet, size_t sheet_lengt
                                         uint8_t *results, size_t results_length);
 
 /*
- * The same three, but where a length is 0 nothing is owed of its pointer: it may be null, as that of
+ * hatmuyon_find_code looks up what became of the code `code` in the finished results `results`.
+ *
+ * The caller owes:
+ *   - `results` may be read for `results_length` bytes, and is not null, also where the length is 0;
+ *   - during the call no other thread writes to the results.
+ * Nothing is owed of the bytes. After a grading the results are HATMUYON_RESULT_SIZE * units bytes
+ * long: what lies behind them in the result buffer would be taken for records, too.
+ *
+ * It promises:
+ *   - results that are not a multiple of HATMUYON_RESULT_SIZE bytes long are refused, and no others;
+ *   - a code that a record has is found, and the part is the first record of the code whose portion
+ *     grade is the worst that the code has; any other code is not on this sheet, as is every code
+ *     where the length is 0;
+ *   - no byte of the results is changed, no other memory is touched but the stack, nothing is
+ *     allocated, and nothing is kept from one call to the next;
+ *   - it always returns.
+ */
+struct hatmuyon_part hatmuyon_find_code(const uint8_t *results, size_t results_length,
+                                        uint16_t code);
+
+/*
+ * The same four, but where a length is 0 nothing is owed of its pointer: it may be null, as that of
  * an empty vector in C++ may be. The address of a local byte is passed on in its place.
  *
  * Where a length is not 0, all is owed that is asked above: the pointer is not null and valid for
- * its length, the results overlap no other buffer, and other threads keep away as said there. The
- * promises are the same: a sheet of length 0 is refused by number 1, a second plan of length 0 by 18
- * if the sheet is not refused by 1 to 12, and a result buffer of length 0 is long enough for a sheet
- * without a unit.
+ * its length, the results of a grading overlap no other buffer, and other threads keep away as said
+ * there. The promises are the same: a sheet of length 0 is refused by number 1, a second plan of
+ * length 0 by 18 if the sheet is not refused by 1 to 12, a result buffer of length 0 is long enough
+ * for a sheet without a unit, and in results of length 0 no code is found.
  */
 static inline struct hatmuyon_answer hatmuyon_grade_nullable(const uint8_t *sheet,
                                                              size_t sheet_length, uint8_t *results,
@@ -294,6 +345,15 @@ static inline struct hatmuyon_answer hatmuyon_regrade_nullable(const uint8_t *sh
     return hatmuyon_regrade(sheet_length == 0 ? &no_byte : sheet, sheet_length,
                             plan_length == 0 ? &no_byte : plan, plan_length,
                             results_length == 0 ? &no_byte : results, results_length);
+}
+
+static inline struct hatmuyon_part hatmuyon_find_code_nullable(const uint8_t *results,
+                                                               size_t results_length,
+                                                               uint16_t code)
+{
+    uint8_t no_byte = 0;
+
+    return hatmuyon_find_code(results_length == 0 ? &no_byte : results, results_length, code);
 }
 
 #ifdef __cplusplus

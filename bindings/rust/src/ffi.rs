@@ -1,5 +1,6 @@
 //! The boundary as `include/hatmuyon.h` declares it. [`grade`](crate::grade),
-//! [`grade_mold`](crate::grade_mold) and [`regrade`](crate::regrade) are the safe ways in.
+//! [`grade_mold`](crate::grade_mold), [`regrade`](crate::regrade) and [`find_code`](crate::find_code)
+//! are the safe ways in.
 
 /// Offset of the production code in a result record, 2 bytes with the high byte first.
 pub const RESULT_CODE: usize = 2;
@@ -33,8 +34,13 @@ pub const MOLD_RESULT_MET: usize = 2;
 /// Offset of the CuSum of positive fields, 2 bytes, tenths.
 pub const MOLD_RESULT_CUSUM: usize = 3;
 
-/// Bytes of stack that [`hatmuyon_grade`], [`hatmuyon_grade_mold`] and [`hatmuyon_regrade`] need at
-/// most; the header says how they were measured.
+/// The number of a look-up that found a record.
+pub const FOUND: u32 = 0;
+/// The number of a look-up where no record has the code; it is no refusal.
+pub const NOT_ON_THIS_SHEET: u32 = 1;
+
+/// Bytes of stack that [`hatmuyon_grade`], [`hatmuyon_grade_mold`], [`hatmuyon_regrade`] and
+/// [`hatmuyon_find_code`] need at most; the header says how they were measured.
 pub const STACK_SIZE: usize = 2048;
 
 /// `struct hatmuyon_answer`.
@@ -51,15 +57,16 @@ pub struct Answer {
     pub offset: usize,
 }
 
-/// `struct hatmuyon_part`: the place of a part of results.
+/// `struct hatmuyon_part`: the place of a part of finished results.
 #[derive(Clone, Copy, Debug, PartialEq, Eq)]
 #[repr(C)]
 pub struct Part {
-    /// 0 found, 1 not on this sheet, 19 refused.
+    /// [`FOUND`], [`NOT_ON_THIS_SHEET`], or the number of the refusal, which from an archive of this
+    /// version is that of a [`LookupGround`](crate::LookupGround).
     pub number: u32,
-    /// Found: where the part begins in the results. Else 0.
+    /// Found: where the record begins in the results. Else 0.
     pub offset: usize,
-    /// Found: the bytes of the part, which are those of a result record. Else 0.
+    /// Found: the bytes of the record, [`RESULT_SIZE`](crate::RESULT_SIZE). Else 0.
     pub length: usize,
 }
 
@@ -106,11 +113,12 @@ extern "C" {
         results_length: usize,
     ) -> Answer;
 
-    /// Finds the first record of the worst portion grade of a code in finished results.
+    /// Finds, in finished results, the first record of a code whose portion grade is the worst that
+    /// the code has.
     ///
     /// # Safety
     ///
-    /// `results` must be valid for reads of `results_length` bytes, all of them initialized, and not
-    /// null, also where the length is 0. During the call no other thread may write to them.
+    /// `results` must be valid for reads of `results_length` bytes, all of them initialized; it is not
+    /// null, also where the length is 0. During the call no other thread may write to the results.
     pub fn hatmuyon_find_code(results: *const u8, results_length: usize, code: u16) -> Part;
 }

@@ -1,6 +1,6 @@
 //! Grades the tally sheet of an on-line inspection, and the mold sheet of a tomato line, under the
 //! USDA cumulative sum plan, File Code 120 A-6 of August 1978; and a recorded tally sheet again, under
-//! a second plan.
+//! a second plan. In finished results it looks up what became of a code.
 //!
 //! A tally sheet is bytes: a plan record, and then sample units, redesignations and breaks in any
 //! order. `include/hatmuyon.h` describes them. [`grade`] takes any bytes, and either grades the sheet
@@ -45,12 +45,16 @@
 //! records, refusals and grounds are those of [`grade`], with one ground more,
 //! [`Ground::BadSecondPlan`].
 //!
+//! [`find_code`] looks up what became of a code in the results of either, and so does
+//! [`Graded::find_code`]. That a code is not on this sheet is no refusal. Refusal and ground of a look-up
+//! are of types of their own.
+//!
 //! [`grade_mold`] does the same as [`grade`] with a mold sheet, which counts positive fields. They and
 //! defects are never to be added or compared, and neither are their CuSums; records, refusals and
 //! grounds of the two sheets are of types apart.
 //!
-//! The grading itself is the proved library `libhatmuyon.a`, which `rt staticlib hatmuyon` writes
-//! (x86-64). The build links it from target/staticlib of the repository, or from the folder that
+//! Gradings and look-ups are those of the proved library `libhatmuyon.a`, which `rt staticlib hatmuyon`
+//! writes (x86-64). The build links it from target/staticlib of the repository, or from the folder that
 //! the environment variable `HATMUYON_ARCHIVE_DIR` names.
 //!
 //! # Versions
@@ -59,9 +63,11 @@
 //! the build cannot compare them. Linked with an archive of another version:
 //!
 //! - A refusal by a number that this version does not know is handed on with its number and offset;
-//!   its [`Refusal::ground`] or [`MoldRefusal::ground`] is `None`.
+//!   its [`Refusal::ground`], [`MoldRefusal::ground`] or [`LookupRefusal::ground`] is `None`.
 //! - An answer of more result records than the result buffer has room for, at this version's
 //!   [`RESULT_SIZE`] or [`MOLD_RESULT_SIZE`], panics.
+//! - A found part that does not lie in the results, or has another length than [`RESULT_SIZE`], panics;
+//!   so does any refusal in [`Graded::find_code`].
 //! - Nothing else is checked. If that archive writes records of another size or with other fields,
 //!   it keeps to the buffer, but they are read as if they were of this version, and the [`Record`]s
 //!   or [`MoldRecord`]s are wrong. If its answer or a function itself has another form, the behaviour
@@ -75,9 +81,11 @@ use std::marker::PhantomData;
 use std::slice::ChunksExact;
 
 pub mod ffi;
+mod lookup;
 mod mold;
 mod regrade;
 
+pub use lookup::{find_code, Found, LookupGround, LookupRefusal};
 pub use mold::{grade_mold, GradedMold, MoldGround, MoldRecord, MoldRefusal};
 pub use mold::{MOLD_LEVELS, MOLD_OPENING_SIZE, MOLD_RESULT_SIZE, MOLD_UNIT_SIZE};
 pub use mold::{MOLD_RESULT_MARK, MOLD_SHEET_MARK, MOLD_UNIT_MARK, MOST_POSITIVE_FIELDS};
@@ -249,8 +257,9 @@ impl<R: ResultRecord> FusedIterator for Records<'_, R> {}
 
 /// What is recorded of a sample unit on a tally sheet.
 ///
-/// An archive of this version writes grades and standings from 0 to 3. A larger byte would be read
-/// as 3: [`Grade::Substandard`], no plan in force, [`Standing::Recovered`]. The mark is not read.
+/// An archive of this version writes grades and standings from 0 to 3. A larger byte, which results of
+/// another origin may have, is read as 3: [`Grade::Substandard`], no plan in force,
+/// [`Standing::Recovered`]. The mark is not read.
 #[derive(Clone, Copy, Debug, PartialEq, Eq, Hash)]
 pub struct Record {
     /// The production code.
@@ -395,7 +404,7 @@ impl fmt::Display for Refusal {
 
 impl std::error::Error for Refusal {}
 
-/// Says in words that a sheet is refused.
+/// Says in words that a sheet or a look-up is refused.
 fn say_refused(
     f: &mut fmt::Formatter<'_>,
     number: u32,
@@ -540,6 +549,9 @@ mod tests {
         for number in [16, 17] {
             assert_eq!(Refusal { number, offset: 0 }.ground(), None);
         }
+        // That of a look-up.
+        assert_eq!(Refusal { number: 19, offset: 0 }.ground(), None);
+        assert_eq!(MoldRefusal { number: 19, offset: 0 }.ground(), None);
     }
 
     #[test]

@@ -1,8 +1,8 @@
 //! The boundary as programs in C and C++ see it: each in this folder is compiled against
 //! include/hatmuyon.h, linked with the archive and run.
 
-use hatmuyon::ffi::{self, Answer};
-use hatmuyon::{Grade, Ground, MoldGround, Standing};
+use hatmuyon::ffi::{self, Answer, Part};
+use hatmuyon::{Grade, Ground, LookupGround, MoldGround, Standing};
 use std::collections::{BTreeMap, BTreeSet};
 use std::mem::{align_of, offset_of, size_of};
 use std::path::Path;
@@ -38,7 +38,7 @@ fn printed_by(source: &str, compiler: &str, standard: &str, arguments: &[String]
     text
 }
 
-/// The struct, the numbers and the version of this crate are those of the header, of which layout.c
+/// The structs, the numbers and the version of this crate are those of the header, of which layout.c
 /// prints names and values.
 #[test]
 fn same_as_in_c() {
@@ -59,6 +59,14 @@ fn same_as_in_c() {
     put("units size", size_of::<usize>());
     put("offset offset", offset_of!(Answer, offset));
     put("offset size", size_of::<usize>());
+    put("part size", size_of::<Part>());
+    put("part alignment", align_of::<Part>());
+    put("part number offset", offset_of!(Part, number));
+    put("part number size", size_of::<u32>());
+    put("part offset offset", offset_of!(Part, offset));
+    put("part offset size", size_of::<usize>());
+    put("part length offset", offset_of!(Part, length));
+    put("part length size", size_of::<usize>());
     put("plan mark", hatmuyon::PLAN_MARK.into());
     put("unit mark", hatmuyon::UNIT_MARK.into());
     put("redesignation mark", hatmuyon::REDESIGNATION_MARK.into());
@@ -109,6 +117,11 @@ fn same_as_in_c() {
     for ground in MoldGround::ALL {
         put(&format!("mold {ground:?}"), ground.number() as usize);
     }
+    put("found", ffi::FOUND as usize);
+    put("not on this sheet", ffi::NOT_ON_THIS_SHEET as usize);
+    for ground in LookupGround::ALL {
+        put(&format!("look-up {ground:?}"), ground.number() as usize);
+    }
 
     let text = printed_by("layout.c", "cc", "c99", &[]);
     let in_c: BTreeMap<String, String> = text
@@ -141,6 +154,8 @@ fn declarations<'t>(
         .skip(1)
         .filter_map(|rest| rest.split_once(after))
         .filter_map(|(declaration, _)| declaration.split_once('('))
+        // Not the definition of a struct, and what comes behind it.
+        .filter(|(name, _)| !name.contains(' '))
         .map(|(name, parameters)| {
             let parameters = parameters.split(',').map(str::trim).filter(|word| !word.is_empty());
             (name, parameters.map(&read).collect())
@@ -151,23 +166,32 @@ fn declarations<'t>(
 /// The functions are declared here as in the header.
 #[test]
 fn same_declarations_as_in_c() {
-    let in_c = declarations(HEADER, ("\nstruct hatmuyon_answer ", ");"), |parameter| {
-        let at = parameter.rfind([' ', '*']).expect("no type") + 1;
-        let (c_type, name) = parameter.split_at(at);
-        let rust_type = match c_type.trim_end() {
-            "const uint8_t *" => "*const u8",
-            "uint8_t *" => "*mut u8",
-            "size_t" => "usize",
-            other => panic!("the type {other}"),
-        };
-        (name, rust_type)
-    });
-    let here = declarations(FFI, ("\n    pub fn ", ") -> Answer;"), |parameter| {
-        parameter.split_once(": ").expect("no type")
-    });
-    assert_eq!(in_c, here);
-    let names: Vec<&str> = in_c.into_keys().collect();
-    assert_eq!(names, ["hatmuyon_grade", "hatmuyon_grade_mold", "hatmuyon_regrade"]);
+    let same = |in_c: &str, here: &str, expected: &[&str]| {
+        let in_c = declarations(HEADER, (in_c, ");"), |parameter| {
+            let at = parameter.rfind([' ', '*']).expect("no type") + 1;
+            let (c_type, name) = parameter.split_at(at);
+            let rust_type = match c_type.trim_end() {
+                "const uint8_t *" => "*const u8",
+                "uint8_t *" => "*mut u8",
+                "size_t" => "usize",
+                "uint16_t" => "u16",
+                other => panic!("the type {other}"),
+            };
+            (name, rust_type)
+        });
+        let here = declarations(FFI, ("\n    pub fn ", here), |parameter| {
+            parameter.split_once(": ").expect("no type")
+        });
+        assert_eq!(in_c, here);
+        let names: Vec<&str> = in_c.into_keys().collect();
+        assert_eq!(names, expected);
+    };
+    same(
+        "\nstruct hatmuyon_answer ",
+        ") -> Answer;",
+        &["hatmuyon_grade", "hatmuyon_grade_mold", "hatmuyon_regrade"],
+    );
+    same("\nstruct hatmuyon_part ", ") -> Part;", &["hatmuyon_find_code"]);
 }
 
 #[test]
@@ -180,6 +204,12 @@ fn empty_vectors_in_cpp() {
     assert_eq!(printed_by("nullable.c", "c++", "c++11", &[]), "");
 }
 
+/// A look-up reads no byte too many, and writes none.
+#[test]
+fn reading_in_c() {
+    assert_eq!(printed_by("reading.c", "cc", "c99", &[]), "");
+}
+
 #[test]
 fn stack_at_most_that_of_the_header() {
     let [plan, sheets @ ..] =
@@ -187,6 +217,6 @@ fn stack_at_most_that_of_the_header() {
             .map(|name| format!("../../examples/{name}"));
     let text = printed_by("stack.c", "cc", "c99", &[vec![plan], sheets.to_vec()].concat());
     let used: Vec<usize> = text.lines().map(|line| line.parse().expect("not a number")).collect();
-    assert_eq!(used.len(), 3 * sheets.len());
+    assert_eq!(used.len(), 4 * sheets.len());
     assert!(used.iter().all(|&used| used <= ffi::STACK_SIZE), "{used:?} bytes of stack");
 }

@@ -8,6 +8,11 @@ struct behind_a_byte {
     struct hatmuyon_answer answer;
 };
 
+struct part_behind_a_byte {
+    char byte;
+    struct hatmuyon_part part;
+};
+
 static void value(const char *name, size_t value)
 {
     printf("%s %zu\n", name, value);
@@ -16,6 +21,10 @@ static void value(const char *name, size_t value)
 #define ANSWER(field) \
     value(#field " offset", offsetof(struct hatmuyon_answer, field)); \
     value(#field " size", sizeof(((struct hatmuyon_answer *)0)->field))
+
+#define PART(field) \
+    value("part " #field " offset", offsetof(struct hatmuyon_part, field)); \
+    value("part " #field " size", sizeof(((struct hatmuyon_part *)0)->field))
 
 int main(void)
 {
@@ -29,6 +38,12 @@ int main(void)
     ANSWER(number);
     ANSWER(units);
     ANSWER(offset);
+
+    value("part size", sizeof(struct hatmuyon_part));
+    value("part alignment", offsetof(struct part_behind_a_byte, part));
+    PART(number);
+    PART(offset);
+    PART(length);
 
     value("plan mark", HATMUYON_PLAN_MARK);
     value("unit mark", HATMUYON_UNIT_MARK);
@@ -107,5 +122,9 @@ int main(void)
     value("mold ResultBufferTooShort", HATMUYON_REFUSED_RESULT_BUFFER_TOO_SHORT);
     value("mold BadLevelRow", HATMUYON_REFUSED_BAD_LEVEL_ROW);
     value("mold TooManyPositiveFields", HATMUYON_REFUSED_TOO_MANY_POSITIVE_FIELDS);
+
+    value("found", HATMUYON_FOUND);
+    value("not on this sheet", HATMUYON_NOT_ON_THIS_SHEET);
+    value("look-up NotWholeRecords", HATMUYON_REFUSED_NOT_WHOLE_RECORDS);
     return 0;
 }

@@ -1,18 +1,20 @@
 /*
- * hatmuyon_grade_nullable, hatmuyon_grade_mold_nullable and hatmuyon_regrade_nullable with null
- * pointers and, compiled as C++, with empty vectors. The first thing that is not as it should be is
- * printed, and the exit status is 1.
+ * hatmuyon_grade_nullable, hatmuyon_grade_mold_nullable, hatmuyon_regrade_nullable and
+ * hatmuyon_find_code_nullable with null pointers and, compiled as C++, with empty vectors. The first
+ * thing that is not as it should be is printed, and the exit status is 1.
  *
- * The header's functions call watched_grade, watched_grade_mold and watched_regrade here, which look
- * at the pointers and call the archive.
+ * The header's functions call watched_grade, watched_grade_mold, watched_regrade and
+ * watched_find_code here, which look at the pointers and call the archive.
  */
 #define hatmuyon_grade watched_grade
 #define hatmuyon_grade_mold watched_grade_mold
 #define hatmuyon_regrade watched_regrade
+#define hatmuyon_find_code watched_find_code
 #include "hatmuyon.h"
 #undef hatmuyon_grade
 #undef hatmuyon_grade_mold
 #undef hatmuyon_regrade
+#undef hatmuyon_find_code
 
 #include <stdio.h>
 #include <stdlib.h>
@@ -24,6 +26,7 @@
 static const uint8_t *last_sheet;
 static const uint8_t *last_plan;
 static uint8_t *last_results;
+static const uint8_t *last_finished;
 
 static void must(int holds, const char *what, int line)
 {
@@ -46,6 +49,8 @@ grading hatmuyon_grade, hatmuyon_grade_mold;
 struct hatmuyon_answer hatmuyon_regrade(const uint8_t *sheet, size_t sheet_length,
                                         const uint8_t *plan, size_t plan_length,
                                         uint8_t *results, size_t results_length);
+struct hatmuyon_part hatmuyon_find_code(const uint8_t *results, size_t results_length,
+                                        uint16_t code);
 
 static struct hatmuyon_answer watched(grading *archive, const uint8_t *sheet, size_t sheet_length,
                                       uint8_t *results, size_t results_length)
@@ -82,6 +87,13 @@ struct hatmuyon_answer watched_regrade(const uint8_t *sheet, size_t sheet_length
     return hatmuyon_regrade(sheet, sheet_length, plan, plan_length, results, results_length);
 }
 
+struct hatmuyon_part watched_find_code(const uint8_t *results, size_t results_length, uint16_t code)
+{
+    MUST(results != NULL);
+    last_finished = results;
+    return hatmuyon_find_code(results, results_length, code);
+}
+
 #ifdef __cplusplus
 }
 #endif
@@ -89,6 +101,11 @@ struct hatmuyon_answer watched_regrade(const uint8_t *sheet, size_t sheet_length
 static int is(struct hatmuyon_answer answer, uint32_t number, size_t units, size_t offset)
 {
     return answer.number == number && answer.units == units && answer.offset == offset;
+}
+
+static int is_part(struct hatmuyon_part part, uint32_t number, size_t offset, size_t length)
+{
+    return part.number == number && part.offset == offset && part.length == length;
 }
 
 /* Tries the nullable form of a grading on a sheet of one unit: its first bytes, so many, are a sheet
@@ -185,6 +202,44 @@ static void try_regrade(const uint8_t *sheet, size_t whole)
 #endif
 }
 
+/* Tries hatmuyon_find_code_nullable on results of three records. */
+static void try_find_code(void)
+{
+    enum { RESULT = HATMUYON_RESULT_SIZE, RESULTS = 3 * RESULT };
+    uint8_t results[RESULTS] = {0}, kept[RESULTS];
+
+    /* Codes 0, 258 and 258, the last worse than the one before it. */
+    results[RESULT + HATMUYON_RESULT_CODE] = results[2 * RESULT + HATMUYON_RESULT_CODE] = 1;
+    results[RESULT + HATMUYON_RESULT_CODE + 1] = results[2 * RESULT + HATMUYON_RESULT_CODE + 1] = 2;
+    results[2 * RESULT + HATMUYON_RESULT_PORTION_GRADE] = HATMUYON_GRADE_B;
+    memcpy(kept, results, RESULTS);
+
+    MUST(is_part(hatmuyon_find_code_nullable(NULL, 0, 0), HATMUYON_NOT_ON_THIS_SHEET, 0, 0));
+    /* A pointer whose length is 0 need not be null. */
+    MUST(is_part(hatmuyon_find_code_nullable(results, 0, 0), HATMUYON_NOT_ON_THIS_SHEET, 0, 0));
+    MUST(last_finished != results);
+    MUST(is_part(hatmuyon_find_code_nullable(results, RESULTS, 258), HATMUYON_FOUND, 2 * RESULT,
+                 RESULT));
+    MUST(last_finished == results);
+    MUST(is_part(hatmuyon_find_code_nullable(results, RESULTS, 0), HATMUYON_FOUND, 0, RESULT));
+    MUST(is_part(hatmuyon_find_code_nullable(results, RESULTS, 513), HATMUYON_NOT_ON_THIS_SHEET, 0,
+                 0));
+    MUST(is_part(hatmuyon_find_code_nullable(results, 1, 0), HATMUYON_REFUSED_NOT_WHOLE_RECORDS, 0,
+                 0));
+    MUST(last_finished == results);
+    MUST(memcmp(results, kept, RESULTS) == 0);
+
+#ifdef __cplusplus
+    const std::vector<uint8_t> nothing;
+    const std::vector<uint8_t> finished(results, results + RESULTS);
+    const auto find_code = [](const std::vector<uint8_t> &in, uint16_t code) {
+        return hatmuyon_find_code_nullable(in.data(), in.size(), code);
+    };
+    MUST(is_part(find_code(nothing, 0), HATMUYON_NOT_ON_THIS_SHEET, 0, 0));
+    MUST(is_part(find_code(finished, 258), HATMUYON_FOUND, 2 * RESULT, RESULT));
+#endif
+}
+
 int main(void)
 {
     enum { PLAN = HATMUYON_PLAN_SIZE, TALLY = PLAN + HATMUYON_UNIT_SIZE };
@@ -199,5 +254,6 @@ int main(void)
     try_with(hatmuyon_grade_mold_nullable, hatmuyon_grade_mold, mold, OPENING, MOLD,
              HATMUYON_MOLD_RESULT_SIZE);
     try_regrade(tally, TALLY);
+    try_find_code();
     return 0;
 }

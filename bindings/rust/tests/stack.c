@@ -1,9 +1,10 @@
 /*
- * Prints the bytes of stack that each grading takes, hatmuyon_grade, hatmuyon_grade_mold and then
- * hatmuyon_regrade under the plan named, for each sheet named: stack PLANFILE FILE...
+ * Prints the bytes of stack that each function takes, hatmuyon_grade, hatmuyon_grade_mold,
+ * hatmuyon_regrade under the plan named and then hatmuyon_find_code in the results of that, for each
+ * sheet named: stack PLANFILE FILE...
  *
- * A thread paints the unused part of its stack, grades, and looks how far down the paint is gone. It
- * counts from its own frame, so that the figure is that of the grading and a little more.
+ * A thread paints the unused part of its stack, calls, and looks how far down the paint is gone. It
+ * counts from its own frame, so that the figure is that of the function and a little more.
  */
 #define _XOPEN_SOURCE 700
 #include <pthread.h>
@@ -24,22 +25,24 @@ static size_t sheet_length;
 static uint8_t plan[65536];
 static size_t plan_length;
 static uint8_t results[HATMUYON_RESULT_SIZE * HATMUYON_MOST_UNITS];
-static enum { GRADE, GRADE_MOLD, REGRADE, GRADINGS } grading;
+static enum { GRADE, GRADE_MOLD, REGRADE, FIND_CODE, FUNCTIONS } function;
 static size_t used;
 
-static void *grade(void *nothing)
+static void *call(void *nothing)
 {
     uint8_t *frame = (uint8_t *)__builtin_frame_address(0);
     volatile uint8_t *byte;
 
     for (byte = stack.bytes; byte < frame - UNPAINTED; byte++)
         *byte = PAINT;
-    if (grading == GRADE)
+    if (function == GRADE)
         hatmuyon_grade(sheet, sheet_length, results, sizeof results);
-    else if (grading == GRADE_MOLD)
+    else if (function == GRADE_MOLD)
         hatmuyon_grade_mold(sheet, sheet_length, results, sizeof results);
-    else
+    else if (function == REGRADE)
         hatmuyon_regrade(sheet, sheet_length, plan, plan_length, results, sizeof results);
+    else
+        hatmuyon_find_code(results, sizeof results, 5);
     for (byte = stack.bytes; *byte == PAINT && byte < frame - UNPAINTED; byte++)
         ;
     used = (size_t)(frame - byte);
@@ -53,7 +56,7 @@ static int measure(void)
 
     return pthread_attr_init(&attributes) == 0 &&
            pthread_attr_setstack(&attributes, stack.bytes, sizeof stack.bytes) == 0 &&
-           pthread_create(&thread, &attributes, grade, NULL) == 0 &&
+           pthread_create(&thread, &attributes, call, NULL) == 0 &&
            pthread_join(thread, NULL) == 0;
 }
 
@@ -78,7 +81,7 @@ int main(int argc, char **argv)
         return 1;
     }
     for (file = 2; file < argc; file++)
-        for (grading = GRADE; grading < GRADINGS; grading++) {
+        for (function = GRADE; function < FUNCTIONS; function++) {
             if (!read_file(argv[file], sheet, sizeof sheet, &sheet_length) || !measure()) {
                 printf("cannot measure %s\n", argv[file]);
                 return 1;
