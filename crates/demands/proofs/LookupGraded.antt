@@ -7,8 +7,7 @@ use mathlib.Core.List.{List}
 use native.Mathlib.Omega.{arith}
 use borrow.Author.Tests.{ltb-true, ltb-false}
 use lib.Dec.{ltb}
-use lib.ListN.{length, take, length-take}
-use lib.Seq.{getD-take}
+use lib.ListN.{length}
 use Rattle.encoding.specs.Bytes.{byte}
 use Rattle.units.specs.Words.{substandard, tenthsOf}
 use Rattle.units.proofs.Records.{NumberedUnit, record-of-unit}
@@ -36,6 +35,7 @@ use Rattle.lookup.specs.Records as look
 use Rattle.lookup.specs.Lookup.{lookup, foundAt, notOnThisSheet}
 use Rattle.lookup.proofs.Worst.{grade-below, grade-from, FirstOf, NoneOf}
 use Rattle.lookup.proofs.Cases.{Case, refused, found, none, case-of}
+use Rattle.lookup.proofs.Cut.{cut-whole, cut-records, cut-code, cut-portion}
 use Rattle.demands.specs.LookupGraded.{recordsOf, UnitFound, LookupInSheet, LookupGraded}
 
 -- a grade is its own byte
@@ -52,19 +52,6 @@ module _ (bytes results : List ℕ) (units : ℕ) (counted : units ≡ unitsBefo
     (worst : (i : ℕ) → UnitAt bytes i → WorstOfCode bytes results i) where
   abbrev records : List ℕ
   records = recordsOf results units
-
-  so-long : length records ≡ resultSize * units
-  so-long = simp length-take (omega (arith, room))
-
-  -- read from the records alone
-  byte-in : (at : ℕ) → at < resultSize * units → byte records at ≡ byte results at
-  byte-in at inside = getD-take (resultSize * units) results at 0 inside
-
-  code-in : (j : ℕ) → j < units → codeIn records j ≡ codeIn results j
-  code-in j inside = rw (byte-in (resultSize * j + 2) (omega (arith, inside)), byte-in (resultSize * j + 2 + 1) (omega (arith, inside)))
-
-  portion-in : (j : ℕ) → j < units → portionGradeIn records j ≡ portionGradeIn results j
-  portion-in j inside = byte-in (resultSize * j + 4) (omega (arith, inside))
 
   -- the unit whose record is record j of the results
   record Numbered (j : ℕ) : Type 0 where
@@ -88,13 +75,13 @@ module _ (bytes results : List ℕ) (units : ℕ) (counted : units ≡ unitsBefo
 
   grade-in : (i : ℕ) → UnitAt bytes i → look.gradeIn records (unitsBefore bytes i) ≡ recordedPortionGrade bytes results i
   grade-in i at =
-      ap look.gradeOf (portion-in (unitsBefore bytes i) (inside-records i at)) ∙ grade-is (recordedPortionGrade bytes results i) (portion-most i at)
+      ap look.gradeOf (cut-portion results units room (unitsBefore bytes i) (inside-records i at)) ∙ grade-is (recordedPortionGrade bytes results i) (portion-most i at)
 
   its-code : (i : ℕ) → UnitAt bytes i → codeIn records (unitsBefore bytes i) ≡ codeOf bytes i
-  its-code i at = code-in (unitsBefore bytes i) (inside-records i at) ∙ code-is i at
+  its-code i at = cut-code results units room (unitsBefore bytes i) (inside-records i at) ∙ code-is i at
 
   many : look.recordsIn records ≡ units
-  many = omega (arith, so-long)
+  many = cut-records results units room
 
   module _ (code : ℕ) where
     -- the record found is that of this unit
@@ -145,7 +132,7 @@ module _ (bytes results : List ℕ) (units : ℕ) (counted : units ≡ unitsBefo
     in-sheet part given = subst (LookupInSheet bytes results code) (sym given) (go (case-of records code))
       where
         go : Case records code → LookupInSheet bytes results code (lookup records code)
-        go (refused rest is) = absurd (rest (omega (arith, so-long)))
+        go (refused rest is) = absurd (rest (cut-whole results units room))
         go (found whole first at is) = subst (LookupInSheet bytes results code) (sym is) (of-found first at)
         go (none whole has is) = subst (LookupInSheet bytes results code) (sym is) (of-none has)
 

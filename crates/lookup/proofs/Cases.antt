@@ -10,26 +10,26 @@ use lib.ListN.{length, take, drop}
 use Rattle.units.specs.Conditions.{pick}
 use Rattle.results.specs.Record.{resultSize}
 use Rattle.lookup.specs.declared.Part.{Part}
-use Rattle.lookup.specs.Records.{wholeRecords, recordsIn}
+use Rattle.lookup.specs.Records.{notRecords, recordsIn}
 use Rattle.lookup.specs.Lookup.{foundAt, notOnThisSheet, refusedResults, firstOfWorst, lookup, Handed, handedAs}
 use Rattle.lookup.proofs.Worst.{FirstOf, NoneOf, first-of-worst-is, first-of-none, Search, none-has-code, first-found, search-all}
 
 module _ (results : List ℕ) (code : ℕ) where
   -- a rest is left
   pub refused-is : (length results % resultSize ≡ 0 → ⊥) → lookup results code ≡ refusedResults
-  unfolding lookup wholeRecords pick
+  unfolding lookup notRecords pick
   refused-is rest = rw (ne-eqb (length results % resultSize) 0 rest)
 
   -- there is none, and a record is found
   pub found-is : {first : ℕ} → length results % resultSize ≡ 0 → firstOfWorst results code (recordsIn results) ≡ first → first < recordsIn results
       → lookup results code ≡ foundAt first
-  unfolding lookup wholeRecords pick
+  unfolding lookup notRecords pick
   found-is {first} whole same inside = rw (eq-eqb (length results % resultSize) 0 whole, same, lt-ltb first (recordsIn results) inside)
 
   -- or not
   pub none-is : {first : ℕ} → length results % resultSize ≡ 0 → firstOfWorst results code (recordsIn results) ≡ first → recordsIn results ≤ first
       → lookup results code ≡ notOnThisSheet
-  unfolding lookup wholeRecords pick
+  unfolding lookup notRecords pick
   none-is {first} whole same behind = rw (eq-eqb (length results % resultSize) 0 whole, same, le-ltb first (recordsIn results) behind)
 
   -- one of these it is

@@ -34,7 +34,7 @@ module _ {results : List ℕ} {code n : ℕ} where
   unfolding recordsRead
   reads-up-to {first} found =
       let end : firstThat (hasGrade results code substandard) n ≡ first =
-      first-is (hasGrade results code substandard)
+      first-is
       (record {
         at-most = omega (arith, found .inside);
         there = λ _. has-grade results code substandard first (found .has-code) (found .is-substandard);
@@ -47,7 +47,7 @@ pub reads-all : (results : List ℕ) (code n : ℕ) → ((j : ℕ) → j < n →
 unfolding recordsRead
 reads-all results code n none =
     let end : firstThat (hasGrade results code substandard) n ≡ n =
-    first-is (hasGrade results code substandard)
+    first-is
     (record {
       at-most = omega arith;
       there = λ below. absurd (omega arith);

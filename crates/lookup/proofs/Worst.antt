@@ -94,7 +94,7 @@ module _ (results : List ℕ) (code : ℕ) where
       let worst = worstGrade results code n in
       let least = worst-at-least n first (found .inside) (found .has-code) in
       let most = worst-at-most n (gradeIn results first) (found .none-worse) in
-      first-is (hasGrade results code worst)
+      first-is
       (record {
         at-most = omega (arith, found .inside);
         there = λ _. has-grade worst first (found .has-code) (omega (arith, least, most));
@@ -104,7 +104,7 @@ module _ (results : List ℕ) (code : ℕ) where
   pub first-of-none : {n : ℕ} → NoneOf n → firstOfWorst results code n ≡ n
   unfolding firstOfWorst
   first-of-none {n} has =
-      first-is (hasGrade results code (worstGrade results code n))
+      first-is
       (record {
         at-most = omega arith;
         there = λ below. absurd (omega arith);

@@ -7,7 +7,7 @@ use lib.ListN.{take, drop}
 use Rattle.units.specs.Conditions.{pick}
 use Rattle.results.specs.Record.{resultSize}
 use Rattle.lookup.specs.declared.Part.{Part}
-use Rattle.lookup.specs.Records.{wholeRecords, recordsIn, firstThat, worstGrade, hasGrade}
+use Rattle.lookup.specs.Records.{notRecords, recordsIn, firstThat, worstGrade, hasGrade}
 
 -- ---- the number, and the place of the part in the results
 
@@ -15,7 +15,7 @@ use Rattle.lookup.specs.Records.{wholeRecords, recordsIn, firstThat, wor
 abbrev pub foundAt : ℕ → Part
 foundAt j = record { number = 0; offset = resultSize * j; length = resultSize }
 
--- 1, 'not on this sheet': the part is empty
+-- 1, 'not on this sheet': the part is empty, and its place is then 0
 abbrev pub notOnThisSheet : Part
 notOnThisSheet = record { number = 1; offset = 0; length = 0 }
 
@@ -27,14 +27,14 @@ refusedResults = record { number = 19; offset = 0; length = 0 }
 
 -- "the first record of that code whose portion grade is the worst the code has", of so many records; so many if there is none
 unfoldable pub firstOfWorst : List ℕ → ℕ → ℕ → ℕ
-firstOfWorst results code n = firstThat (hasGrade results code (worstGrade results code n)) n
+firstOfWorst results code records = firstThat (hasGrade results code (worstGrade results code records)) records
 
 -- 19 "before reading"; then the record, or 'not on this sheet'
 unfoldable pub lookup : List ℕ → ℕ → Part
 lookup results code =
-    let n = recordsIn results in
-    let first = firstOfWorst results code n in
-    pick (wholeRecords results) (pick (ltb first n) (foundAt first) notOnThisSheet) refusedResults
+    let records = recordsIn results in
+    let first = firstOfWorst results code records in
+    pick (notRecords results) refusedResults (pick (ltb first records) (foundAt first) notOnThisSheet)
 
 -- ---- "as part of those results"
 
@@ -49,6 +49,6 @@ unfoldable pub handedAs : ℕ × ℕ → List ℕ → Part → Handed
 handedAs (block, at) results part =
     record { number = part .number; start = (block, at + part .offset); bytes = take (part .length) (drop (part .offset) results) }
 
--- for every slice and every code
+-- what `find` hands back, for every slice and every code
 abbrev pub handed : ℕ × ℕ → List ℕ → ℕ → Handed
 handed start results code = handedAs start results (lookup results code)

@@ -1,18 +1,18 @@
 -- Finished results as they are looked through for a code: bytes of any origin, taken as result records one after the other. Of a record the
 -- code and the portion grade are looked at; its mark and all else are not.
 use Prim.Native.Nat.{ℕ, zero, suc, _/_, _%_}
-use mathlib.Core.Bool.{Bool, cond, _&&_}
+use mathlib.Core.Bool.{Bool, cond, not, _&&_}
 use mathlib.Core.List.{List}
 use lib.Dec.{eqb, ltb}
 use lib.ListN.{length}
 use Rattle.units.specs.Words.{substandard, worse}
 use Rattle.results.specs.Record.{resultSize, codeIn, portionGradeIn}
 
--- "results not a multiple of 32 bytes long" are refused; all others are whole records
-unfoldable pub wholeRecords : List ℕ → Bool
-wholeRecords results = eqb (length results % resultSize) 0
+-- 19: "results not a multiple of 32 bytes long"
+unfoldable pub notRecords : List ℕ → Bool
+notRecords results = not (eqb (length results % resultSize) 0)
 
--- so many
+-- how many records there are
 abbrev pub recordsIn : List ℕ → ℕ
 recordsIn results = length results / resultSize
 
@@ -27,7 +27,7 @@ gradeIn results j = gradeOf (portionGradeIn results j)
 -- the first of so many numbers, from 0 on, of which a condition holds; so many if it holds of none
 unfoldable pub firstThat : (ℕ → Bool) → ℕ → ℕ
 firstThat holds zero = zero
-firstThat holds (suc n) = cond (ltb (firstThat holds n) n) (firstThat holds n) (cond (holds n) n (suc n))
+firstThat holds (suc numbers) = cond (holds zero) zero (suc (firstThat (λ j. holds (suc j)) numbers))
 
 module _ (results : List ℕ) (code : ℕ) where
   -- record j has the code
@@ -37,7 +37,7 @@ module _ (results : List ℕ) (code : ℕ) where
   -- the worst portion grade among those of so many records, from the first, that have the code; the best if none has
   unfoldable pub worstGrade : ℕ → ℕ
   worstGrade zero = 0
-  worstGrade (suc n) = worse (worstGrade n) (cond (hasCode n) (gradeIn results n) 0)
+  worstGrade (suc records) = worse (worstGrade records) (cond (hasCode records) (gradeIn results records) 0)
 
   -- record j has the code, and this portion grade
   unfoldable pub hasGrade : ℕ → ℕ → Bool

@@ -12,7 +12,8 @@ use results::PORTION_GRADE_OFFSET;
 use results::RESULT_SIZE;
 use units::SUBSTANDARD;
 
-// The place of a part of the results, behind its number: 0 found, 1 not on this sheet, 19 refused. It is empty after 1 and 19.
+// The number of a look-up, 0 found, 1 not on this sheet, 19 refused, and where the part that is handed back stands in the results; the part
+// is empty after 1 and 19.
 #[repr(C)]
 pub struct Part {
     pub number: u32,
@@ -27,21 +28,21 @@ struct Reading {
     read: usize,
 }
 
-// Reads so many records up to the first Substandard portion of this code, which no later one is worse than, else all of them.
+// Reads so many records up to and with the first Substandard portion of this code, since none can be worse; else all of them.
 fn read_records(results: &[u8], code: u16, records: usize) -> Reading
     requires { ⌜ resultSize * records ≤ length (now results) ⌝ }
     ensures { λ r. ⌜ r ≡ record { first = firstOfWorst (now (results .entry)) code records; read = recordsRead (now (results .entry)) code records } ⌝ }
 {
     let mut first = records;
     // The best grade that is worse than all those of the code so far.
-    let mut worse: u8 = 0;
+    let mut next_worse: u8 = 0;
     let mut read: usize = 0;
     while read < records {
         let record = read;
         read += 1;
         if holds_at(results, RESULT_SIZE * record + CODE_OFFSET, code) {
             let grade = results[RESULT_SIZE * record + PORTION_GRADE_OFFSET];
-            if worse <= grade {
+            if next_worse <= grade {
                 first = record;
                 if SUBSTANDARD <= grade {
                     return Reading {
@@ -49,7 +50,7 @@ fn read_records(results: &[u8], code: u16, records: usize) -> Reading
                         read: read,
                     };
                 }
-                worse = grade + 1;
+                next_worse = grade + 1;
             }
         }
     }
@@ -59,7 +60,7 @@ fn read_records(results: &[u8], code: u16, records: usize) -> Reading
     }
 }
 
-// The number of a look-up, and the place of the part that is handed back.
+// Looks a code up in finished results, any bytes of any length: the number, and where the part stands.
 pub fn find_place(results: &[u8], code: u16) -> Part
     ensures { λ r. ⌜ r ≡ lookup (now (results .entry)) code ⌝ }
 {
@@ -86,7 +87,7 @@ pub fn find_place(results: &[u8], code: u16) -> Part
     }
 }
 
-// Hands back the part of the lent results themselves, and its number.
+// Looks a code up in finished results, and hands back the part, which is one of the lent results themselves; the number is set beside it.
 pub fn find<'a>(results: &'a [u8], code: u16, number: &mut u32) -> &'a [u8]
     ensures { λ r. ⌜ _≡_ {A = Handed} (record { number = now (number .exit); start = r .ptr; bytes = now r }) (handed (results .entry .ptr) (now (results .entry)) code) ⌝ }
 {

@@ -1,7 +1,7 @@
 -- The answer of a look-up, by its case: what refuses one case of the answer is the first of the worst portions, or its absence, in the
 -- other. There is one first of the worst, as `firstOfWorst` gives it.
 use Prim.Native.Nat.{ℕ, _+_, _*_, _%_, _≤_, _<_}
-use mathlib.Core.Path.{_≡_, refl, sym, _∙_, ap, subst}
+use mathlib.Core.Path.{_≡_, refl, sym, _∙_, ap, ap₂, subst}
 use mathlib.Core.List.{List}
 use mathlib.Core.Logic.{inl, inr}
 use native.Mathlib.Omega.{arith}
@@ -14,7 +14,7 @@ use Rattle.lookup.specs.Records.{recordsIn}
 use Rattle.lookup.specs.Lookup.{foundAt, notOnThisSheet, refusedResults, firstOfWorst, lookup, Handed, handedAs, handed}
 use Rattle.lookup.proofs.Worst.{FirstOf, NoneOf, first-of-worst-is}
 use Rattle.lookup.proofs.Cases.{Case, refused, found, none, case-of, part-inside}
-use Rattle.lookup_demands.specs.LookupAnswers.{FirstOfWorst, NotThere, LookupAnswered, PartOfResults, LookupAnswers}
+use Rattle.lookup_demands.specs.LookupAnswers.{codeAt, FirstOfWorst, LookupAnswered, PartOfResults, LookupAnswers}
 use Rattle.lookup_demands.proofs.Words.{no-rest, are-records, first-by-place, by-place-first, none-by-place, by-place-none}
 
 module _ (results : List ℕ) (code : ℕ) where
@@ -26,7 +26,7 @@ module _ (results : List ℕ) (code : ℕ) where
         refused = ((λ _ records whole. rest (no-rest results records whole)), λ _. refl);
         not-there = ((λ is. absurd (omega (arith, is))), λ has. absurd (rest (no-rest results (has .records) (has .whole))));
         found = λ index is. absurd (rest (no-rest results (is .records) (is .whole)));
-        a-record = λ is. absurd (omega (arith, is));
+        only-found = λ is. absurd (omega (arith, is));
         empty = λ _. (refl, refl);
       }
 
@@ -38,7 +38,7 @@ module _ (results : List ℕ) (code : ℕ) where
         refused = ((λ is. absurd (omega (arith, is))), λ not-records. absurd (not-records (recordsIn results) (are-records results whole)));
         not-there = ((λ is. absurd (omega (arith, is))), λ has. absurd (by-place-none has .none first (at .inside) (at .has-code)));
         found = λ index is. (refl, ap (λ (place : ℕ). resultSize * place) (only index is), refl);
-        a-record = λ _. (first, first-by-place whole at);
+        only-found = λ _. (first, first-by-place whole at);
         empty = λ not-found. absurd (not-found refl);
       }
     where
@@ -53,7 +53,7 @@ module _ (results : List ℕ) (code : ℕ) where
         refused = ((λ is. absurd (omega (arith, is))), λ not-records. absurd (not-records (recordsIn results) (are-records results whole)));
         not-there = ((λ _. none-by-place whole has), λ _. refl);
         found = λ index is. let at = by-place-first is in absurd (has .none index (at .inside) (at .has-code));
-        a-record = λ is. absurd (omega (arith, is));
+        only-found = λ is. absurd (omega (arith, is));
         empty = λ _. (refl, refl);
       }
 
@@ -67,22 +67,44 @@ module _ (results : List ℕ) (code : ℕ) where
 
 -- ---- the part in memory
 
-part-of : (block at : ℕ) (results : List ℕ) (part : Part) → part .offset + part .length ≤ length results
-    → PartOfResults block at results part (handedAs (block, at) results part)
-unfolding handedAs
-part-of block at results part inside =
-    record {
-      number = refl;
-      start = refl;
-      size = simp (length-take, length-drop) (omega arith);
-      bytes = λ i below. rw (getD-take, getD-drop);
-      inside = inside;
-    }
+module _ (block at : ℕ) (results : List ℕ) (code : ℕ) where
+  back : Handed
+  back = handedAs (block, at) results (lookup results code)
+
+  same-byte : (i : ℕ) → i < lookup results code .length → byte (back .bytes) i ≡ byte results (lookup results code .offset + i)
+  unfolding back handedAs
+  same-byte i below = rw (getD-take, getD-drop)
+
+  -- the record that is found has the code, and the part is the record
+  shows-code : lookup results code .number ≡ 0 → codeAt (back .bytes) 0 ≡ code
+  shows-code is =
+      let given = answered results code in
+      let (index, first) = given .only-found is in
+      let (_, place, size) = given .found index first in
+      let high : byte (back .bytes) 2 ≡ byte results (32 * index + 2) =
+          same-byte 2 (omega (arith, size)) ∙ ap (byte results) (omega (arith, place)) in
+      let low : byte (back .bytes) 3 ≡ byte results (32 * index + 3) =
+          same-byte 3 (omega (arith, size)) ∙ ap (byte results) (omega (arith, place)) in
+      ap₂ (λ (x y : ℕ). 256 * x + y) high low ∙ first .of-code
+
+  part-of : PartOfResults block at results code (lookup results code) back
+  unfolding back handedAs
+  part-of =
+      let inside = part-inside results code in
+      record {
+        number = refl;
+        start = refl;
+        size = simp (length-take, length-drop) (omega (arith, inside));
+        bytes = same-byte;
+        inside = inside;
+        shows-code = shows-code;
+      }
 
 pub lookup-answers : LookupAnswers
+unfolding back
 lookup-answers =
     record {
       place = λ results code part is. subst (LookupAnswered results code) (sym is) (answered results code);
-      in-memory = λ block at results code back is.
-          subst (PartOfResults block at results (lookup results code)) (sym is) (part-of block at results (lookup results code) (part-inside results code));
+      in-memory = λ block at results code given is.
+          subst (PartOfResults block at results code (lookup results code)) (sym is) (part-of block at results code);
     }

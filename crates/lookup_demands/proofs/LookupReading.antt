@@ -1,24 +1,26 @@
--- How far a reading goes, from the laws of its end; and what an answer goes by: the first of the worst portions stays the first of the worst
--- in other results that say the same of each record up to the end of the reading. Behind a Substandard portion nothing is worse; without
--- one every record is read.
+-- How far a reading goes, from the laws of its end; that the records that are read have the first of the worst portions among them; and what
+-- an answer goes by: the first of the worst stays the first in other results that have the same codes and portion grades.
 use Prim.Native.Nat.{ℕ, suc, _+_, _*_, _%_, _≤_, _<_}
-use mathlib.Core.Path.{_≡_, refl, sym, _∙_, ap}
+use mathlib.Core.Path.{_≡_, refl, sym, _∙_, ap, subst}
 use mathlib.Core.Bool.{Bool, true, false}
 use mathlib.Core.List.{List}
 use native.Mathlib.Omega.{arith}
 use borrow.Author.Tests.{ltb-true, ltb-false}
 use lib.Dec.{ltb}
-use lib.ListN.{length}
+use lib.ListN.{length, take}
+use lib.Seq.{take-all}
 use Rattle.units.specs.Words.{substandard}
 use Rattle.results.specs.Record.{resultSize, codeIn, portionGradeIn}
 use Rattle.lookup.specs.Records.{recordsIn, gradeIn, gradeOf}
-use Rattle.lookup.specs.Lookup.{firstOfWorst, lookup}
+use Rattle.lookup.specs.Lookup.{foundAt, firstOfWorst, lookup}
 use Rattle.lookup.specs.Reading.{recordsRead}
 use Rattle.lookup.proofs.Worst.{grade-below, grade-from, grade-at-most, FirstOf, NoneOf, first-of-worst-is, first-of-none}
-use Rattle.lookup.proofs.Ends.{reads-up-to, reads-all}
+use Rattle.lookup.proofs.Ends.{FirstSubstandard, reads-up-to, reads-all}
 use Rattle.lookup.proofs.Cases.{refused-is, found-is, none-is, Case, refused, found, none, case-of}
-use Rattle.lookup_demands.specs.LookupReading.{NoneBefore, ReadTo, SameLook, LookupReading}
-use Rattle.lookup_demands.proofs.Words.{at-most, below-three}
+use Rattle.lookup.proofs.Cut.{cut-whole, cut-records, cut-code, cut-portion}
+use Rattle.lookup_demands.specs.LookupAnswers.{AreRecords}
+use Rattle.lookup_demands.specs.LookupReading.{NoSubstandardBefore, ReadTo, SameCodeAndGrade, LookupReading}
+use Rattle.lookup_demands.proofs.Words.{no-rest, so-many, at-most, code-in, code-at}
 
 -- ---- the end
 
@@ -29,90 +31,125 @@ read-to results code records =
           reads-up-to
           (record {
             inside = inside;
-            has-code = own;
+            has-code = code-in results j own;
             is-substandard = grade-from (portionGradeIn results j) above;
-            none-before = λ k below its. omega (arith, before k below its, grade-below (portionGradeIn results k) (before k below its));
+            none-before = none-in before;
           });
-      all = λ before.
-          reads-all results code records (λ k below its. omega (arith, before k below its, grade-below (portionGradeIn results k) (before k below its)));
+      all = λ before. reads-all results code records (none-in before);
     }
+  where
+    none-in : {j : ℕ} → NoSubstandardBefore results code j → (k : ℕ) → k < j → codeIn results k ≡ code → gradeIn results k < substandard
+    none-in before k below its =
+        let less = before k below (code-at results k its) in
+        omega (arith, less, grade-below (portionGradeIn results k) less)
+
+-- ---- two results
+
+-- the first of the worst portions of a code in one of them, and that there is none, is the same in another where the records say so
+module _ (results results' : List ℕ) (code n : ℕ)
+    (same-code : (j : ℕ) → j < n → codeIn results j ≡ codeIn results' j) (same-grade : (j : ℕ) → j < n → gradeIn results j ≡ gradeIn results' j) where
+  first-stays : {first : ℕ} → FirstOf results code n first → FirstOf results' code n first
+  first-stays {first} at =
+      let here = same-grade first (at .inside) in
+      record {
+        inside = at .inside;
+        has-code = sym (same-code first (at .inside)) ∙ at .has-code;
+        none-worse = λ j below own. omega (arith, here, same-grade j below, at .none-worse j below (same-code j below ∙ own));
+        earlier-better = λ j below own.
+            let inside : j < n = omega (arith, below, at .inside) in
+            omega (arith, here, same-grade j inside, at .earlier-better j below (same-code j inside ∙ own));
+      }
+
+  none-stays : NoneOf results code n → NoneOf results' code n
+  none-stays has = record { none = λ j below own. has .none j below (same-code j below ∙ own) }
 
 -- ---- what an answer goes by
 
-same-grade : {results results' : List ℕ} {j : ℕ} → SameLook results results' j → gradeIn results' j ≡ gradeIn results j
-same-grade {results} {results'} {j} same =
-    omega (
-      arith,
-      at-most (portionGradeIn results j) (portionGradeIn results' j) (same .no-worse),
-      at-most (portionGradeIn results' j) (portionGradeIn results j) (same .no-better),
-    )
-
 module _ (results results' : List ℕ) (code : ℕ) (same-length : length results ≡ length results')
-    (alike : (j : ℕ) → 32 * j + 32 ≤ length results → NoneBefore results code j → SameLook results results' j) where
-  -- of records inside
-  look : (j : ℕ) → j < recordsIn results → NoneBefore results code j → SameLook results results' j
-  look j inside before = alike j (omega (arith, inside)) before
+    (alike : (j : ℕ) → 32 * j + 32 ≤ length results → SameCodeAndGrade results results' j) where
+  same-code : (j : ℕ) → j < recordsIn results → codeIn results j ≡ codeIn results' j
+  same-code j below = code-in results j (alike j (omega (arith, below)) .same-code ∙ code-at results' j refl)
 
-  none-stays : NoneOf results code (recordsIn results) → NoneOf results' code (recordsIn results)
-  none-stays has =
-      record {
-        none = λ j below own.
-            let same = look j below (λ k before its. absurd (has .none k (omega (arith, before, below)) its)) in
-            has .none j below (same .same-code ∙ own);
-      }
+  same-grade : (j : ℕ) → j < recordsIn results → gradeIn results j ≡ gradeIn results' j
+  same-grade j below =
+      let same = alike j (omega (arith, below)) in
+      omega (arith,
+        at-most (portionGradeIn results j) (portionGradeIn results' j) (same .no-worse),
+        at-most (portionGradeIn results' j) (portionGradeIn results j) (same .no-better))
 
-  module _ (first : ℕ) (at : FirstOf results code (recordsIn results) first) where
-    -- no record up to it, and none at all if it is not Substandard, has a Substandard portion of the code before it
-    before-first : (j : ℕ) → j ≤ first → NoneBefore results code j
-    before-first j up-to k below its =
-        below-three (portionGradeIn results k)
-        (omega (arith, at .earlier-better k (omega (arith, below, up-to)) its, grade-at-most (portionGradeIn results first)))
+  many : recordsIn results' ≡ recordsIn results
+  many = omega (arith, same-length)
 
-    before-any : gradeIn results first < substandard → (j : ℕ) → j < recordsIn results → NoneBefore results code j
-    before-any less j inside k below its =
-        below-three (portionGradeIn results k) (omega (arith, at .none-worse k (omega (arith, below, inside)) its, less))
-
-    here : SameLook results results' first
-    here = look first (at .inside) (before-first first (omega arith))
-
-    first-stays : FirstOf results' code (recordsIn results) first
-    first-stays =
-        record {
-          inside = at .inside;
-          has-code = sym (here .same-code) ∙ at .has-code;
-          none-worse = λ j below own. no-worse-in j below own (ltb (gradeIn results first) substandard) refl;
-          earlier-better = λ j below own.
-              let same = look j (omega (arith, below, at .inside)) (before-first j (omega (arith, below))) in
-              omega (arith, same-grade same, same-grade here, at .earlier-better j below (same .same-code ∙ own));
-        }
-      where
-        no-worse-in : (j : ℕ) → j < recordsIn results → codeIn results' j ≡ code → (less : Bool) → ltb (gradeIn results first) substandard ≡ less
-            → gradeIn results' j ≤ gradeIn results' first
-        no-worse-in j below own true test =
-            let same = look j below (before-any (ltb-true (gradeIn results first) substandard test) j below) in
-            omega (arith, same-grade same, same-grade here, at .none-worse j below (same .same-code ∙ own))
-        no-worse-in j below own false test =
-            omega (arith, grade-at-most (portionGradeIn results' j), same-grade here, ltb-false (gradeIn results first) substandard test)
-
-  no-further : lookup results code ≡ lookup results' code
-  no-further = go (case-of results code)
+  looked-at : lookup results code ≡ lookup results' code
+  looked-at = go (case-of results code)
     where
-      many : recordsIn results' ≡ recordsIn results
-      many = omega (arith, same-length)
-
       go : Case results code → lookup results code ≡ lookup results' code
       go (refused rest is) = is ∙ sym (refused-is results' code (λ whole. rest (omega (arith, same-length, whole))))
       go (found whole first at is) =
-          is ∙ sym (found-is results' code (omega (arith, same-length, whole)) (ap (firstOfWorst results' code) many ∙ first-of-worst-is results' code (first-stays first at))
+          let stays = first-stays results results' code (recordsIn results) same-code same-grade at in
+          is ∙ sym (found-is results' code (omega (arith, same-length, whole)) (ap (firstOfWorst results' code) many ∙ first-of-worst-is results' code stays)
           (omega (arith, many, at .inside)))
       go (none whole has is) =
-          is ∙ sym (none-is results' code (omega (arith, same-length, whole)) (ap (firstOfWorst results' code) many ∙ first-of-none results' code (none-stays has))
+          let stays = none-stays results results' code (recordsIn results) same-code same-grade has in
+          is ∙ sym (none-is results' code (omega (arith, same-length, whole)) (ap (firstOfWorst results' code) many ∙ first-of-none results' code stays)
           (omega (arith, many)))
 
+-- ---- the records that are read
+
+module _ (results : List ℕ) (code records : ℕ) (whole : AreRecords results records) where
+  abbrev AsFull : ℕ → Type 0
+  AsFull read = lookup (take (32 * read) results) code ≡ lookup results code
+
+  of-all : AsFull records
+  of-all = ap (λ (bytes : List ℕ). lookup bytes code) (take-all (32 * records) results (omega (arith, whole)))
+
+  -- up to the first of the worst, which is the first of the worst there, too
+  up-to : {first : ℕ} → FirstOf results code (recordsIn results) first → lookup results code ≡ foundAt first → AsFull (suc first)
+  up-to {first} at is =
+      let room : resultSize * suc first ≤ length results = omega (arith, at .inside) in
+      let cut = take (resultSize * suc first) results in
+      let here : FirstOf results code (suc first) first =
+          record {
+            inside = omega arith;
+            has-code = at .has-code;
+            none-worse = λ j below own. at .none-worse j (omega (arith, below, at .inside)) own;
+            earlier-better = at .earlier-better;
+          } in
+      let stays =
+          first-stays results cut code (suc first) (λ j below. sym (cut-code results (suc first) room j below))
+          (λ j below. sym (ap gradeOf (cut-portion results (suc first) room j below))) here in
+      let many = cut-records results (suc first) room in
+      found-is cut code (cut-whole results (suc first) room) (ap (firstOfWorst cut code) many ∙ first-of-worst-is cut code stays) (omega (arith, many))
+      ∙ sym is
+
+  as-full : AsFull (recordsRead results code records)
+  as-full = go (case-of results code)
+    where
+      many : recordsIn results ≡ records
+      many = so-many results records whole
+      by-grade : (first : ℕ) → FirstOf results code (recordsIn results) first → lookup results code ≡ foundAt first
+          → (less : Bool) → ltb (gradeIn results first) substandard ≡ less → AsFull (recordsRead results code records)
+      by-grade first at is true test =
+          let less = ltb-true (gradeIn results first) substandard test in
+          let all = reads-all results code records (λ j below own. omega (arith, less, at .none-worse j (omega (arith, below, many)) own)) in
+          subst AsFull (sym all) of-all
+      by-grade first at is false test =
+          let worst : gradeIn results first ≡ substandard =
+              omega (arith, ltb-false (gradeIn results first) substandard test, grade-at-most (portionGradeIn results first)) in
+          let ends : FirstSubstandard results code records first =
+              record {
+                inside = omega (arith, at .inside, many);
+                has-code = at .has-code;
+                is-substandard = worst;
+                none-before = λ j below own. omega (arith, at .earlier-better j below own, worst);
+              } in
+          subst AsFull (sym (reads-up-to ends)) (up-to at is)
+      go : Case results code → AsFull (recordsRead results code records)
+      go (refused rest is) = absurd (rest (no-rest results records whole))
+      go (found _ first at is) = by-grade first at is (ltb (gradeIn results first) substandard) refl
+      go (none _ has is) =
+          let all = reads-all results code records (λ j below own. absurd (has .none j (omega (arith, below, many)) own)) in
+          subst AsFull (sym all) of-all
+
 pub lookup-reading : LookupReading
-lookup-reading =
-    record {
-      read-to = read-to;
-      looked-at = λ results results' code same-length alike. no-further results results' code same-length (λ j inside before. alike j inside);
-      no-further = no-further;
-    }
+lookup-reading = record { read-to = read-to; as-full = as-full; looked-at = looked-at }

@@ -1,6 +1,6 @@
 -- The words of the statements are those of the definitions: how many records, which grade a byte is, and the first of the worst portions.
-use Prim.Native.Nat.{ℕ, _%_, _≤_, _<_}
-use mathlib.Core.Path.{_≡_, refl}
+use Prim.Native.Nat.{ℕ, _+_, _*_, _%_, _≤_, _<_}
+use mathlib.Core.Path.{_≡_, refl, sym, _∙_, ap}
 use mathlib.Core.Bool.{Bool, true, false}
 use mathlib.Core.List.{List}
 use mathlib.Core.Logic.{inl, inr}
@@ -8,10 +8,11 @@ use native.Mathlib.Omega.{arith}
 use borrow.Author.Tests.{ltb-true, ltb-false}
 use lib.Dec.{ltb}
 use lib.ListN.{length}
-use Rattle.results.specs.Record.{resultSize, portionGradeIn}
+use Rattle.encoding.specs.Bytes.{byte}
+use Rattle.results.specs.Record.{resultSize, codeIn}
 use Rattle.lookup.specs.Records.{recordsIn, gradeOf}
 use Rattle.lookup.proofs.Worst.{grade-below, grade-from, grade-at-most, FirstOf, NoneOf}
-use Rattle.lookup_demands.specs.LookupAnswers.{AreRecords, gradeByteAt, NoWorse, Better, NotThere, FirstOfWorst}
+use Rattle.lookup_demands.specs.LookupAnswers.{AreRecords, codeAt, gradeByteAt, NoWorse, Better, NotThere, FirstOfWorst}
 
 -- ---- so many records
 
@@ -80,6 +81,20 @@ below-three gradeByte less = go (graded gradeByte)
     go (as-it-is below is) = below
     go (substandard above is) = absurd (omega (arith, is))
 
+-- ---- codes
+
+module _ (results : List ℕ) where
+  code-same : (j : ℕ) → codeAt results j ≡ codeIn results j
+  code-same j =
+      let behind : 32 * j + 3 ≡ 32 * j + 2 + 1 = omega arith in
+      ap (λ (at : ℕ). 256 * byte results (32 * j + 2) + byte results at) behind
+
+  pub code-in : {code : ℕ} (j : ℕ) → codeAt results j ≡ code → codeIn results j ≡ code
+  code-in j own = sym (code-same j) ∙ own
+
+  pub code-at : {code : ℕ} (j : ℕ) → codeIn results j ≡ code → codeAt results j ≡ code
+  code-at j own = code-same j ∙ own
+
 -- ---- the first of the worst portions, and that there is none
 
 module _ {results : List ℕ} {code : ℕ} where
@@ -89,9 +104,11 @@ module _ {results : List ℕ} {code : ℕ} where
         records = recordsIn results;
         whole = are-records results whole;
         inside = found .inside;
-        of-code = found .has-code;
-        worst = λ j below own. no-worse (gradeByteAt results j) (gradeByteAt results first) (found .none-worse j below own);
-        first = λ j below own. better (gradeByteAt results j) (gradeByteAt results first) (found .earlier-better j below own);
+        of-code = code-at results first (found .has-code);
+        worst = λ j below own.
+            no-worse (gradeByteAt results j) (gradeByteAt results first) (found .none-worse j below (code-in results j own));
+        first = λ j below own.
+            better (gradeByteAt results j) (gradeByteAt results first) (found .earlier-better j below (code-in results j own));
       }
 
   pub by-place-first : {first : ℕ} → FirstOfWorst results code first → FirstOf results code (recordsIn results) first
@@ -99,15 +116,22 @@ module _ {results : List ℕ} {code : ℕ} where
       let same = so-many results (found .records) (found .whole) in
       record {
         inside = omega (arith, same, found .inside);
-        has-code = found .of-code;
-        none-worse = λ j below own. at-most (gradeByteAt results j) (gradeByteAt results first) (found .worst j (omega (arith, same, below)) own);
-        earlier-better = λ j below own. less-than (gradeByteAt results j) (gradeByteAt results first) (found .first j below own);
+        has-code = code-in results first (found .of-code);
+        none-worse = λ j below own.
+            at-most (gradeByteAt results j) (gradeByteAt results first) (found .worst j (omega (arith, same, below)) (code-at results j own));
+        earlier-better = λ j below own.
+            less-than (gradeByteAt results j) (gradeByteAt results first) (found .first j below (code-at results j own));
       }
 
   pub none-by-place : length results % resultSize ≡ 0 → NoneOf results code (recordsIn results) → NotThere results code
-  none-by-place whole has = record { records = recordsIn results; whole = are-records results whole; no-record = has .none }
+  none-by-place whole has =
+      record {
+        records = recordsIn results;
+        whole = are-records results whole;
+        no-record = λ j below own. has .none j below (code-in results j own);
+      }
 
   pub by-place-none : NotThere results code → NoneOf results code (recordsIn results)
   by-place-none has =
       let same = so-many results (has .records) (has .whole) in
-      record { none = λ j below own. has .no-record j (omega (arith, same, below)) own }
+      record { none = λ j below own. has .no-record j (omega (arith, same, below)) (code-at results j own) }

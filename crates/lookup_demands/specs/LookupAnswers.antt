@@ -5,7 +5,7 @@ use mathlib.Core.Path.{_≡_}
 use mathlib.Core.List.{List}
 use mathlib.Core.Logic.{_⊎_, _↔_}
 use lib.ListN.{length}
-use Rattle.encoding.specs.Bytes.{byte, number}
+use Rattle.encoding.specs.Bytes.{byte}
 use Rattle.lookup.specs.declared.Part.{Part}
 use Rattle.lookup.specs.Lookup.{lookup, Handed, handed}
 
@@ -15,9 +15,9 @@ use Rattle.lookup.specs.Lookup.{lookup, Handed, handed}
 abbrev pub AreRecords : List ℕ → ℕ → Type 0
 AreRecords results records = length results ≡ 32 * records
 
--- code and portion grade byte of record j, the first being 0
+-- code, the high byte first, and portion grade byte of record j, the first being 0
 abbrev pub codeAt : List ℕ → ℕ → ℕ
-codeAt results j = number results (32 * j + 2)
+codeAt results j = 256 * byte results (32 * j + 2) + byte results (32 * j + 3)
 
 abbrev pub gradeByteAt : List ℕ → ℕ → ℕ
 gradeByteAt results j = byte results (32 * j + 4)
@@ -61,21 +61,23 @@ pub record LookupAnswered (results : List ℕ) (code : ℕ) (part : Part) : Type
   pub not-there : (part .number ≡ 1) ↔ NotThere results code
   -- whichever record is the first of the worst, that one is handed back; and if the number is 0 there is one
   pub found : (index : ℕ) → FirstOfWorst results code index → (part .number ≡ 0) × (part .offset ≡ 32 * index) × (part .length ≡ 32)
-  pub a-record : part .number ≡ 0 → (index : ℕ) × FirstOfWorst results code index
-  -- "There and after 19 the part handed back is empty"
+  pub only-found : part .number ≡ 0 → (index : ℕ) × FirstOfWorst results code index
+  -- "There and after 19 the part handed back is empty"; its place is then 0
   pub empty : (part .number ≡ 0 → ⊥) → (part .offset ≡ 0) × (part .length ≡ 0)
 
 -- "hand back, as part of those results": it begins there in memory where it stands in the results, and has their bytes
-pub record PartOfResults (block at : ℕ) (results : List ℕ) (part : Part) (back : Handed) : Type 0 where
+pub record PartOfResults (block at : ℕ) (results : List ℕ) (code : ℕ) (part : Part) (back : Handed) : Type 0 where
   pub number : back .number ≡ part .number
   pub start : back .start ≡ (block, at + part .offset)
   pub size : length (back .bytes) ≡ part .length
   pub bytes : (i : ℕ) → i < part .length → byte (back .bytes) i ≡ byte results (part .offset + i)
   pub inside : part .offset + part .length ≤ length results
+  -- so that what is found shows the code
+  pub shows-code : back .number ≡ 0 → codeAt (back .bytes) 0 ≡ code
 
 pub record LookupAnswers : Type 0 where
   -- for every slice and every code, as the promises of `find_place` and `hatmuyon_find_code` say
   pub place : (results : List ℕ) (code : ℕ) (part : Part) → part ≡ lookup results code → LookupAnswered results code part
   -- and as that of `find` says
   pub in-memory : (block at : ℕ) (results : List ℕ) (code : ℕ) (back : Handed) → back ≡ handed (block, at) results code
-      → PartOfResults block at results (lookup results code) back
+      → PartOfResults block at results code (lookup results code) back

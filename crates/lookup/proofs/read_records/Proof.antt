@@ -9,10 +9,10 @@ use Rattle.lookup.proofs.read_records.Statement.{statement}
 use Rattle.lookup.proofs.read_records.Tie as tie
 
 abbrev Inv-loop : tie.InvT-loop
-Inv-loop results code records first₀ worse₀ read₀ first worse read = (read ≤ records) × SoFar results code records first worse read
+Inv-loop results code records first₀ next-worse₀ read₀ first next-worse read = (read ≤ records) × SoFar results code records first next-worse read
 
 abbrev μ-loop : tie.MeasureT-loop
-μ-loop results code records first₀ worse₀ read₀ first worse read = records - read
+μ-loop results code records first₀ next-worse₀ read₀ first next-worse read = records - read
 
 loop-holds : tie.Need-loop-holds Inv-loop μ-loop
 loop-holds c = let args = c .before .args in (omega arith, start (args .results .now) (args .code) (args .records))
@@ -46,8 +46,8 @@ returns c =
     let own = eqb-true _ _ (sym (test .before .holds-at .ensures) ∙ test .if1 .taken) in
     ends-here _ _ _ (loop .inv .1) (tested .loop-test .taken) own (c .if3 .taken)
 
-add-worse : tie.Need-add-worse Inv-loop μ-loop
-add-worse c = search needs
+add-next-worse : tie.Need-add-next-worse Inv-loop μ-loop
+add-next-worse c = search needs
 
 loop-less : tie.Need-loop-less Inv-loop μ-loop
 loop-less c = search needs
@@ -92,7 +92,7 @@ read-records-spec =
     add-grade
     shared-slice-read-grade
     returns
-    add-worse
+    add-next-worse
     loop-less
     loop-again
     loop-less-2
