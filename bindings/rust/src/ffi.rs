@@ -1,5 +1,5 @@
 //! The boundary as `include/hatmuyon.h` declares it. [`grade`](crate::grade),
-//! [`grade_mold`](crate::grade_mold), [`regrade`](crate::regrade) and [`find_code`](crate::find_code)
+//! [`grade_mold`](crate::grade_mold), [`regrade`](crate::regrade) and [`find`](crate::find)
 //! are the safe ways in.
 
 /// Offset of the production code in a result record, 2 bytes with the high byte first.

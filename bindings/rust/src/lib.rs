@@ -45,8 +45,8 @@
 //! records, refusals and grounds are those of [`grade`], with one ground more,
 //! [`Ground::BadSecondPlan`].
 //!
-//! [`find_code`] looks up what became of a code in the results of either, and so does
-//! [`Graded::find_code`]. That a code is not on this sheet is no refusal. Refusal and ground of a look-up
+//! [`find`] looks up what became of a code in the results of either, and so does
+//! [`Graded::find`]. That a code is not on this sheet is no refusal. Refusal and ground of a look-up
 //! are of types of their own.
 //!
 //! [`grade_mold`] does the same as [`grade`] with a mold sheet, which counts positive fields. They and
@@ -67,7 +67,7 @@
 //! - An answer of more result records than the result buffer has room for, at this version's
 //!   [`RESULT_SIZE`] or [`MOLD_RESULT_SIZE`], panics.
 //! - A found part that does not lie in the results, or has another length than [`RESULT_SIZE`], panics;
-//!   so does any refusal in [`Graded::find_code`].
+//!   so does any refusal in [`Graded::find`].
 //! - Nothing else is checked. If that archive writes records of another size or with other fields,
 //!   it keeps to the buffer, but they are read as if they were of this version, and the [`Record`]s
 //!   or [`MoldRecord`]s are wrong. If its answer or a function itself has another form, the behaviour
@@ -85,7 +85,7 @@ mod lookup;
 mod mold;
 mod regrade;
 
-pub use lookup::{find_code, Found, LookupGround, LookupRefusal};
+pub use lookup::{find, Found, LookupGround, LookupRefusal};
 pub use mold::{grade_mold, GradedMold, MoldGround, MoldRecord, MoldRefusal};
 pub use mold::{MOLD_LEVELS, MOLD_OPENING_SIZE, MOLD_RESULT_SIZE, MOLD_UNIT_SIZE};
 pub use mold::{MOLD_RESULT_MARK, MOLD_SHEET_MARK, MOLD_UNIT_MARK, MOST_POSITIVE_FIELDS};

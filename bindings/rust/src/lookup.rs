@@ -20,7 +20,7 @@ use std::fmt;
 /// no others.
 ///
 /// ```
-/// use hatmuyon::{find_code, grade, Grade, LookupGround, RESULT_SIZE};
+/// use hatmuyon::{find, grade, Grade, LookupGround, RESULT_SIZE};
 ///
 /// // A plan with grade A designated; S is 0, T and L are 5.0, in every grade and class.
 /// let mut sheet = vec![0x50, 0x4C, 0];
@@ -32,17 +32,17 @@ use std::fmt;
 /// let mut results = [0; 4 * RESULT_SIZE];
 /// let graded = grade(&sheet, &mut results)?;
 ///
-/// let found = graded.find_code(7).expect("not on this sheet");
+/// let found = graded.find(7).expect("not on this sheet");
 /// assert_eq!(found.offset(), RESULT_SIZE);
 /// assert_eq!(found.record().portion_grade, Grade::C);
-/// assert_eq!(graded.find_code(9), None);
+/// assert_eq!(graded.find(9), None);
 ///
 /// // The same in results from elsewhere.
-/// let found = find_code(&results, 7)?.expect("not on this sheet");
+/// let found = find(&results, 7)?.expect("not on this sheet");
 /// assert_eq!(found.bytes(), &results[RESULT_SIZE..2 * RESULT_SIZE]);
-/// assert_eq!(find_code(&results, 9)?, None);
+/// assert_eq!(find(&results, 9)?, None);
 ///
-/// let refusal = find_code(&results[1..], 7).unwrap_err();
+/// let refusal = find(&results[1..], 7).unwrap_err();
 /// assert_eq!(refusal.ground(), Some(LookupGround::NotWholeRecords));
 /// assert_eq!(
 ///     refusal.to_string(),
@@ -54,7 +54,7 @@ use std::fmt;
 /// # Panics
 ///
 /// Never with an archive of this version; see [Versions](crate#versions).
-pub fn find_code(results: &[u8], code: u16) -> Result<Option<Found<'_>>, LookupRefusal> {
+pub fn find(results: &[u8], code: u16) -> Result<Option<Found<'_>>, LookupRefusal> {
     // Safety: a slice's pointer is not null and valid for its length, and none may write to the slice
     // while it is lent.
     let part = unsafe { ffi::hatmuyon_find_code(results.as_ptr(), results.len(), code) };
@@ -78,14 +78,14 @@ fn handed_back(part: ffi::Part, results: &[u8]) -> Result<Option<Found<'_>>, Loo
 }
 
 impl<'r> Graded<'r> {
-    /// What became of a code, as [`find_code`] finds it in these results; `None` is 'not on this sheet'.
+    /// What became of a code, as [`find`] finds it in these results; `None` is 'not on this sheet'.
     /// They are whole records, so that nothing is refused.
     ///
     /// # Panics
     ///
     /// Never with an archive of this version; see [Versions](crate#versions).
-    pub fn find_code(&self, code: u16) -> Option<Found<'r>> {
-        match find_code(self.bytes(), code) {
+    pub fn find(&self, code: u16) -> Option<Found<'r>> {
+        match find(self.bytes(), code) {
             Ok(found) => found,
             Err(refusal) => panic!("an archive of another version: {refusal}"),
         }

@@ -1,7 +1,7 @@
 //! What became of a code, over the boundary: results by hand, each way in which a code is found or not,
 //! every refusal, and results of gradings and regradings.
 
-use hatmuyon::{find_code, grade, regrade, Grade, Graded, LookupGround, LookupRefusal};
+use hatmuyon::{find, grade, regrade, Grade, Graded, LookupGround, LookupRefusal};
 use hatmuyon::{Record, Standing, MOST_UNITS, PLAN_SIZE, RESULT_SIZE};
 use sheets::{plan, redesignation, sheet, unit, BREAK, PEA, PEACH};
 
@@ -29,7 +29,7 @@ fn records(of: &[(u16, u8)]) -> Vec<u8> {
 /// is a part of the results themselves, and no byte of them changes.
 fn place(results: &[u8], code: u16) -> Option<usize> {
     let given = results.to_vec();
-    let found = find_code(results, code).expect("it is refused");
+    let found = find(results, code).expect("it is refused");
     assert_eq!(results, given);
     let found = found?;
     let part = &results[found.offset()..found.offset() + RESULT_SIZE];
@@ -68,7 +68,7 @@ fn worst_of_each_grade() {
             assert_eq!(place_in(&[(7, byte), (7, better)], 7), Some(0));
         }
         let results = records(&[(8, 3), (7, byte)]);
-        let found = find_code(&results, 7).unwrap().unwrap();
+        let found = find(&results, 7).unwrap().unwrap();
         assert_eq!(found.record().portion_grade, grade);
         assert_eq!((found.offset(), found.bytes()), (RESULT_SIZE, &record(7, byte)[..]));
     }
@@ -149,7 +149,7 @@ fn not_on_this_sheet() {
     assert_eq!(place_in(&[(0x0102, 0)], 0x0100), None);
     // No byte at all.
     for code in [0, 1, 0x4752, u16::MAX] {
-        assert_eq!(find_code(&[], code), Ok(None));
+        assert_eq!(find(&[], code), Ok(None));
     }
 }
 
@@ -157,7 +157,7 @@ fn not_on_this_sheet() {
 fn not_whole_records() {
     let results = records(&[(7, 1), (7, 3), (7, 2)]);
     for length in 0..=results.len() {
-        let answer = find_code(&results[..length], 7);
+        let answer = find(&results[..length], 7);
         match length % RESULT_SIZE {
             0 => assert_eq!(answer.unwrap().is_some(), length > 0),
             _ => assert_eq!(answer, Err(LookupRefusal { number: 19, offset: 0 }), "{length} bytes"),
@@ -166,7 +166,7 @@ fn not_whole_records() {
     // Whether the code is there or not.
     for length in [1, 31, 33, 63] {
         for code in [0, 7, 8] {
-            let refusal = find_code(&results[..length], code).unwrap_err();
+            let refusal = find(&results[..length], code).unwrap_err();
             assert_eq!((refusal.number, refusal.offset), (19, 0), "{length} bytes");
             assert_eq!(refusal.ground(), Some(LookupGround::NotWholeRecords));
         }
@@ -208,7 +208,7 @@ fn peach_sheet() {
     let mut results = [0; 7 * RESULT_SIZE];
     let graded = grade(PEACH, &mut results).unwrap();
     let offsets: Vec<Option<usize>> =
-        (0..=8).map(|code| graded.find_code(code).map(|found| found.offset())).collect();
+        (0..=8).map(|code| graded.find(code).map(|found| found.offset())).collect();
     assert_eq!(
         offsets,
         [None, Some(0), Some(32), Some(64), Some(96), Some(160), None, Some(192), None]
@@ -223,9 +223,9 @@ fn peach_sheet() {
         cusums: [0; 4],
         overshoots: [0; 4],
     };
-    assert_eq!(graded.find_code(5).unwrap().record(), expected);
+    assert_eq!(graded.find(5).unwrap().record(), expected);
     // What is found is borrowed from the results, and not from the grading.
-    let found = grade(PEACH, &mut results).unwrap().find_code(5).unwrap();
+    let found = grade(PEACH, &mut results).unwrap().find(5).unwrap();
     assert_eq!((found.offset(), found.record()), (160, expected));
 }
 
@@ -234,11 +234,11 @@ fn regraded_sheet() {
     let mut results = [0; 7 * RESULT_SIZE];
     let graded = regrade(BUYER_SHEET, BUYER_PLAN, &mut results).unwrap();
     // Of code 2 unit 4 is C and unit 5 is B.
-    let found = graded.find_code(2).unwrap();
+    let found = graded.find(2).unwrap();
     assert_eq!((found.offset(), found.record().portion_grade), (96, Grade::C));
     // The peach sheet again under its own plan: both units of code 5 are A.
     let graded = regrade(PEACH, &PEACH[..PLAN_SIZE], &mut results).unwrap();
-    let found = graded.find_code(5).unwrap();
+    let found = graded.find(5).unwrap();
     assert_eq!((found.offset(), found.record().portion_grade), (128, Grade::A));
 }
 
@@ -253,10 +253,10 @@ fn portion_grade_is_code_grade() {
             let its = |record: &Record| record.code == code;
             let worst = |record: &Record| its(record) && record.portion_grade == record.code_grade;
             let place = graded.records().position(|record| worst(&record));
-            let found = graded.find_code(code);
+            let found = graded.find(code);
             assert_eq!(found.map(|found| found.offset()), place.map(|place| RESULT_SIZE * place));
             assert_eq!(found.map(|found| found.record()), graded.records().find(worst));
-            assert_eq!(find_code(graded.bytes(), code), Ok(found));
+            assert_eq!(find(graded.bytes(), code), Ok(found));
             behind += usize::from(place != graded.records().position(|record| its(&record)));
         }
         behind
@@ -303,11 +303,11 @@ fn no_unit() {
     let mut results = [0; 2 * RESULT_SIZE];
     let graded = grade(&sheet(&[&BREAK]), &mut results).unwrap();
     // The bytes behind the records are not among them: there is no code 0.
-    assert_eq!(graded.find_code(0), None);
+    assert_eq!(graded.find(0), None);
     let graded = grade(&sheet(&[&unit(7, [0; 4])]), &mut results).unwrap();
-    assert_eq!(graded.find_code(0), None);
-    assert_eq!(graded.find_code(7).unwrap().offset(), 0);
-    assert_eq!(grade(&plan(), &mut []).unwrap().find_code(0), None);
+    assert_eq!(graded.find(0), None);
+    assert_eq!(graded.find(7).unwrap().offset(), 0);
+    assert_eq!(grade(&plan(), &mut []).unwrap().find(0), None);
 }
 
 #[test]
@@ -319,7 +319,7 @@ fn ground_and_error() {
     for number in (0..19).chain([20, u32::MAX]) {
         assert_eq!(LookupGround::from_number(number), None);
     }
-    let error: Box<dyn std::error::Error> = Box::new(find_code(&[0; 33], 0).unwrap_err());
+    let error: Box<dyn std::error::Error> = Box::new(find(&[0; 33], 0).unwrap_err());
     assert_eq!(
         error.to_string(),
         "refused 19 at offset 0: results not a multiple of 32 bytes long"
