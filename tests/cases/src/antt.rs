@@ -81,20 +81,29 @@ impl<K: Kind> Case<K> {
         bytes
     }
 
-    /// "a break in a run" as `breakInRun`, and as `break-in-run`.
-    fn words(&self) -> impl Iterator<Item = &str> {
-        self.name.split(' ').filter(|word| !["a", "the"].contains(word))
-    }
-
     pub fn definition(&self) -> String {
-        let capital = |word: &str| word[..1].to_uppercase() + &word[1..];
-        let name = self.words().map(capital).collect::<String>();
-        name[..1].to_lowercase() + &name[1..]
+        definition(self.name)
     }
 
     pub fn field(&self) -> String {
-        self.words().map(str::to_lowercase).collect::<Vec<_>>().join("-")
+        field(self.name)
     }
+}
+
+fn words(name: &str) -> impl Iterator<Item = &str> {
+    name.split(' ').filter(|word| !["a", "the"].contains(word))
+}
+
+/// "a break in a run" as `breakInRun`.
+pub fn definition(name: &str) -> String {
+    let capital = |word: &str| word[..1].to_uppercase() + &word[1..];
+    let name = words(name).map(capital).collect::<String>();
+    name[..1].to_lowercase() + &name[1..]
+}
+
+/// "a break in a run" as `break-in-run`.
+pub fn field(name: &str) -> String {
+    words(name).map(str::to_lowercase).collect::<Vec<_>>().join("-")
 }
 
 /// What is graded: a sheet, and what is given with it.
@@ -235,14 +244,14 @@ pub fn part_lines(parts: &[Part]) -> String {
 }
 
 /// The comment at a sheet.
-pub fn shows<K: Kind>(case: &Case<K>) -> String {
-    case.shows.lines().map(|line| format!("-- {line}\n")).collect()
+pub fn shows(comment: &str) -> String {
+    comment.lines().map(|line| format!("-- {line}\n")).collect()
 }
 
 /// A sheet's bytes and its result bytes.
 fn definitions<K: Kind>(case: &Case<K>, graded: &Graded) -> String {
     let (name, list) = (case.definition(), K::list(case));
-    let (shows, comment) = (shows(case), K::comment(&case.opening));
+    let (shows, comment) = (shows(case.shows), K::comment(&case.opening));
     let mut text = format!("\n{shows}{comment}unfoldable pub {name} : List ℕ\n{name} ={list}\n");
     if let Expected::Accepted(_) = case.expected {
         text += &format!("\n{}", results(case, graded));

@@ -3,10 +3,12 @@
 //!
 //! `cases FOLDER` writes FOLDER/stdin (each sheet behind its kind in one byte and its length in four,
 //! high byte first; of a regrading the second plan stands behind the sheet, its length before it) and
-//! FOLDER/stdout (for each a line "case NUMBER" and then what is printed). `cases --sheet NUMBER`
-//! writes one sheet to standard output and says on standard error which it is, `cases --plan NUMBER`
-//! its second plan.
+//! FOLDER/stdout (for each a line "case NUMBER" and then what is printed). Of a look-up the results
+//! stand in place of a sheet, and the code behind them, in two bytes. `cases --sheet NUMBER` writes one
+//! sheet to standard output and says on standard error which it is, `cases --plan NUMBER` its second
+//! plan; `cases --code NUMBER` prints the code of a look-up.
 
+mod lookup;
 mod lower_plans;
 mod manual;
 mod mold;
@@ -16,6 +18,7 @@ mod small;
 mod text;
 
 use grader::generate::{self, Counts, MOST_ROOM};
+use grader::generate_lookup::{lookup_case, LookupCase, Made};
 use grader::generate_mold;
 use grader::generate_regrade::{self, RegradeCase};
 use std::io::Write;
@@ -26,8 +29,11 @@ const RANDOM: u64 = 340;
 const RANDOM_LOWER_PLANS: u64 = 40;
 const RANDOM_MOLD: u64 = 60;
 const RANDOM_REGRADINGS: u64 = 60;
+const RANDOM_LOOKUPS: usize = 60;
+/// The program has room for one byte more than is taken for a sheet.
+const ROOM: usize = 65_537;
 /// The bytes of all cases stay below this.
-const MOST_BYTES: usize = 800_000;
+const MOST_BYTES: usize = 1_100_000;
 
 /// Kinds of cases: what is printed of a sheet.
 #[derive(Clone, Copy)]
@@ -36,6 +42,8 @@ pub enum Kind {
     Mold,
     /// A tally sheet graded again under a second plan.
     Regrading,
+    /// Results, in place of a sheet, in which this code is looked up.
+    Lookup(u16),
 }
 
 impl Kind {
@@ -45,6 +53,7 @@ impl Kind {
             Kind::Tally => 0,
             Kind::Mold => 1,
             Kind::Regrading => 2,
+            Kind::Lookup(_) => 3,
         }
     }
 
@@ -54,18 +63,37 @@ impl Kind {
             Kind::Tally => grader::print_checked(sheet, true),
             Kind::Mold => grader::mold::print_checked(sheet, true),
             Kind::Regrading => grader::regrade::print_checked(sheet, plan, true),
+            Kind::Lookup(code) => grader::lookup::print(sheet, code),
         }
     }
 
-    /// The random sheet of a seed, and its second plan.
-    fn random(self, seed: u64) -> (generate::Case, Vec<u8>) {
+    /// What must be printed if the answer has this number and offset; of an accepted sheet that is not
+    /// known.
+    fn answer(self, sheet: &[u8], number: u32, offset: usize) -> Option<String> {
+        match (self, number) {
+            (Kind::Lookup(_), 0) => Some(lookup::found(sheet, offset)),
+            (Kind::Lookup(_), 1) => Some("not on this sheet\n".to_string()),
+            // Number 13 is about a short result buffer, which printing does not have.
+            (_, 0 | 13) => None,
+            _ => Some(format!("refused {number} {offset}\n")),
+        }
+    }
+
+    /// The random case of a seed: its kind, its sheet, and its second plan.
+    fn random(self, seed: u64) -> (Kind, generate::Case, Vec<u8>) {
         match self {
-            Kind::Tally => (generate::case(seed), Vec::new()),
-            Kind::Mold => (generate_mold::mold_case(seed), Vec::new()),
+            Kind::Tally => (self, generate::case(seed), Vec::new()),
+            Kind::Mold => (self, generate_mold::mold_case(seed), Vec::new()),
             Kind::Regrading => {
                 let made = generate_regrade::regrade_case(seed);
                 let RegradeCase { sheet, plan, room, expected } = made;
-                (generate::Case { sheet, room, expected }, plan)
+                (self, generate::Case { sheet, room, expected }, plan)
+            }
+            Kind::Lookup(_) => {
+                let LookupCase { results, code, expected, .. } = lookup_case(seed);
+                let expected = expected.map(|part| (part.number, part.offset));
+                let made = generate::Case { sheet: results, room: 0, expected };
+                (Kind::Lookup(code), made, Vec::new())
             }
         }
     }
@@ -88,6 +116,11 @@ impl Kind {
                 let (sheet, plan) = (sheet.to_vec(), plan.to_vec());
                 let case = RegradeCase { sheet, plan, room: MOST_ROOM, expected: None };
                 counts.note_regrade(&case, answer, graded.as_ref());
+            }
+            Kind::Lookup(code) => {
+                let part = grader::lookup::part(sheet, code);
+                let (results, made) = (sheet.to_vec(), Made::MadeUp);
+                counts.note_lookup(&LookupCase { results, code, expected: None, made }, part);
             }
         }
     }
@@ -113,6 +146,14 @@ impl Kind {
                     "random regradings, valid",
                     "random regradings, damaged",
                     "random regradings, messy",
+                ],
+            ),
+            Kind::Lookup(_) => (
+                "random look-up",
+                [
+                    "random look-ups, found",
+                    "random look-ups, not there or refused",
+                    "random look-ups, messy",
                 ],
             ),
         }
@@ -157,18 +198,23 @@ impl Cases {
         self.add(name, sheet);
     }
 
+    /// A sheet of which all that is printed is known by this number and offset.
+    pub fn answered(&mut self, name: &str, sheet: Vec<u8>, number: u32, offset: usize) {
+        let printed = self.kind.print(&sheet, &self.plan);
+        assert_eq!(Some(printed), self.kind.answer(&sheet, number, offset), "{name}");
+        self.push(name, sheet);
+    }
+
     /// A sheet that is refused with this number and offset.
     pub fn refused(&mut self, name: &str, sheet: Vec<u8>, number: u32, offset: usize) {
-        let printed = self.kind.print(&sheet, &self.plan);
-        assert_eq!(printed, format!("refused {number} {offset}\n"), "{name}");
-        self.push(name, sheet);
+        self.answered(name, sheet, number, offset);
     }
 
     /// The random sheet of this seed; returns the group to which it belongs.
     fn random(&mut self, seed: u64) -> &'static str {
         let (what, [valid, damaged, messy]) = self.kind.names();
-        let (made, plan) = self.kind.random(seed);
-        self.plan = plan;
+        let (kind, made, plan) = self.kind.random(seed);
+        (self.kind, self.plan) = (kind, plan);
         match self.made(&format!("{what}, seed {seed}"), made) {
             Some((0 | 13, _)) => valid,
             Some(_) => damaged,
@@ -179,11 +225,9 @@ impl Cases {
     /// A random sheet; returns what is expected of it.
     fn made(&mut self, name: &str, made: generate::Case) -> Option<(u32, usize)> {
         let printed = self.kind.print(&made.sheet, &self.plan);
-        // Number 13 is about a short result buffer, which printing does not have.
-        if let Some((number, offset)) =
-            made.expected.filter(|(number, _)| ![0, 13].contains(number))
-        {
-            assert_eq!(printed, format!("refused {number} {offset}\n"), "{name}");
+        let known = |(number, offset)| self.kind.answer(&made.sheet, number, offset);
+        if let Some(expected) = made.expected.and_then(known) {
+            assert_eq!(printed, expected, "{name}");
         }
         self.push(name, made.sheet);
         made.expected
@@ -242,6 +286,16 @@ fn all() -> (Cases, Vec<(&'static str, usize)>) {
         let group = cases.random(seed);
         count(group, &cases);
     }
+    cases.plan = Vec::new();
+    lookup::add(&mut cases);
+    count("look-ups by hand", &cases);
+    lookup::add_refusals(&mut cases);
+    count("refusals of look-ups by hand", &cases);
+    let fits = |seed: &u64| lookup_case(*seed).results.len() <= ROOM;
+    for seed in (FIRST_SEED..).filter(fits).take(RANDOM_LOOKUPS) {
+        let group = cases.random(seed);
+        count(group, &cases);
+    }
     (cases, groups)
 }
 
@@ -251,9 +305,15 @@ fn covered(cases: &Cases) -> Counts {
     for Case { kind, sheet, plan, .. } in &cases.cases {
         kind.note(sheet, plan, &mut counts);
     }
-    // Number 13 and other lengths of the result buffer, which printing does not have, and overshoots,
-    // which are not printed, are left to the differential test.
-    let elsewhere = |name: &str| name.ends_with("number 13") || name.contains("buffer");
+    // Number 13 and other lengths of the result buffer, which printing does not have, overshoots, which
+    // are not printed, and results of a look-up that are too large for the program are left to the
+    // differential test. So is where results come from, which is not noted here.
+    let elsewhere = |name: &str| {
+        name.ends_with("number 13")
+            || name.contains("buffer")
+            || name == "lookup: more than 65,536 bytes"
+            || name.starts_with("lookup:") && name.contains("results")
+    };
     let missing = counts.missing().find(|name| !elsewhere(name));
     assert_eq!(missing, None, "no case has this");
     counts
@@ -263,15 +323,21 @@ fn main() {
     let arguments: Vec<String> = std::env::args().skip(1).collect();
     let (cases, groups) = all();
     match &arguments[..] {
-        [option, number] if ["--sheet", "--plan"].contains(&&option[..]) => {
+        [option, number] if ["--sheet", "--plan", "--code"].contains(&&option[..]) => {
             let place = number.parse::<usize>().ok().and_then(|number| number.checked_sub(1));
-            let Some(Case { name, sheet, plan, .. }) =
+            let Some(Case { kind, name, sheet, plan }) =
                 place.and_then(|place| cases.cases.get(place))
             else {
                 eprintln!("cases: the cases are numbered from 1 to {}", cases.cases.len());
                 std::process::exit(2);
             };
-            let bytes = if option == "--sheet" { sheet } else { plan };
+            let code =
+                if let Kind::Lookup(code) = kind { format!("{code}\n") } else { String::new() };
+            let bytes = match &option[..] {
+                "--sheet" => sheet,
+                "--plan" => plan,
+                _ => code.as_bytes(),
+            };
             eprintln!("case {number}: {name}, {} bytes", bytes.len());
             std::io::stdout().write_all(bytes).expect("cannot write the bytes");
         }
@@ -279,14 +345,17 @@ fn main() {
             let counts = covered(&cases);
             let (mut stdin, mut stdout) = (Vec::new(), String::new());
             for (place, Case { kind, name, sheet, plan }) in cases.cases.iter().enumerate() {
-                // The program has room for one byte more than is taken for a sheet.
-                assert!(sheet.len().max(plan.len()) <= 65_537, "{name}");
+                assert!(sheet.len().max(plan.len()) <= ROOM, "{name}");
                 stdin.push(kind.byte());
                 stdin.extend((sheet.len() as u32).to_be_bytes());
                 stdin.extend(sheet);
-                if matches!(kind, Kind::Regrading) {
-                    stdin.extend((plan.len() as u32).to_be_bytes());
-                    stdin.extend(plan);
+                match kind {
+                    Kind::Tally | Kind::Mold => {}
+                    Kind::Regrading => {
+                        stdin.extend((plan.len() as u32).to_be_bytes());
+                        stdin.extend(plan);
+                    }
+                    Kind::Lookup(code) => stdin.extend(code.to_be_bytes()),
                 }
                 stdout += &format!("case {}\n{}", place + 1, kind.print(sheet, plan));
             }
@@ -300,16 +369,18 @@ fn main() {
                 eprintln!("{number:>6}  {group}");
             }
             let accepted = |kind: &str| counts.0[&format!("{kind}number 00")];
+            let found = accepted("lookup: ");
             let accepted = accepted("") + accepted("mold: ") + accepted("regrading: ");
             eprintln!(
-                "cases: {} cases, {accepted} accepted, {} bytes of sheets, {} lines expected",
+                "cases: {} cases, {accepted} accepted, {found} found, {} bytes of sheets, {} lines \
+                 expected",
                 cases.cases.len(),
                 stdin.len(),
                 stdout.lines().count()
             );
         }
         _ => {
-            eprintln!("usage: cases FOLDER, or cases --sheet NUMBER, or cases --plan NUMBER");
+            eprintln!("usage: cases FOLDER, or cases --sheet NUMBER, or --plan, or --code");
             std::process::exit(2);
         }
     }

@@ -2,13 +2,16 @@
 //! offset and every byte of the buffer with guard bytes before and behind it, on seeded random
 //! sheets, which must be kept; and both halves of demand 3, with what A.1 of paper 02 adds of
 //! overshoots, on the bytes that the library left. For every fourth case also a mold sheet (A.2 of
-//! paper 02), with the first half of demand 3, and a regrading and a pair of them (A.5), with both
-//! halves. At the end every count there is (A.3).
+//! paper 02), with the first half of demand 3, a regrading and a pair of them (A.5), with both halves,
+//! and a look-up of one code (A.6), which is also made in the results that gradings and regradings
+//! left. At the end every count there is (A.3).
 //!
-//! `differential [CASES [SEED]]`. A sheet on which the two differ is written to a file and named. A
-//! run of 10,000 cases or more also fails if one of the things that it counts never came up.
+//! `differential [CASES [SEED]]`. A sheet on which the two differ is written to a file and named, of a
+//! look-up the results. A run of 10,000 cases or more also fails if one of the things that it counts
+//! never came up.
 
 mod counts;
+mod lookup;
 mod mold;
 mod regrade;
 
@@ -87,6 +90,12 @@ fn library(kind: Kind, seed: u64, sheet: &[u8], room: usize, fill: u8) -> (Answe
         report(kind, "the second plan after grading", seed, sheet, &"changed", &"kept");
     }
     (Answer { number, units, offset }, results.to_vec())
+}
+
+/// The command that prints what the grader makes of standard input.
+fn grader_command() -> String {
+    let manifest = concat!(env!("CARGO_MANIFEST_DIR"), "/../grader/Cargo.toml");
+    format!("cargo run -q --release --offline --manifest-path {manifest}")
 }
 
 /// Says what differs, writes the sheet to a file, and ends the run.
@@ -193,12 +202,14 @@ struct Compared {
     graded: Option<Graded>,
 }
 
-/// Compares a grading of a tally sheet with what this function of the grader makes of it.
+/// Compares a grading of a tally sheet with what this function of the grader makes of it, and looks up
+/// codes in the records that it left.
 fn compare_traced(
     kind: Kind,
     seed: u64,
     sheet: &[u8],
     room: usize,
+    counts: &mut Counts,
     grade: impl FnOnce(&mut [u8]) -> (Answer, Option<Graded>),
 ) -> Compared {
     let fill = fill(seed);
@@ -218,6 +229,10 @@ fn compare_traced(
             *overshoot = i64::from(u32::from_be_bytes(bytes.try_into().expect("four bytes")));
         }
     }
+    if graded.is_some() {
+        let left_by = if let Kind::Regrading(_) = kind { "a regrading" } else { "a grading" };
+        lookup::in_records(seed, left_by, &results[..RESULT_SIZE * answer.units], counts);
+    }
     Compared { answer, results, graded }
 }
 
@@ -225,7 +240,7 @@ fn compare_traced(
 /// trace, as recorded.
 fn compare(seed: u64, sheet: &[u8], room: usize, counts: &mut Counts) -> Option<Graded> {
     let grade = |results: &mut [u8]| grader::grade_traced(sheet, results, false);
-    let compared = compare_traced(Kind::Tally, seed, sheet, room, grade);
+    let compared = compare_traced(Kind::Tally, seed, sheet, room, counts, grade);
     note(counts, sheet, room, compared.answer, compared.graded.as_ref());
     regrade::under_own_plan(seed, sheet, &compared, counts);
     compared.graded
@@ -277,7 +292,7 @@ fn main() {
     let start = Instant::now();
     let mut counts = Counts::default();
     let (mut checked, mut pairs, mut graded_pairs, mut molds, mut molds_checked) = (0, 0, 0, 0, 0);
-    let (mut regradings, mut regradings_checked, mut regraded_pairs) = (0, 0, 0);
+    let (mut regradings, mut regradings_checked, mut regraded_pairs, mut lookups) = (0, 0, 0, 0);
     for case in 0..cases {
         let seed = seed_of(seed, case);
         let long = case % 500 == 0;
@@ -298,11 +313,15 @@ fn main() {
             regradings += 1;
             regrade::monotone(seed, &mut counts);
             regraded_pairs += 1;
+            lookup::compare(seed, &mut counts);
+            lookups += 1;
         }
         // More often than a long sheet, as fewer of them are refused behind the breaks.
         if case % 200 == 0 {
             regradings_checked += usize::from(regrade::compare_long(seed, &mut counts));
             regradings += 1;
+            lookup::compare_long(seed, &mut counts);
+            lookups += 1;
         }
     }
     let (defects, fields) = (counts::defects(), counts::fields());
@@ -325,8 +344,8 @@ fn main() {
         std::process::exit(1);
     }
     println!(
-        "differential: {cases} sheets, {pairs} pairs, {molds} mold sheets, {regradings} regradings \
-         and {regraded_pairs} pairs of them agree, seed {seed}, {:.1} s",
+        "differential: {cases} sheets, {pairs} pairs, {molds} mold sheets, {regradings} regradings, \
+         {regraded_pairs} pairs of them and {lookups} look-ups agree, seed {seed}, {:.1} s",
         start.elapsed().as_secs_f64()
     );
 }

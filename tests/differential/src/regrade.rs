@@ -1,8 +1,8 @@
 //! Regradings under a second plan (A.5 of paper 02): the library against the independent grader, and
 //! both halves of demand 3 on the bytes that the library left, as for tally sheets.
 
-use crate::{compare_traced, compare_with, fill, largest_of, lengthen, most_room, note_offset};
-use crate::{report_pair, Compared, Kind};
+use crate::{compare_traced, compare_with, fill, grader_command, largest_of, lengthen, most_room};
+use crate::{note_offset, report_pair, Compared, Kind};
 use grader::check::{first_two_in_a_row, monotone_regraded};
 use grader::generate::Counts;
 use grader::generate_regrade::{regrade_case, regrade_pair, RegradeCase};
@@ -20,19 +20,24 @@ pub fn end(what: &str, file: &str, sheet: &[u8], plan: &[u8]) -> ! {
             path.display().to_string()
         });
     println!("{what}\n  the sheet: {path}\n  the second plan: {plan_path}");
-    let manifest = concat!(env!("CARGO_MANIFEST_DIR"), "/../grader/Cargo.toml");
-    let grader = format!("cargo run -q --release --offline --manifest-path {manifest}");
-    println!("  see it: {grader} -- --regrade {plan_path} < {path}");
+    println!("  see it: {} -- --regrade {plan_path} < {path}", grader_command());
     std::process::exit(1);
 }
 
-fn compare_bytes(seed: u64, sheet: &[u8], plan: &[u8], room: usize) -> Compared {
+fn compare_bytes(
+    seed: u64,
+    sheet: &[u8],
+    plan: &[u8],
+    room: usize,
+    counts: &mut Counts,
+) -> Compared {
     let regrade = |results: &mut [u8]| regrade_traced(sheet, plan, results, false);
-    compare_traced(Kind::Regrading(plan), seed, sheet, room, regrade)
+    compare_traced(Kind::Regrading(plan), seed, sheet, room, counts, regrade)
 }
 
 fn compare_case(seed: u64, case: &RegradeCase, counts: &mut Counts) -> bool {
-    let Compared { answer, graded, .. } = compare_bytes(seed, &case.sheet, &case.plan, case.room);
+    let Compared { answer, graded, .. } =
+        compare_bytes(seed, &case.sheet, &case.plan, case.room, counts);
     counts.note_regrade(case, answer, graded.as_ref());
     note_offset(counts, "regrading: ", answer);
     largest_of(Kind::Regrading(&case.plan), seed, &case.sheet, graded.as_ref())
@@ -54,7 +59,7 @@ pub fn compare_long(seed: u64, counts: &mut Counts) -> bool {
 pub fn monotone(seed: u64, counts: &mut Counts) {
     let (first, second, plan) = regrade_pair(seed);
     let sides = [&first, &second].map(|sheet| {
-        let compared = compare_bytes(seed, sheet, &plan, most_room(sheet));
+        let compared = compare_bytes(seed, sheet, &plan, most_room(sheet), counts);
         compared.graded.expect("a pair is accepted")
     });
     counts.note_regrade_pair(&sides[0], &sides[1]);

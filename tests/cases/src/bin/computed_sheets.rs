@@ -1302,7 +1302,7 @@ fn printed(groups: &[Group]) -> String {
     }
     let case = twelve_units();
     let (field, name, graded) = (case.field(), case.definition(), graded(&case));
-    text += &format!("\n{}{}", shows(&case), results(&case, &graded));
+    text += &format!("\n{}{}", shows(case.shows), results(&case, &graded));
     text += &format!("\n{}", printed_lines(&case));
     record +=
         &format!("  pub {field} : linesOf {name}Results {} ≡ {name}Lines\n", graded.answer.units);
