@@ -74,7 +74,7 @@ module _ (bytes : List ℕ) (records : ℕ) (counted : recordsIn bytes ≡ recor
   unit-and more e = let (unit, so) = and-both (unitTest bytes records i) more e in (unit-at unit, so)
 
 -- every byte is below 256; behind the end of a sheet they are read as 0
-all-bytes : (bytes : List ℕ) → all (λ place. ltb (byte bytes place) 256) (upFrom 0 (length bytes)) ≡ true → (place : ℕ) → byte bytes place < 256
+pub all-bytes : (bytes : List ℕ) → all (λ place. ltb (byte bytes place) 256) (upFrom 0 (length bytes)) ≡ true → (place : ℕ) → byte bytes place < 256
 all-bytes bytes small place = go (ltb place (length bytes)) refl
   where
     go : (inside : Bool) → ltb place (length bytes) ≡ inside → byte bytes place < 256

@@ -5,6 +5,9 @@ use Rattle.mold.proofs.grade_mold.Met as grade_mold
 use Rattle.hatmuyon.proofs.hatmuyon_grade_mold.Met as hatmuyon_grade_mold
 use Rattle.regrade.proofs.regrade.Met as regrade
 use Rattle.hatmuyon.proofs.hatmuyon_regrade.Met as hatmuyon_regrade
+use Rattle.lookup.proofs.find.Met as find
+use Rattle.lookup.proofs.find_place.Met as find_place
+use Rattle.hatmuyon.proofs.hatmuyon_find_code.Met as hatmuyon_find_code
 use Rattle.lines.proofs.print_into.Met as print_into
 use Rattle.mold_lines.proofs.print_mold_into.Met as print_mold_into
 use Rattle.regrade_lines.proofs.print_regrading_into.Met as print_regrading_into
@@ -16,6 +19,8 @@ use Rattle.answers.proofs.NeverOverfull.{never-overfull}
 use Rattle.mold_demands.proofs.MoldDemands.{mold-demands}
 use Rattle.courses.proofs.Graded.{demand2-records}
 use Rattle.regrade_demands.proofs.RegradeDemands.{regrade-demands}
+use Rattle.lookup_demands.proofs.LookupDemands.{lookup-demands}
+use Rattle.demands.proofs.LookupGraded.{lookup-graded}
 use Rattle.demands.proofs.LargestOf.{demand3-largest-form}
 use Rattle.demands.proofs.NeverWorse.{demand3-fewer-defects}
 use Rattle.computed.proofs.Peach.{small-sheets}
@@ -32,6 +37,9 @@ demands =
       promise-of-hatmuyon-grade-mold = hatmuyon_grade_mold.met;
       promise-of-regrade = regrade.met;
       promise-of-hatmuyon-regrade = hatmuyon_regrade.met;
+      promise-of-find = find.met;
+      promise-of-find-place = find_place.met;
+      promise-of-hatmuyon-find-code = hatmuyon_find_code.met;
       promise-of-print-into = print_into.met;
       promise-of-print-mold-into = print_mold_into.met;
       promise-of-print-regrading-into = print_regrading_into.met;
@@ -48,4 +56,6 @@ demands =
       instances = instances;
       mold = mold-demands;
       regradings = regrade-demands;
+      lookups = lookup-demands;
+      lookups-graded = lookup-graded;
     }

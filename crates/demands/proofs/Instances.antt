@@ -14,7 +14,11 @@ use Rattle.layout.specs.Layout.{offset}
 use Rattle.results.specs.Record.{resultSize}
 use Rattle.outcome.specs.declared.Answer.{Answer}
 use Rattle.tally.specs.Accepted.{AcceptedAs, sheetIn}
+use Rattle.lookup.specs.declared.Part.{Part}
+use Rattle.lookup.specs.Lookup.{lookup}
+use Rattle.lookup.proofs.Computing as lookup
 use Rattle.demands.specs.Demand3.{NeverWorse}
+use Rattle.demands.specs.LookupGraded.{LookupInSheet}
 use Rattle.computed.specs.WorkedCases.{peachPlan, peachUnits, peach, peachResults}
 use Rattle.computed.specs.FurtherSheets.{breakBetweenFailures, breakBetweenFailuresResults, everyKindOfRecord, everyKindOfRecordResults, everyLowerPlan, everyLowerPlanResults, oneMinorDefectFewer, oneMinorDefectFewerResults, oneSevereDefectFewer, oneSevereDefectFewerResults, rawValueAtLimit, rawValueAtLimitResults, noDefectInPlaceOfOne, noDefectInPlaceOfOneResults}
 use Rattle.demands.specs.Instances.{left, peachLeft, everyKindLeft, lowerPlansLeft, peachStandings, everyKindStandings, peachPlanned, lowerPlansPlanned, everyKindPlanned, standingByte, CourseInstance, LowerPlansInstance, CodeInstance, LargestInstance, LargestNumber, FewerInstance, FewerTwiceInstance, FewerMeetsInstance, Instances}
@@ -23,7 +27,8 @@ use Rattle.answers.proofs.AnswerInstances.{answer-instances}
 use Rattle.computed.proofs.WorkedCases.{worked-cases}
 use Rattle.computed.proofs.FurtherSheets.{further-sheets}
 use Rattle.demands.proofs.OneFewer.{one-fewer-compared}
-use Rattle.demands.proofs.AtUnits.{course-recorded, lower-plans-recorded, code-graded, largest-recorded, number-recorded, none-higher, none-lower}
+use Rattle.demands.proofs.AtUnits.{course-recorded, lower-plans-recorded, code-graded, largest-recorded, number-recorded, none-higher, none-lower, all-bytes}
+use Rattle.demands.proofs.LookupGraded.{lookup-graded}
 
 -- ---- the accepted sheets
 
@@ -71,6 +76,22 @@ unfolding computing peachPlan everyKindOfRecord
 code-met-again buffer holds =
     code-graded everyKindOfRecord buffer everyKindAnswer (everyKindLeft buffer) (every-kind-accepted buffer holds)
     9 refl 300 0 8 refl refl refl refl refl
+
+-- ---- look-ups
+
+peach-looked-up : (buffer : List ℕ) → resultSize * 7 ≤ length buffer → (code : ℕ) (part : Part) → part ≡ lookup peachResults code
+    → LookupInSheet peach (peachLeft buffer) code part
+unfolding computing peachPlan peachUnits peach peachResults
+peach-looked-up buffer holds code part given =
+    lookup-graded .in-grading peach buffer peachAnswer (peachLeft buffer) (peach-accepted buffer holds) (all-bytes peach refl) code part given
+
+code-found : (buffer : List ℕ) → resultSize * 7 ≤ length buffer → LookupInSheet peach (peachLeft buffer) 5 (record { number = 0; offset = 160; length = 32 })
+unfolding lookup.computing peachResults
+code-found buffer holds = peach-looked-up buffer holds 5 (record { number = 0; offset = 160; length = 32 }) refl
+
+code-not-found : (buffer : List ℕ) → resultSize * 7 ≤ length buffer → LookupInSheet peach (peachLeft buffer) 6 (record { number = 1; offset = 0; length = 0 })
+unfolding lookup.computing peachResults
+code-not-found buffer holds = peach-looked-up buffer holds 6 (record { number = 1; offset = 0; length = 0 }) refl
 
 -- ---- demand 3, the first half
 
@@ -221,4 +242,6 @@ instances =
       fewer-defects = fewer-defects;
       fewer-defects-twice = fewer-defects-twice;
       fewer-defects-meets = fewer-defects-meets;
+      code-found = code-found;
+      code-not-found = code-not-found;
     }

@@ -2,7 +2,7 @@ pub mod LargestOf
 pub mod NeverWorse
 pub mod OneFewer
 pub mod AtUnits
+pub mod LookupGraded
 pub mod Computing
 pub mod Instances
-pub mod LookupGraded
 pub mod Demands

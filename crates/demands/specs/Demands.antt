@@ -1,17 +1,22 @@
 -- The demands on the grading as one theorem, `demands : Demands` in `proofs/Demands.antt`. Its first fields are what the code promises, for
 -- every input: of `tally::grade`, and of `hatmuyon_grade`, through which C and Rust call it, that the answer and the whole result buffer
 -- are the `outcome` of the sheet and the buffer; of `mold::grade_mold` and `hatmuyon_grade_mold` the same with `moldOutcome`; of
--- `regrade::regrade` and `hatmuyon_regrade` the same with `regradeOutcome`, which looks at a second plan, too; of `lines::print_into` that
--- the text is that of `printing`, with `printed` of the input in front, of `mold_lines::print_mold_into` the same with `moldPrinting` and
--- `moldPrinted`, and of `regrade_lines::print_regrading_into` with `regradePrinting` and `regradePrinted`. Demands 1 to 3, P9 and P10, the
--- further sheets and the instances speak of `outcome`; the lines of P10 and the printed text of `printed`; the layout of the bytes alone,
--- P1 to P8 of the rules alone, `mold` of mold sheets and `regradings` of recorded sheets that are graded again under a second plan.
+-- `regrade::regrade` and `hatmuyon_regrade` the same with `regradeOutcome`, which looks at a second plan, too; of `lookup::find` that the
+-- number and the part of the lent results are those of `handed`, and of `lookup::find_place` and `hatmuyon_find_code` that number and place
+-- are those of `lookup`; of `lines::print_into` that the text is that of `printing`, with `printed` of the input in front, of
+-- `mold_lines::print_mold_into` the same with `moldPrinting` and `moldPrinted`, and of `regrade_lines::print_regrading_into` with
+-- `regradePrinting` and `regradePrinted`. Demands 1 to 3, P9 and P10, the further sheets and the instances speak of `outcome`; the lines of
+-- P10 and the printed text of `printed`; the layout of the bytes alone, P1 to P8 of the rules alone, `mold` of mold sheets, `regradings` of
+-- recorded sheets that are graded again under a second plan, and `lookups` of what is found in finished results.
 use Rattle.tally.proofs.grade.Statement as grade
 use Rattle.hatmuyon.proofs.hatmuyon_grade.Statement as hatmuyon_grade
 use Rattle.mold.proofs.grade_mold.Statement as grade_mold
 use Rattle.hatmuyon.proofs.hatmuyon_grade_mold.Statement as hatmuyon_grade_mold
 use Rattle.regrade.proofs.regrade.Statement as regrade
 use Rattle.hatmuyon.proofs.hatmuyon_regrade.Statement as hatmuyon_regrade
+use Rattle.lookup.proofs.find.Statement as find
+use Rattle.lookup.proofs.find_place.Statement as find_place
+use Rattle.hatmuyon.proofs.hatmuyon_find_code.Statement as hatmuyon_find_code
 use Rattle.lines.proofs.print_into.Statement as print_into
 use Rattle.mold_lines.proofs.print_mold_into.Statement as print_mold_into
 use Rattle.regrade_lines.proofs.print_regrading_into.Statement as print_regrading_into
@@ -21,6 +26,8 @@ use Rattle.answers.specs.Grounds.{Demand2Grounds, NeverOverfull}
 use Rattle.mold_demands.specs.MoldDemands.{MoldDemands}
 use Rattle.courses.specs.Demand2.{Demand2Records}
 use Rattle.regrade_demands.specs.RegradeDemands.{RegradeDemands}
+use Rattle.lookup_demands.specs.LookupDemands.{LookupDemands}
+use Rattle.demands.specs.LookupGraded.{LookupGraded}
 use Rattle.demands.specs.Demand3.{Demand3LargestForm, Demand3FewerDefects}
 use Rattle.computed.specs.Peach.{SmallSheets}
 use Rattle.computed.specs.FurtherSheets.{FurtherSheets}
@@ -35,6 +42,9 @@ pub record Demands : Type 2 where
   pub promise-of-hatmuyon-grade-mold : {M : Type 1} → hatmuyon_grade_mold.statement M
   pub promise-of-regrade : {M : Type 1} → regrade.statement M
   pub promise-of-hatmuyon-regrade : {M : Type 1} → hatmuyon_regrade.statement M
+  pub promise-of-find : {M : Type 1} → find.statement M
+  pub promise-of-find-place : {M : Type 1} → find_place.statement M
+  pub promise-of-hatmuyon-find-code : {M : Type 1} → hatmuyon_find_code.statement M
   pub promise-of-print-into : {M : Type 1} → print_into.statement M
   pub promise-of-print-mold-into : {M : Type 1} → print_mold_into.statement M
   pub promise-of-print-regrading-into : {M : Type 1} → print_regrading_into.statement M
@@ -65,3 +75,7 @@ pub record Demands : Type 2 where
   pub mold : MoldDemands
   -- regradings: answers and grounds, the rules under a second plan, both halves of demand 3, computed sheets and printed text
   pub regradings : RegradeDemands
+  -- look-ups of a code in finished results: which record is handed back, how far is read, computed look-ups
+  pub lookups : LookupDemands
+  -- and in the results of an accepted sheet or regrading: the unit that is found shows the code grade
+  pub lookups-graded : LookupGraded

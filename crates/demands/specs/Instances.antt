@@ -18,6 +18,7 @@ use Rattle.answers.specs.AnswerInstances.{AnswerInstances}
 use Rattle.courses.specs.Course.{Course, tenTimesCount, prerequisite, ClassFails, UnitFails, SecondFailsLower, Qualifies, ThreeQualify, Recovered, Rules}
 use Rattle.courses.specs.Demand2.{recordedMark, recordedCode, recordedPlanGrade, recordedStanding, codeOf}
 use Rattle.demands.specs.Demand3.{AnchorAt}
+use Rattle.demands.specs.LookupGraded.{LookupInSheet}
 use Rattle.computed.specs.WorkedCases.{peach, peachResults}
 use Rattle.computed.specs.FurtherSheets.{breakBetweenFailures, breakBetweenFailuresResults, everyKindOfRecord, everyKindOfRecordResults, everyLowerPlan, everyLowerPlanResults, oneMinorDefectFewer, oneMinorDefectFewerResults, oneSevereDefectFewer, oneSevereDefectFewerResults, rawValueAtLimit, rawValueAtLimitResults, noDefectInPlaceOfOne, noDefectInPlaceOfOneResults}
 
@@ -245,3 +246,8 @@ pub record Instances : Type 0 where
       → FewerTwiceInstance buffer buffer'
   pub fewer-defects-meets : (buffer buffer' : List ℕ) → resultSize * 2 ≤ length buffer → resultSize * 2 ≤ length buffer'
       → FewerMeetsInstance buffer buffer'
+  -- look-ups in the results of the peach sheet: code 5 is found at record 5, the second of its two, and code 6 is not on the sheet
+  pub code-found : (buffer : List ℕ) → resultSize * 7 ≤ length buffer
+      → LookupInSheet peach (peachLeft buffer) 5 (record { number = 0; offset = 160; length = 32 })
+  pub code-not-found : (buffer : List ℕ) → resultSize * 7 ≤ length buffer
+      → LookupInSheet peach (peachLeft buffer) 6 (record { number = 1; offset = 0; length = 0 })

@@ -1,4 +1,4 @@
 pub mod Demand3
-pub mod Instances
 pub mod LookupGraded
+pub mod Instances
 pub mod Demands

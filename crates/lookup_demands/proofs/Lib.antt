@@ -1,3 +1,6 @@
 mod Words
 pub mod LookupAnswers
 pub mod LookupReading
+pub mod LookupSheets
+pub mod LookupInstances
+pub mod LookupDemands
