@@ -6,14 +6,16 @@
 //! table has the median over the rounds and, as other work on the machine slows some of them, the
 //! least. Before a sheet is timed the contenders must agree on it; before any is, the library and
 //! the tuned grader must agree on seeded random sheets, refused ones among them. So it is with mold
-//! sheets and with regradings, for each of which every contender has a function of its own.
+//! sheets, with regradings and with look-ups of one code in results, for each of which every contender
+//! has a function of its own.
 
 use grader::generate::{self, table, Dice, PEACH};
+use grader::generate_lookup::lookup_case;
 use grader::generate_regrade::regrade_case;
 use grader::sheet::{Record, Sheet, Unit};
 use hatmuyon::ffi::{
-    hatmuyon_regrade, MOLD_RESULT_MET, RESULT_CODE, RESULT_CODE_GRADE, RESULT_CRITICAL_OVERSHOOT,
-    RESULT_PORTION_GRADE, RESULT_STANDING,
+    hatmuyon_find_code, hatmuyon_regrade, MOLD_RESULT_MET, RESULT_CODE, RESULT_CODE_GRADE,
+    RESULT_CRITICAL_OVERSHOOT, RESULT_PORTION_GRADE, RESULT_STANDING,
 };
 use hatmuyon::{MOLD_LEVELS, MOLD_RESULT_SIZE, MOLD_UNIT_SIZE, MOST_POSITIVE_FIELDS};
 use hatmuyon::{MOST_UNITS, RESULT_SIZE};
@@ -23,7 +25,7 @@ use tuned::Tuned;
 
 mod tuned;
 
-/// Number, units, offset.
+/// Number, units, offset; of a look-up number, offset, length.
 type Answer = (u32, usize, usize);
 /// Grades a sheet into a buffer.
 type Contender<'a> = &'a mut dyn FnMut(&[u8], &mut [u8]) -> Answer;
@@ -65,6 +67,18 @@ fn library_regrade(sheet: &[u8], plan: &[u8], results: &mut [u8]) -> Answer {
 fn grader_regrade(sheet: &[u8], plan: &[u8], results: &mut [u8]) -> Answer {
     let answer = grader::regrade::regrade(sheet, plan, results);
     (answer.number, answer.units, answer.offset)
+}
+
+fn library_find(results: &[u8], code: u16) -> Answer {
+    // Safety: a slice's pointer is not null and valid for its length.
+    let part = unsafe { hatmuyon_find_code(results.as_ptr(), results.len(), code) };
+    (part.number, part.offset, part.length)
+}
+
+/// By the grader's reading that ends at the first Substandard portion of the code.
+fn grader_find(results: &[u8], code: u16) -> Answer {
+    let (number, part) = grader::lookup::find_ended(results, code);
+    (number, part.as_ptr().addr() - results.as_ptr().addr(), part.len())
 }
 
 /// The grader without its map: the code grades are found with the library's scheme of reading.
@@ -165,6 +179,17 @@ fn compare_regradings(tuned: &mut Tuned) {
         assert!(
             outcome(&mut |sheet, results| tuned.regrade(sheet, &case.plan, results)) == expected,
             "the tuned grader differs on the regrading of seed {seed}"
+        );
+    }
+}
+
+/// The same with random look-ups.
+fn compare_lookups() {
+    for seed in 0..RANDOM_SHEETS {
+        let case = lookup_case(seed);
+        assert!(
+            tuned::find(&case.results, case.code) == library_find(&case.results, case.code),
+            "the tuned grader differs on the look-up of seed {seed}"
         );
     }
 }
@@ -319,6 +344,20 @@ fn every_fifth_fails() -> Vec<u8> {
     mold(2, [3, 3, 2, 6, 3].into_iter().cycle().take(1000))
 }
 
+/// The results of units that meet, with so many codes, all of grade A.
+fn finished(units: usize, codes: usize) -> Vec<u8> {
+    let mut results = vec![0; RESULT_SIZE * units];
+    assert_eq!(library(&bytes(plain(units, codes)), &mut results).0, 0);
+    results
+}
+
+/// So are these, but for the first unit: it is Substandard.
+fn first_substandard(units: usize, codes: usize) -> Vec<u8> {
+    let mut results = finished(units, codes);
+    results[RESULT_PORTION_GRADE] = 3;
+    results
+}
+
 /// The library, the independent grader and the tuned one.
 type Times = [Time; 3];
 
@@ -351,6 +390,7 @@ fn main() {
     compare_mold();
     let mut regrader = Tuned::new();
     compare_regradings(&mut regrader);
+    compare_lookups();
     let mut tuned = |sheet: &[u8], results: &mut [u8]| table_by_code.grade(sheet, results);
     println!("The library beside the independent grader and the tuned one, {rounds} rounds, tally");
     println!(
@@ -360,7 +400,7 @@ fn main() {
     println!(
         "The library and the tuned grader agree on {RANDOM_SHEETS} random sheets, and on as many"
     );
-    println!("mold sheets and regradings.");
+    println!("mold sheets, regradings and look-ups.");
     println!();
 
     head("sheet", "us");
@@ -417,6 +457,27 @@ fn main() {
     println!("(*) The grader's map and the tuned grader's table are left out. The code grades are");
     println!("    found over the result records, in the library's scheme: from each code's first");
     println!("    record on, all records are read twice.");
+
+    println!();
+    head("look-up", "ns");
+    // Each with its code and its expected number and offset.
+    for (name, results, code, number, offset) in [
+        ("find, one record, Substandard", first_substandard(1, 1), 0, 0, 0),
+        ("find, first record Substandard, 1,000 records", first_substandard(1000, 5), 0, 0, 0),
+        ("find, not there, 1,000 records", finished(1000, 5), 5, 1, 0),
+        ("find, code in every record, 1,000 records", finished(1000, 1), 0, 0, 0),
+        ("find, code in every fifth record, 1,000 records", finished(1000, 5), 4, 0, 128),
+    ] {
+        let contenders: [Contender; 3] = [
+            &mut |results, _| library_find(results, black_box(code)),
+            &mut |results, _| grader_find(results, black_box(code)),
+            &mut |results, _| tuned::find(results, black_box(code)),
+        ];
+        // As if of one unit, so that it is done often in a round; nothing is written.
+        let (times, answer, _) = times(contenders, &results, 1, 0, rounds);
+        assert_eq!((answer.0, answer.1), (number, offset), "{name}");
+        row(name, times);
+    }
 
     for (name, codes) in [("growth, one code", 1), ("growth, a code for each unit", 1000)] {
         println!();

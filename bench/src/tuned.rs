@@ -10,7 +10,8 @@
 //! Refusal 14 is left out: no limit of an accepted plan is too large for two bytes.
 //!
 //! A regrading, by [`Tuned::regrade`], is checked in the same way; its one path takes in the worst
-//! grade by code as it writes. A mold sheet is read twice, too, by [`grade_mold`].
+//! grade by code as it writes. A mold sheet is read twice, too, by [`grade_mold`]. Of one code the
+//! results are read once, by [`find`], up to its first Substandard portion.
 
 use crate::Answer;
 use hatmuyon::ffi::{
@@ -547,4 +548,57 @@ fn grade_mold_units(sheet: &[u8], results: &mut [u8]) -> Result<usize, (u32, usi
 /// Grades a mold sheet into a result buffer.
 pub fn grade_mold(sheet: &[u8], results: &mut [u8]) -> Answer {
     answer(sheet, grade_mold_units(sheet, results))
+}
+
+/// So many records are looked at without a loop over them, which made a look-up faster.
+const BLOCK: usize = 8;
+
+/// What a look-up has found so far.
+struct Found {
+    code: [u8; 2],
+    /// The best grade that is worse than all those of the code so far.
+    worse: u8,
+    answer: Answer,
+}
+
+impl Found {
+    /// Whether a record is of the code, and worse than all before it.
+    fn is_worse(&self, record: &[u8]) -> bool {
+        [record[RESULT_CODE], record[RESULT_CODE + 1]] == self.code
+            && record[RESULT_PORTION_GRADE] >= self.worse
+    }
+
+    /// Takes in such a record, at this offset: whether it ends the reading.
+    fn take_in(&mut self, record: &[u8], offset: usize) -> bool {
+        self.answer = (0, offset, RESULT_SIZE);
+        self.worse = record[RESULT_PORTION_GRADE].saturating_add(1);
+        self.worse > SUBSTANDARD
+    }
+}
+
+/// Finds the first record of the worst portion grade of a code in results: number, offset and length.
+pub fn find(results: &[u8], code: u16) -> Answer {
+    if !results.len().is_multiple_of(RESULT_SIZE) {
+        return (19, 0, 0);
+    }
+    let mut found = Found { code: code.to_be_bytes(), worse: 0, answer: (1, 0, 0) };
+    let (blocks, rest) = results.as_chunks::<{ BLOCK * RESULT_SIZE }>();
+    let mut offset = 0;
+    for block in blocks {
+        for place in 0..BLOCK {
+            let at = RESULT_SIZE * place;
+            let record = &block[at..at + RESULT_SIZE];
+            if found.is_worse(record) && found.take_in(record, offset + at) {
+                return found.answer;
+            }
+        }
+        offset += block.len();
+    }
+    for record in rest.chunks_exact(RESULT_SIZE) {
+        if found.is_worse(record) && found.take_in(record, offset) {
+            break;
+        }
+        offset += RESULT_SIZE;
+    }
+    found.answer
 }

@@ -46,27 +46,30 @@ fn substandard(code: u16) -> [u8; RESULT_SIZE] {
 
 /// Looks up a code by the library, in results inside a larger buffer, all of which must stay as it was.
 /// Compares its answer, and the bytes at that place, with the grader's, and hands out the part.
-fn compare_bytes<'a>(seed: u64, results: &'a [u8], code: u16) -> (Part, &'a [u8]) {
+fn compare_bytes(seed: u64, results: &[u8], code: u16) -> (Part, &[u8]) {
     // Guard bytes that would be found if they were looked at.
     let guard = substandard(code);
-    let kept = [&guard, results, &guard].concat();
-    let mut memory = kept.clone();
+    let mut memory = [&guard, results, &guard].concat();
     let lent = memory[GUARD..GUARD + results.len()].as_mut_ptr();
     // Safety: the pointer is valid for the length.
     let returned = unsafe { ffi::hatmuyon_find_code(lent, results.len(), code) };
+    let (before, rest) = memory.split_at(GUARD);
+    let (lent, behind) = rest.split_at(results.len());
+    if [before, behind] != [&guard; 2] {
+        report("a guard byte", seed, results, code, &[before, behind], &guard);
+    }
+    if lent != results {
+        let at = lent.iter().zip(results).position(|(a, b)| a != b).unwrap_or(0);
+        let what = format!("byte {at} of the results");
+        report(&what, seed, results, code, &lent[at], &results[at]);
+    }
     let ffi::Part { number, offset, length } = returned;
-    let returned = Part { number, offset, length };
-    let expected = part(results, code);
+    let (returned, expected) = (Part { number, offset, length }, part(results, code));
     if returned != expected {
         report("the answer", seed, results, code, &returned, &expected);
     }
-    if memory != kept {
-        let at = memory.iter().zip(&kept).position(|(a, b)| a != b).unwrap_or(0);
-        let what = format!("byte {at} of the buffer, behind {GUARD} guard bytes,");
-        report(&what, seed, results, code, &memory[at], &kept[at]);
-    }
-    let bytes = &memory[GUARD + offset..GUARD + offset + length];
     let found = find(results, code);
+    let bytes = &lent[offset..offset + length];
     if (number, bytes) != found {
         report("the part", seed, results, code, &(number, bytes), &found);
     }
