@@ -1,4 +1,4 @@
--- For contracts of private functions: the records of one code among those in a buffer.
+-- For contracts of functions on one code: its records among those in a buffer.
 use Prim.Native.Nat.{ℕ, _*_, _<_, _≤_}
 use mathlib.Core.Path.{_≡_}
 use mathlib.Core.Bool.{cond}

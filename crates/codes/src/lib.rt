@@ -68,7 +68,7 @@ fn next_of_few(results: &[u8], code: u16, from: usize, units: usize) -> usize
 }
 
 // The first record from this one on that has this code, or the number of units if none has.
-fn next_with(results: &[u8], code: u16, from: usize, units: usize) -> usize
+pub fn next_with(results: &[u8], code: u16, from: usize, units: usize) -> usize
     requires { ⌜ (resultSize * units ≤ length (now results)) × (from ≤ units) ⌝ }
     ensures { λ r. ⌜ NextWith (now (results .entry)) code from units r ⌝ }
 {

@@ -1,17 +1,21 @@
 -- The loop of a reading, with so many of n records read: none of them has the code, or the first of the worst among them is found, and it
 -- is not Substandard. What it comes to where the reading ends.
 use Prim.Native.Nat.{ℕ, suc, _+_, _≤_, _<_}
-use mathlib.Core.Path.{_≡_, refl, sym, _∙_, ap₂, subst}
+use mathlib.Core.Path.{_≡_, refl, sym, _∙_, ap, ap₂, subst}
+use mathlib.Core.Bool.{Bool, true, false}
 use mathlib.Core.List.{List}
 use native.Mathlib.Numerals.{add-one}
 use native.Mathlib.Omega.{arith}
+use borrow.Author.Tests.{ltb-true, ltb-false}
+use lib.Dec.{ltb}
 use Rattle.units.specs.Words.{substandard}
 use Rattle.results.specs.Record.{codeIn, portionGradeIn}
+use Rattle.codes.specs.OneCode.{NextWith}
 use Rattle.lookup.specs.declared.Reading.{Reading}
 use Rattle.lookup.specs.Records.{gradeIn}
 use Rattle.lookup.specs.Lookup.{firstOfWorst}
 use Rattle.lookup.specs.Reading.{recordsRead}
-use Rattle.lookup.proofs.Worst.{grade-below, grade-from, FirstOf, NoneOf, first-of-worst-is, first-of-none, none-next, first-stays, first-here}
+use Rattle.lookup.proofs.Worst.{grade-below, grade-from, FirstOf, NoneOf, first-of-worst-is, first-of-none, none-behind, first-stays, first-here}
 use Rattle.lookup.proofs.Ends.{FirstSubstandard, first-of-substandard, reads-up-to, reads-all}
 
 -- what a reading answers
@@ -38,22 +42,36 @@ module _ (results : List ℕ) (code n : ℕ) where
     not-past (none-yet end least before) = omega (arith, least)
     not-past (found-yet found next not-yet) = omega (arith, next, not-yet)
 
-    -- ---- one record more
+    -- ---- more records
 
-    -- of another code
-    pub other-code : SoFar first worse read → (codeIn results read ≡ code → ⊥) → SoFar first worse (read + 1)
-    other-code (none-yet end least before) other = rw (add-one read) (none-yet end least (none-next results code before other))
-    other-code (found-yet found next not-yet) other =
-        rw (add-one read) (found-yet (first-stays results code found (λ own. absurd (other own))) next not-yet)
+    -- of other codes
+    other-codes : {next : ℕ} → SoFar first worse read → read ≤ next → ((j : ℕ) → read ≤ j → j < next → codeIn results j ≡ code → ⊥)
+        → SoFar first worse next
+    other-codes (none-yet end least before) behind others = none-yet end least (none-behind results code behind before others)
+    other-codes (found-yet found next not-yet) behind others =
+        found-yet (first-stays results code behind found (λ j from below own. absurd (others j from below own))) next not-yet
 
-    -- no worse than one before it
+    -- of another code, and then those up to the next of the code
+    pub to-next : {next : ℕ} → SoFar first worse read → (codeIn results read ≡ code → ⊥) → NextWith results code (read + 1) n next
+        → SoFar first worse next
+    to-next {next} so-far other found = other-codes so-far (omega (arith, found .from-on)) (λ j from below own. go j from below own (ltb read j) refl)
+      where
+        go : (j : ℕ) → read ≤ j → j < next → codeIn results j ≡ code → (later : Bool) → ltb read j ≡ later → ⊥
+        go j from below own true test = found .none-between j (omega (arith, ltb-true read j test)) below own
+        go j from below own false test =
+            let here : read ≡ j = omega (arith, from, ltb-false read j test) in
+            other (ap (codeIn results) here ∙ own)
+
+    -- one that is no worse than one before it
     pub no-worse : SoFar first worse read → portionGradeIn results read < worse → SoFar first worse (read + 1)
     no-worse (none-yet end least before) less = absurd (omega (arith, least))
     no-worse (found-yet found next not-yet) less =
         let same = grade-below (portionGradeIn results read) (omega (arith, next, not-yet)) in
-        rw (add-one read) (found-yet (first-stays results code found (λ own. omega (arith, next, same))) next not-yet)
+        found-yet
+        (first-stays results code (omega arith) found
+        (λ j from below own. let here : j ≡ read = omega arith in rw here (omega (arith, next, same)))) next not-yet
 
-    -- worse than all before it, and not Substandard
+    -- one that is worse than all before it, and not Substandard
     pub worse-here : SoFar first worse read → codeIn results read ≡ code → worse ≤ portionGradeIn results read
         → portionGradeIn results read < substandard → SoFar read (portionGradeIn results read + 1) (read + 1)
     worse-here so-far own more less =

@@ -113,29 +113,34 @@ module _ (results : List ℕ) (code : ℕ) where
 
   -- ---- record by record
 
-  -- the next is of another code
-  pub none-next : {n : ℕ} → NoneOf n → (codeIn results n ≡ code → ⊥) → NoneOf (suc n)
-  none-next {n} before other = record { none = λ j below own. go j below own (ltb j n) refl }
-    where
-      go : (j : ℕ) → j < suc n → codeIn results j ≡ code → (earlier : Bool) → ltb j n ≡ earlier → ⊥
-      go j below own true test = before .none j (ltb-true j n test) own
-      go j below own false test = let last : n ≡ j = omega (arith, ltb-false j n test) in other (ap (codeIn results) last ∙ own)
+  -- none of the next ones is worse, if it has the code
+  module _ {n m : ℕ} (behind : n ≤ m) where
+    pub none-behind : NoneOf n → ((j : ℕ) → n ≤ j → j < m → codeIn results j ≡ code → ⊥) → NoneOf m
+    none-behind before others = record { none = λ j below own. go j below own (ltb j n) refl }
+      where
+        go : (j : ℕ) → j < m → codeIn results j ≡ code → (earlier : Bool) → ltb j n ≡ earlier → ⊥
+        go j below own true test = before .none j (ltb-true j n test) own
+        go j below own false test = others j (ltb-false j n test) below own
 
-  -- the next is no worse, if it has the code
-  pub first-stays : {n first : ℕ} → FirstOf n first → (codeIn results n ≡ code → gradeIn results n ≤ gradeIn results first) → FirstOf (suc n) first
-  first-stays {n} {first} found no-worse =
-      record {
-        inside = omega (arith, found .inside);
-        has-code = found .has-code;
-        none-worse = λ j below own. go j below own (ltb j n) refl;
-        earlier-better = found .earlier-better;
-      }
-    where
-      go : (j : ℕ) → j < suc n → codeIn results j ≡ code → (earlier : Bool) → ltb j n ≡ earlier → gradeIn results j ≤ gradeIn results first
-      go j below own true test = found .none-worse j (ltb-true j n test) own
-      go j below own false test =
-          let last : n ≡ j = omega (arith, ltb-false j n test) in
-          subst (λ (k : ℕ). gradeIn results k ≤ gradeIn results first) last (no-worse (ap (codeIn results) last ∙ own))
+    pub first-stays : {first : ℕ} → FirstOf n first
+        → ((j : ℕ) → n ≤ j → j < m → codeIn results j ≡ code → gradeIn results j ≤ gradeIn results first) → FirstOf m first
+    first-stays {first} found no-worse =
+        record {
+          inside = omega (arith, found .inside);
+          has-code = found .has-code;
+          none-worse = λ j below own. go j below own (ltb j n) refl;
+          earlier-better = found .earlier-better;
+        }
+      where
+        go : (j : ℕ) → j < m → codeIn results j ≡ code → (earlier : Bool) → ltb j n ≡ earlier → gradeIn results j ≤ gradeIn results first
+        go j below own true test = found .none-worse j (ltb-true j n test) own
+        go j below own false test = no-worse j (ltb-false j n test) below own
+
+  -- the next alone
+  at-next : {n : ℕ} (Holds : ℕ → Type 0) → (codeIn results n ≡ code → Holds n) → (j : ℕ) → n ≤ j → j < suc n → codeIn results j ≡ code → Holds j
+  at-next {n} Holds at j from below own =
+      let same : n ≡ j = omega arith in
+      subst Holds same (at (ap (codeIn results) same ∙ own))
 
   -- the next is worse than all before it
   pub first-here : {n : ℕ} → codeIn results n ≡ code → ((j : ℕ) → j < n → codeIn results j ≡ code → gradeIn results j < gradeIn results n)
@@ -161,16 +166,19 @@ module _ (results : List ℕ) (code : ℕ) where
   search-all zero = none-has-code (record { none = λ j below own. omega arith })
   search-all (suc n) = go (search-all n) (eqb (codeIn results n) code) refl
     where
+      stays : {first : ℕ} → FirstOf n first → (codeIn results n ≡ code → gradeIn results n ≤ gradeIn results first) → FirstOf (suc n) first
+      stays {first} found no-worse = first-stays (omega arith) found (at-next (λ (j : ℕ). gradeIn results j ≤ gradeIn results first) no-worse)
+
       by-grade : (first : ℕ) → FirstOf n first → codeIn results n ≡ code → (more : Bool) → ltb (gradeIn results first) (gradeIn results n) ≡ more
           → Search (suc n)
       by-grade first found own true test =
           let more = ltb-true (gradeIn results first) (gradeIn results n) test in
           first-found n (first-here own (λ j below its. omega (arith, found .none-worse j below its)))
-      by-grade first found own false test = first-found first (first-stays found (λ _. ltb-false (gradeIn results first) (gradeIn results n) test))
+      by-grade first found own false test = first-found first (stays found (λ _. ltb-false (gradeIn results first) (gradeIn results n) test))
 
       go : Search n → (own : Bool) → eqb (codeIn results n) code ≡ own → Search (suc n)
       go (none-has-code has) true test = first-found n (first-here (eqb-true (codeIn results n) code test) (λ j below own. absurd (has .none j below own)))
-      go (none-has-code has) false test = none-has-code (none-next has (eqb-false (codeIn results n) code test))
+      go (none-has-code has) false test = none-has-code (none-behind (omega arith) has (at-next (λ (j : ℕ). ⊥) (eqb-false (codeIn results n) code test)))
       go (first-found first found) true test =
           by-grade first found (eqb-true (codeIn results n) code test) (ltb (gradeIn results first) (gradeIn results n)) refl
-      go (first-found first found) false test = first-found first (first-stays found (λ own. absurd (eqb-false (codeIn results n) code test own)))
+      go (first-found first found) false test = first-found first (stays found (λ own. absurd (eqb-false (codeIn results n) code test own)))

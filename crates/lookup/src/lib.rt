@@ -6,6 +6,7 @@ ghost use Rattle.results.specs.Record.{resultSize};
 ghost use Rattle.lookup.specs.declared.Reading.{Reading};
 ghost use Rattle.lookup.specs.Lookup.{firstOfWorst, lookup, Handed, handed};
 ghost use Rattle.lookup.specs.Reading.{recordsRead};
+use codes::next_with;
 use encoding::holds_at;
 use results::CODE_OFFSET;
 use results::PORTION_GRADE_OFFSET;
@@ -52,6 +53,9 @@ fn read_records(results: &[u8], code: u16, records: usize) -> Reading
                 }
                 next_worse = grade + 1;
             }
+        } else {
+            // Those up to the next record of the code are read, and say nothing of it.
+            read = next_with(results, code, read, records);
         }
     }
     Reading {

@@ -82,9 +82,9 @@ module _ (block at : ℕ) (results : List ℕ) (code : ℕ) where
       let (index, first) = given .only-found is in
       let (_, place, size) = given .found index first in
       let high : byte (back .bytes) 2 ≡ byte results (32 * index + 2) =
-          same-byte 2 (omega (arith, size)) ∙ ap (byte results) (omega (arith, place)) in
+      same-byte 2 (omega (arith, size)) ∙ ap (byte results) (omega (arith, place)) in
       let low : byte (back .bytes) 3 ≡ byte results (32 * index + 3) =
-          same-byte 3 (omega (arith, size)) ∙ ap (byte results) (omega (arith, place)) in
+      same-byte 3 (omega (arith, size)) ∙ ap (byte results) (omega (arith, place)) in
       ap₂ (λ (x y : ℕ). 256 * x + y) high low ∙ first .of-code
 
   part-of : PartOfResults block at results code (lookup results code) back

@@ -73,9 +73,11 @@ module _ (results results' : List ℕ) (code : ℕ) (same-length : length result
   same-grade : (j : ℕ) → j < recordsIn results → gradeIn results j ≡ gradeIn results' j
   same-grade j below =
       let same = alike j (omega (arith, below)) in
-      omega (arith,
+      omega (
+        arith,
         at-most (portionGradeIn results j) (portionGradeIn results' j) (same .no-worse),
-        at-most (portionGradeIn results' j) (portionGradeIn results j) (same .no-better))
+        at-most (portionGradeIn results' j) (portionGradeIn results j) (same .no-better),
+      )
 
   many : recordsIn results' ≡ recordsIn results
   many = omega (arith, same-length)
@@ -109,15 +111,15 @@ module _ (results : List ℕ) (code records : ℕ) (whole : AreRecords results r
       let room : resultSize * suc first ≤ length results = omega (arith, at .inside) in
       let cut = take (resultSize * suc first) results in
       let here : FirstOf results code (suc first) first =
-          record {
-            inside = omega arith;
-            has-code = at .has-code;
-            none-worse = λ j below own. at .none-worse j (omega (arith, below, at .inside)) own;
-            earlier-better = at .earlier-better;
-          } in
+      record {
+        inside = omega arith;
+        has-code = at .has-code;
+        none-worse = λ j below own. at .none-worse j (omega (arith, below, at .inside)) own;
+        earlier-better = at .earlier-better;
+      } in
       let stays =
-          first-stays results cut code (suc first) (λ j below. sym (cut-code results (suc first) room j below))
-          (λ j below. sym (ap gradeOf (cut-portion results (suc first) room j below))) here in
+      first-stays results cut code (suc first) (λ j below. sym (cut-code results (suc first) room j below))
+      (λ j below. sym (ap gradeOf (cut-portion results (suc first) room j below))) here in
       let many = cut-records results (suc first) room in
       found-is cut code (cut-whole results (suc first) room) (ap (firstOfWorst cut code) many ∙ first-of-worst-is cut code stays) (omega (arith, many))
       ∙ sym is
@@ -127,6 +129,7 @@ module _ (results : List ℕ) (code records : ℕ) (whole : AreRecords results r
     where
       many : recordsIn results ≡ records
       many = so-many results records whole
+
       by-grade : (first : ℕ) → FirstOf results code (recordsIn results) first → lookup results code ≡ foundAt first
           → (less : Bool) → ltb (gradeIn results first) substandard ≡ less → AsFull (recordsRead results code records)
       by-grade first at is true test =
@@ -135,15 +138,16 @@ module _ (results : List ℕ) (code records : ℕ) (whole : AreRecords results r
           subst AsFull (sym all) of-all
       by-grade first at is false test =
           let worst : gradeIn results first ≡ substandard =
-              omega (arith, ltb-false (gradeIn results first) substandard test, grade-at-most (portionGradeIn results first)) in
+          omega (arith, ltb-false (gradeIn results first) substandard test, grade-at-most (portionGradeIn results first)) in
           let ends : FirstSubstandard results code records first =
-              record {
-                inside = omega (arith, at .inside, many);
-                has-code = at .has-code;
-                is-substandard = worst;
-                none-before = λ j below own. omega (arith, at .earlier-better j below own, worst);
-              } in
+          record {
+            inside = omega (arith, at .inside, many);
+            has-code = at .has-code;
+            is-substandard = worst;
+            none-before = λ j below own. omega (arith, at .earlier-better j below own, worst);
+          } in
           subst AsFull (sym (reads-up-to ends)) (up-to at is)
+
       go : Case results code → AsFull (recordsRead results code records)
       go (refused rest is) = absurd (rest (no-rest results records whole))
       go (found _ first at is) = by-grade first at is (ltb (gradeIn results first) substandard) refl

@@ -4,7 +4,7 @@ use mathlib.Core.Path.{sym, _∙_}
 use native.Mathlib.Omega.{arith}
 use borrow.Author.Needs.{needs}
 use borrow.Author.Tests.{eqb-true, eqb-false}
-use Rattle.lookup.proofs.SoFar.{SoFar, start, other-code, no-worse, worse-here, ends-here, ends-all}
+use Rattle.lookup.proofs.SoFar.{SoFar, start, to-next, no-worse, worse-here, ends-here, ends-all}
 use Rattle.lookup.proofs.read_records.Statement.{statement}
 use Rattle.lookup.proofs.read_records.Tie as tie
 
@@ -66,13 +66,18 @@ loop-less-2 c = search needs
 loop-again-2 : tie.Need-loop-again-2 Inv-loop μ-loop
 loop-again-2 c = let loop = c .before .before .before .before .before .loop in (search needs, no-worse _ _ _ (loop .inv .1) (c .if2 .left))
 
+next-with-requires : tie.Need-next-with-requires Inv-loop μ-loop
+next-with-requires c κs = search needs
+
 loop-less-3 : tie.Need-loop-less-3 Inv-loop μ-loop
-loop-less-3 c = search needs
+loop-less-3 c = let found = c .next-with .ensures in omega (arith, found .from-on, found .at-most)
 
 loop-again-3 : tie.Need-loop-again-3 Inv-loop μ-loop
 loop-again-3 c =
-    let loop = c .before .before .before .loop in
-    (search needs, other-code _ _ _ (loop .inv .1) (eqb-false _ _ (sym (c .before .holds-at .ensures) ∙ c .if1 .left)))
+    let test = c .before in
+    let loop = test .before .before .before .loop in
+    let found = c .next-with .ensures in
+    (found .at-most, to-next _ _ _ (loop .inv .1) (eqb-false _ _ (sym (test .before .holds-at .ensures) ∙ test .if1 .left)) found)
 
 returns-2 : tie.Need-returns-2 Inv-loop μ-loop
 returns-2 c = let loop = c .before .loop in ends-all _ _ _ (loop .inv .1) (c .loop-test .left) (loop .inv .0)
@@ -97,6 +102,7 @@ read-records-spec =
     loop-again
     loop-less-2
     loop-again-2
+    next-with-requires
     loop-less-3
     loop-again-3
     returns-2)
