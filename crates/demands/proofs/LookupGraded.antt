@@ -1,6 +1,6 @@
 -- A look-up in the result records of a sheet, whoever graded them: records of the results are units of the sheet, one for one in their
 -- order, and no portion grade is above Substandard, so that the worst the code has is its code grade.
-use Prim.Native.Nat.{ℕ, suc, _+_, _*_, _%_, _≤_, _<_}
+use Prim.Native.Nat.{ℕ, suc, _*_, _≤_, _<_}
 use mathlib.Core.Path.{_≡_, refl, sym, _∙_, ap, subst}
 use mathlib.Core.Bool.{Bool, true, false}
 use mathlib.Core.List.{List}
@@ -10,15 +10,15 @@ use lib.Dec.{ltb}
 use lib.ListN.{length}
 use Rattle.encoding.specs.Bytes.{byte}
 use Rattle.units.specs.Words.{substandard, tenthsOf}
-use Rattle.units.proofs.Records.{NumberedUnit, record-of-unit}
+use Rattle.units.proofs.Records.{record-of-unit}
 use Rattle.units.proofs.Bounds.{defect-grade-at-most}
 use Rattle.layout.specs.Layout.{unitsBefore, entryAt, sampleUnitAt, offset}
 use Rattle.layout.proofs.Units.{units-among, units-mono, next-units, unit-mark, entry-unit}
 use Rattle.sheet.proofs.Ranges.{designated-le, prerequisite-le}
-use Rattle.results.specs.Record.{resultSize, codeIn, portionGradeIn, codeGradeIn}
+use Rattle.results.specs.Record.{resultSize, codeIn}
 use Rattle.outcome.specs.declared.Answer.{Answer}
 use Rattle.tally.specs.Outcome.{recordsIn}
-use Rattle.tally.specs.Accepted.{AcceptedAs, UnitAt, recordedPortionGrade, recordedCodeGrade}
+use Rattle.tally.specs.Accepted.{AcceptedAs, UnitAt, recordedPortionGrade}
 use Rattle.tally.proofs.AcceptedSheet.{accepted-sheet}
 use Rattle.courses.specs.Demand2.{recordedCode, codeOf, WorstOfCode}
 use Rattle.courses.proofs.Recorded.{recorded-portion-le}
@@ -80,12 +80,12 @@ module _ (bytes results : List ℕ) (units : ℕ) (counted : units ≡ unitsBefo
   its-code : (i : ℕ) → UnitAt bytes i → codeIn records (unitsBefore bytes i) ≡ codeOf bytes i
   its-code i at = cut-code results units room (unitsBefore bytes i) (inside-records i at) ∙ code-is i at
 
-  many : look.recordsIn records ≡ units
+  many : look.resultRecords records ≡ units
   many = cut-records results units room
 
   module _ (code : ℕ) where
     -- the record found is that of this unit
-    found-unit : (i : ℕ) → UnitAt bytes i → FirstOf records code (look.recordsIn records) (unitsBefore bytes i)
+    found-unit : (i : ℕ) → UnitAt bytes i → FirstOf records code (look.resultRecords records) (unitsBefore bytes i)
         → UnitFound bytes results code (foundAt (unitsBefore bytes i))
     found-unit i at is =
         let own : codeOf bytes i ≡ code = sym (its-code i at) ∙ is .has-code in
@@ -105,11 +105,11 @@ module _ (bytes results : List ℕ) (units : ℕ) (counted : units ≡ unitsBefo
               omega (arith, is .earlier-better (unitsBefore bytes j) earlier (its-code j there ∙ same), grade-in j there, grade-in i at);
         }
 
-    of-found : (first : ℕ) → FirstOf records code (look.recordsIn records) first → LookupInSheet bytes results code (foundAt first)
+    of-found : (first : ℕ) → FirstOf records code (look.resultRecords records) first → LookupInSheet bytes results code (foundAt first)
     of-found first is =
         let there = numbered first (omega (arith, many, is .inside)) in
         let i = there .index in
-        let is-unit = found-unit i (there .unit) (subst (FirstOf records code (look.recordsIn records)) (sym (there .number)) is) in
+        let is-unit = found-unit i (there .unit) (subst (FirstOf records code (look.resultRecords records)) (sym (there .number)) is) in
         subst (λ (place : ℕ). LookupInSheet bytes results code (foundAt place)) (there .number)
         (record {
           never-refused = λ e. absurd (omega (arith, e));
@@ -117,7 +117,7 @@ module _ (bytes results : List ℕ) (units : ℕ) (counted : units ≡ unitsBefo
           not-there = ((λ e. absurd (omega (arith, e))), λ no-unit. absurd (no-unit (is-unit .index) (is-unit .unit) (is-unit .of-code)));
         })
 
-    of-none : NoneOf records code (look.recordsIn records) → LookupInSheet bytes results code notOnThisSheet
+    of-none : NoneOf records code (look.resultRecords records) → LookupInSheet bytes results code notOnThisSheet
     of-none has =
         record {
           never-refused = λ e. absurd (omega (arith, e));

@@ -10,7 +10,7 @@ use lib.ListN.{length, take, drop}
 use Rattle.units.specs.Conditions.{pick}
 use Rattle.results.specs.Record.{resultSize}
 use Rattle.lookup.specs.declared.Part.{Part}
-use Rattle.lookup.specs.Records.{notRecords, recordsIn}
+use Rattle.lookup.specs.Records.{notRecords, resultRecords}
 use Rattle.lookup.specs.Lookup.{foundAt, notOnThisSheet, refusedResults, firstOfWorst, lookup, Handed, handedAs}
 use Rattle.lookup.proofs.Worst.{FirstOf, NoneOf, first-of-worst-is, first-of-none, Search, none-has-code, first-found, search-all}
 
@@ -21,32 +21,32 @@ module _ (results : List ℕ) (code : ℕ) where
   refused-is rest = rw (ne-eqb (length results % resultSize) 0 rest)
 
   -- there is none, and a record is found
-  pub found-is : {first : ℕ} → length results % resultSize ≡ 0 → firstOfWorst results code (recordsIn results) ≡ first → first < recordsIn results
+  pub found-is : {first : ℕ} → length results % resultSize ≡ 0 → firstOfWorst results code (resultRecords results) ≡ first → first < resultRecords results
       → lookup results code ≡ foundAt first
   unfolding lookup notRecords pick
-  found-is {first} whole same inside = rw (eq-eqb (length results % resultSize) 0 whole, same, lt-ltb first (recordsIn results) inside)
+  found-is {first} whole same inside = rw (eq-eqb (length results % resultSize) 0 whole, same, lt-ltb first (resultRecords results) inside)
 
   -- or not
-  pub none-is : {first : ℕ} → length results % resultSize ≡ 0 → firstOfWorst results code (recordsIn results) ≡ first → recordsIn results ≤ first
+  pub none-is : {first : ℕ} → length results % resultSize ≡ 0 → firstOfWorst results code (resultRecords results) ≡ first → resultRecords results ≤ first
       → lookup results code ≡ notOnThisSheet
   unfolding lookup notRecords pick
-  none-is {first} whole same behind = rw (eq-eqb (length results % resultSize) 0 whole, same, le-ltb first (recordsIn results) behind)
+  none-is {first} whole same behind = rw (eq-eqb (length results % resultSize) 0 whole, same, le-ltb first (resultRecords results) behind)
 
   -- one of these it is
   pub data Case : Type 0 where
     refused : (length results % resultSize ≡ 0 → ⊥) → lookup results code ≡ refusedResults → Case
-    found : length results % resultSize ≡ 0 → (first : ℕ) → FirstOf results code (recordsIn results) first → lookup results code ≡ foundAt first → Case
-    none : length results % resultSize ≡ 0 → NoneOf results code (recordsIn results) → lookup results code ≡ notOnThisSheet → Case
+    found : length results % resultSize ≡ 0 → (first : ℕ) → FirstOf results code (resultRecords results) first → lookup results code ≡ foundAt first → Case
+    none : length results % resultSize ≡ 0 → NoneOf results code (resultRecords results) → lookup results code ≡ notOnThisSheet → Case
 
   pub case-of : Case
   case-of = by-rest (eqb (length results % resultSize) 0) refl
     where
-      by-search : length results % resultSize ≡ 0 → Search results code (recordsIn results) → Case
+      by-search : length results % resultSize ≡ 0 → Search results code (resultRecords results) → Case
       by-search whole (first-found first is) = found whole first is (found-is whole (first-of-worst-is results code is) (is .inside))
       by-search whole (none-has-code is) = none whole is (none-is whole (first-of-none results code is) (omega arith))
 
       by-rest : (whole : Bool) → eqb (length results % resultSize) 0 ≡ whole → Case
-      by-rest true test = by-search (eqb-true (length results % resultSize) 0 test) (search-all results code (recordsIn results))
+      by-rest true test = by-search (eqb-true (length results % resultSize) 0 test) (search-all results code (resultRecords results))
       by-rest false test = let rest = eqb-false (length results % resultSize) 0 test in refused rest (refused-is rest)
 
 -- ---- the part

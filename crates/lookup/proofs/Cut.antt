@@ -7,7 +7,7 @@ use lib.ListN.{length, take, length-take}
 use lib.Seq.{getD-take}
 use Rattle.encoding.specs.Bytes.{byte}
 use Rattle.results.specs.Record.{resultSize, codeOffset, portionGradeOffset, codeIn, portionGradeIn}
-use Rattle.lookup.specs.Records.{recordsIn}
+use Rattle.lookup.specs.Records.{resultRecords}
 
 module _ (results : List ℕ) (n : ℕ) (room : resultSize * n ≤ length results) where
   abbrev cut : List ℕ
@@ -19,7 +19,7 @@ module _ (results : List ℕ) (n : ℕ) (room : resultSize * n ≤ length result
   pub cut-whole : length (take (resultSize * n) results) % resultSize ≡ 0
   cut-whole = omega (arith, cut-length)
 
-  pub cut-records : recordsIn (take (resultSize * n) results) ≡ n
+  pub cut-records : resultRecords (take (resultSize * n) results) ≡ n
   cut-records = omega (arith, cut-length)
 
   same-byte : (at : ℕ) → at < resultSize * n → byte cut at ≡ byte results at

@@ -1,11 +1,10 @@
 -- Where a reading ends: at the first Substandard portion of the code, which is then the first of the worst, else with the last record.
 -- By the laws of `firstThat`: no record before it has the code and this grade.
-use Prim.Native.Nat.{ℕ, suc, _≤_, _<_}
+use Prim.Native.Nat.{ℕ, suc, _<_}
 use mathlib.Core.Path.{_≡_}
 use mathlib.Core.List.{List}
 use native.Mathlib.Omega.{arith}
 use borrow.Author.Tests.{lt-ltb, le-ltb}
-use lib.Dec.{ltb}
 use Rattle.units.specs.Words.{substandard}
 use Rattle.results.specs.Record.{codeIn, portionGradeIn}
 use Rattle.lookup.specs.Records.{gradeIn, firstThat, hasGrade}

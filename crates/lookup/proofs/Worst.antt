@@ -3,7 +3,7 @@
 -- is that of this record, and record by record there is one or none has the code.
 use Prim.Native.Nat.{ℕ, zero, suc, _≤_, _<_}
 use mathlib.Core.Path.{_≡_, refl, _∙_, ap, subst}
-use mathlib.Core.Bool.{Bool, true, false, cond, _&&_}
+use mathlib.Core.Bool.{Bool, true, false, cond}
 use mathlib.Core.List.{List}
 use native.Mathlib.Omega.{arith}
 use borrow.Author.Tests.{ltb-true, ltb-false, lt-ltb, le-ltb, eqb-true, eqb-false, eq-eqb}
@@ -11,7 +11,7 @@ use lib.Dec.{ltb, eqb}
 use Rattle.units.specs.Words.{substandard, worse}
 use Rattle.units.proofs.Tests.{and-both}
 use Rattle.results.specs.Record.{codeIn}
-use Rattle.lookup.specs.Records.{gradeOf, gradeIn, firstThat, hasCode, worstGrade, hasGrade}
+use Rattle.lookup.specs.Records.{gradeOf, gradeIn, hasCode, worstGrade, hasGrade}
 use Rattle.lookup.specs.Lookup.{firstOfWorst}
 use Rattle.lookup.proofs.First.{first-is}
 

@@ -7,7 +7,7 @@ use lib.ListN.{take, drop}
 use Rattle.units.specs.Conditions.{pick}
 use Rattle.results.specs.Record.{resultSize}
 use Rattle.lookup.specs.declared.Part.{Part}
-use Rattle.lookup.specs.Records.{notRecords, recordsIn, firstThat, worstGrade, hasGrade}
+use Rattle.lookup.specs.Records.{notRecords, resultRecords, firstThat, worstGrade, hasGrade}
 
 -- ---- the number, and the place of the part in the results
 
@@ -32,7 +32,7 @@ firstOfWorst results code records = firstThat (hasGrade results code (worstGrade
 -- 19 "before reading"; then the record, or 'not on this sheet'
 unfoldable pub lookup : List ℕ → ℕ → Part
 lookup results code =
-    let records = recordsIn results in
+    let records = resultRecords results in
     let first = firstOfWorst results code records in
     pick (notRecords results) refusedResults (pick (ltb first records) (foundAt first) notOnThisSheet)
 

@@ -13,8 +13,8 @@ unfoldable pub notRecords : List ℕ → Bool
 notRecords results = not (eqb (length results % resultSize) 0)
 
 -- how many records there are
-abbrev pub recordsIn : List ℕ → ℕ
-recordsIn results = length results / resultSize
+abbrev pub resultRecords : List ℕ → ℕ
+resultRecords results = length results / resultSize
 
 -- "A grade byte of 3 or more is Substandard."
 unfoldable pub gradeOf : ℕ → ℕ

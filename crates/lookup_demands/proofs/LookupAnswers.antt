@@ -1,17 +1,16 @@
 -- The answer of a look-up, by its case: what refuses one case of the answer is the first of the worst portions, or its absence, in the
 -- other. There is one first of the worst, as `firstOfWorst` gives it.
-use Prim.Native.Nat.{ℕ, _+_, _*_, _%_, _≤_, _<_}
+use Prim.Native.Nat.{ℕ, _+_, _*_, _%_, _<_}
 use mathlib.Core.Path.{_≡_, refl, sym, _∙_, ap, ap₂, subst}
 use mathlib.Core.List.{List}
 use mathlib.Core.Logic.{inl, inr}
 use native.Mathlib.Omega.{arith}
-use lib.ListN.{length, take, drop, length-take, length-drop}
+use lib.ListN.{length, length-take, length-drop}
 use lib.Seq.{getD-drop, getD-take}
 use Rattle.encoding.specs.Bytes.{byte}
 use Rattle.results.specs.Record.{resultSize}
-use Rattle.lookup.specs.declared.Part.{Part}
-use Rattle.lookup.specs.Records.{recordsIn}
-use Rattle.lookup.specs.Lookup.{foundAt, notOnThisSheet, refusedResults, firstOfWorst, lookup, Handed, handedAs, handed}
+use Rattle.lookup.specs.Records.{resultRecords}
+use Rattle.lookup.specs.Lookup.{foundAt, notOnThisSheet, refusedResults, lookup, Handed, handedAs}
 use Rattle.lookup.proofs.Worst.{FirstOf, NoneOf, first-of-worst-is}
 use Rattle.lookup.proofs.Cases.{Case, refused, found, none, case-of, part-inside}
 use Rattle.lookup_demands.specs.LookupAnswers.{codeAt, FirstOfWorst, LookupAnswered, PartOfResults, LookupAnswers}
@@ -31,11 +30,11 @@ module _ (results : List ℕ) (code : ℕ) where
       }
 
   -- a record is the first of the worst
-  of-found : (first : ℕ) → length results % resultSize ≡ 0 → FirstOf results code (recordsIn results) first → LookupAnswered results code (foundAt first)
+  of-found : (first : ℕ) → length results % resultSize ≡ 0 → FirstOf results code (resultRecords results) first → LookupAnswered results code (foundAt first)
   of-found first whole at =
       record {
         listed = inl refl;
-        refused = ((λ is. absurd (omega (arith, is))), λ not-records. absurd (not-records (recordsIn results) (are-records results whole)));
+        refused = ((λ is. absurd (omega (arith, is))), λ not-records. absurd (not-records (resultRecords results) (are-records results whole)));
         not-there = ((λ is. absurd (omega (arith, is))), λ has. absurd (by-place-none has .none first (at .inside) (at .has-code)));
         found = λ index is. (refl, ap (λ (place : ℕ). resultSize * place) (only index is), refl);
         only-found = λ _. (first, first-by-place whole at);
@@ -46,11 +45,11 @@ module _ (results : List ℕ) (code : ℕ) where
       only index is = sym (first-of-worst-is results code at) ∙ first-of-worst-is results code (by-place-first is)
 
   -- no record has the code
-  of-none : length results % resultSize ≡ 0 → NoneOf results code (recordsIn results) → LookupAnswered results code notOnThisSheet
+  of-none : length results % resultSize ≡ 0 → NoneOf results code (resultRecords results) → LookupAnswered results code notOnThisSheet
   of-none whole has =
       record {
         listed = inr (inl refl);
-        refused = ((λ is. absurd (omega (arith, is))), λ not-records. absurd (not-records (recordsIn results) (are-records results whole)));
+        refused = ((λ is. absurd (omega (arith, is))), λ not-records. absurd (not-records (resultRecords results) (are-records results whole)));
         not-there = ((λ _. none-by-place whole has), λ _. refl);
         found = λ index is. let at = by-place-first is in absurd (has .none index (at .inside) (at .has-code));
         only-found = λ is. absurd (omega (arith, is));

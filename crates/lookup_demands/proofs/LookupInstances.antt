@@ -1,15 +1,13 @@
 -- The instances, each from its theorem; what a theorem asks of three records is told record by record.
-use Prim.Native.Nat.{ℕ, zero, suc, _+_, _*_, _<_, _≤_}
-use mathlib.Core.Path.{_≡_, refl, sym, _∙_, subst}
-use mathlib.Core.List.{List}
+use Prim.Native.Nat.{ℕ, zero, suc, _*_, _<_}
+use mathlib.Core.Path.{_≡_, refl, subst}
 use mathlib.Core.Logic.{inl, inr}
 use native.Mathlib.Omega.{arith}
-use lib.Dec.{lit<}
 use lib.ListN.{take}
 use Rattle.lookup.specs.declared.Part.{Part}
-use Rattle.lookup.specs.Lookup.{lookup, Handed, handed}
-use Rattle.lookup_demands.specs.LookupAnswers.{codeAt, gradeByteAt, Better, FirstOfWorst, NotThere, PartOfResults}
-use Rattle.lookup_demands.specs.LookupReading.{NoSubstandardBefore, SameCodeAndGrade}
+use Rattle.lookup.specs.Lookup.{lookup}
+use Rattle.lookup_demands.specs.LookupAnswers.{codeAt, gradeByteAt, FirstOfWorst, PartOfResults}
+use Rattle.lookup_demands.specs.LookupReading.{SameCodeAndGrade}
 use Rattle.lookup_demands.specs.LookupSheets.{byte3BetweenTwoOfC, notThere, oneByteMore}
 use Rattle.lookup_demands.specs.LookupInstances.{otherBytes, LookupInstances}
 use Rattle.lookup_demands.proofs.LookupAnswers.{lookup-answers}

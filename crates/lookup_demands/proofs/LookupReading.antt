@@ -1,6 +1,6 @@
 -- How far a reading goes, from the laws of its end; that the records that are read have the first of the worst portions among them; and what
 -- an answer goes by: the first of the worst stays the first in other results that have the same codes and portion grades.
-use Prim.Native.Nat.{ℕ, suc, _+_, _*_, _%_, _≤_, _<_}
+use Prim.Native.Nat.{ℕ, suc, _+_, _*_, _≤_, _<_}
 use mathlib.Core.Path.{_≡_, refl, sym, _∙_, ap, subst}
 use mathlib.Core.Bool.{Bool, true, false}
 use mathlib.Core.List.{List}
@@ -11,7 +11,7 @@ use lib.ListN.{length, take}
 use lib.Seq.{take-all}
 use Rattle.units.specs.Words.{substandard}
 use Rattle.results.specs.Record.{resultSize, codeIn, portionGradeIn}
-use Rattle.lookup.specs.Records.{recordsIn, gradeIn, gradeOf}
+use Rattle.lookup.specs.Records.{resultRecords, gradeIn, gradeOf}
 use Rattle.lookup.specs.Lookup.{foundAt, firstOfWorst, lookup}
 use Rattle.lookup.specs.Reading.{recordsRead}
 use Rattle.lookup.proofs.Worst.{grade-below, grade-from, grade-at-most, FirstOf, NoneOf, first-of-worst-is, first-of-none}
@@ -67,10 +67,10 @@ module _ (results results' : List ℕ) (code n : ℕ)
 
 module _ (results results' : List ℕ) (code : ℕ) (same-length : length results ≡ length results')
     (alike : (j : ℕ) → 32 * j + 32 ≤ length results → SameCodeAndGrade results results' j) where
-  same-code : (j : ℕ) → j < recordsIn results → codeIn results j ≡ codeIn results' j
+  same-code : (j : ℕ) → j < resultRecords results → codeIn results j ≡ codeIn results' j
   same-code j below = code-in results j (alike j (omega (arith, below)) .same-code ∙ code-at results' j refl)
 
-  same-grade : (j : ℕ) → j < recordsIn results → gradeIn results j ≡ gradeIn results' j
+  same-grade : (j : ℕ) → j < resultRecords results → gradeIn results j ≡ gradeIn results' j
   same-grade j below =
       let same = alike j (omega (arith, below)) in
       omega (
@@ -79,7 +79,7 @@ module _ (results results' : List ℕ) (code : ℕ) (same-length : length result
         at-most (portionGradeIn results' j) (portionGradeIn results j) (same .no-better),
       )
 
-  many : recordsIn results' ≡ recordsIn results
+  many : resultRecords results' ≡ resultRecords results
   many = omega (arith, same-length)
 
   looked-at : lookup results code ≡ lookup results' code
@@ -88,11 +88,11 @@ module _ (results results' : List ℕ) (code : ℕ) (same-length : length result
       go : Case results code → lookup results code ≡ lookup results' code
       go (refused rest is) = is ∙ sym (refused-is results' code (λ whole. rest (omega (arith, same-length, whole))))
       go (found whole first at is) =
-          let stays = first-stays results results' code (recordsIn results) same-code same-grade at in
+          let stays = first-stays results results' code (resultRecords results) same-code same-grade at in
           is ∙ sym (found-is results' code (omega (arith, same-length, whole)) (ap (firstOfWorst results' code) many ∙ first-of-worst-is results' code stays)
           (omega (arith, many, at .inside)))
       go (none whole has is) =
-          let stays = none-stays results results' code (recordsIn results) same-code same-grade has in
+          let stays = none-stays results results' code (resultRecords results) same-code same-grade has in
           is ∙ sym (none-is results' code (omega (arith, same-length, whole)) (ap (firstOfWorst results' code) many ∙ first-of-none results' code stays)
           (omega (arith, many)))
 
@@ -106,7 +106,7 @@ module _ (results : List ℕ) (code records : ℕ) (whole : AreRecords results r
   of-all = ap (λ (bytes : List ℕ). lookup bytes code) (take-all (32 * records) results (omega (arith, whole)))
 
   -- up to the first of the worst, which is the first of the worst there, too
-  up-to : {first : ℕ} → FirstOf results code (recordsIn results) first → lookup results code ≡ foundAt first → AsFull (suc first)
+  up-to : {first : ℕ} → FirstOf results code (resultRecords results) first → lookup results code ≡ foundAt first → AsFull (suc first)
   up-to {first} at is =
       let room : resultSize * suc first ≤ length results = omega (arith, at .inside) in
       let cut = take (resultSize * suc first) results in
@@ -127,10 +127,10 @@ module _ (results : List ℕ) (code records : ℕ) (whole : AreRecords results r
   as-full : AsFull (recordsRead results code records)
   as-full = go (case-of results code)
     where
-      many : recordsIn results ≡ records
+      many : resultRecords results ≡ records
       many = so-many results records whole
 
-      by-grade : (first : ℕ) → FirstOf results code (recordsIn results) first → lookup results code ≡ foundAt first
+      by-grade : (first : ℕ) → FirstOf results code (resultRecords results) first → lookup results code ≡ foundAt first
           → (less : Bool) → ltb (gradeIn results first) substandard ≡ less → AsFull (recordsRead results code records)
       by-grade first at is true test =
           let less = ltb-true (gradeIn results first) substandard test in

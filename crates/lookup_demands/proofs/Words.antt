@@ -10,7 +10,7 @@ use lib.Dec.{ltb}
 use lib.ListN.{length}
 use Rattle.encoding.specs.Bytes.{byte}
 use Rattle.results.specs.Record.{resultSize, codeIn}
-use Rattle.lookup.specs.Records.{recordsIn, gradeOf}
+use Rattle.lookup.specs.Records.{resultRecords, gradeOf}
 use Rattle.lookup.proofs.Worst.{grade-below, grade-from, grade-at-most, FirstOf, NoneOf}
 use Rattle.lookup_demands.specs.LookupAnswers.{AreRecords, codeAt, gradeByteAt, NoWorse, Better, NotThere, FirstOfWorst}
 
@@ -20,10 +20,10 @@ module _ (results : List ℕ) where
   pub no-rest : (records : ℕ) → AreRecords results records → length results % resultSize ≡ 0
   no-rest records whole = omega arith
 
-  pub so-many : (records : ℕ) → AreRecords results records → recordsIn results ≡ records
+  pub so-many : (records : ℕ) → AreRecords results records → resultRecords results ≡ records
   so-many records whole = omega arith
 
-  pub are-records : length results % resultSize ≡ 0 → AreRecords results (recordsIn results)
+  pub are-records : length results % resultSize ≡ 0 → AreRecords results (resultRecords results)
   are-records whole = omega arith
 
 -- ---- grades of bytes
@@ -98,10 +98,10 @@ module _ (results : List ℕ) where
 -- ---- the first of the worst portions, and that there is none
 
 module _ {results : List ℕ} {code : ℕ} where
-  pub first-by-place : {first : ℕ} → length results % resultSize ≡ 0 → FirstOf results code (recordsIn results) first → FirstOfWorst results code first
+  pub first-by-place : {first : ℕ} → length results % resultSize ≡ 0 → FirstOf results code (resultRecords results) first → FirstOfWorst results code first
   first-by-place {first} whole found =
       record {
-        records = recordsIn results;
+        records = resultRecords results;
         whole = are-records results whole;
         inside = found .inside;
         of-code = code-at results first (found .has-code);
@@ -111,7 +111,7 @@ module _ {results : List ℕ} {code : ℕ} where
             better (gradeByteAt results j) (gradeByteAt results first) (found .earlier-better j below (code-in results j own));
       }
 
-  pub by-place-first : {first : ℕ} → FirstOfWorst results code first → FirstOf results code (recordsIn results) first
+  pub by-place-first : {first : ℕ} → FirstOfWorst results code first → FirstOf results code (resultRecords results) first
   by-place-first {first} found =
       let same = so-many results (found .records) (found .whole) in
       record {
@@ -123,15 +123,15 @@ module _ {results : List ℕ} {code : ℕ} where
             less-than (gradeByteAt results j) (gradeByteAt results first) (found .first j below (code-at results j own));
       }
 
-  pub none-by-place : length results % resultSize ≡ 0 → NoneOf results code (recordsIn results) → NotThere results code
+  pub none-by-place : length results % resultSize ≡ 0 → NoneOf results code (resultRecords results) → NotThere results code
   none-by-place whole has =
       record {
-        records = recordsIn results;
+        records = resultRecords results;
         whole = are-records results whole;
         no-record = λ j below own. has .none j below (code-in results j own);
       }
 
-  pub by-place-none : NotThere results code → NoneOf results code (recordsIn results)
+  pub by-place-none : NotThere results code → NoneOf results code (resultRecords results)
   by-place-none has =
       let same = so-many results (has .records) (has .whole) in
       record { none = λ j below own. has .no-record j (omega (arith, same, below)) (code-at results j own) }
