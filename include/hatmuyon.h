@@ -127,7 +127,7 @@ enum hatmuyon_standing {
  *   - Reading ends at the first Substandard portion of the code; the answer is that of a full reading.
  *   - A code is not on this sheet exactly if no record has it.
  *
- * The result records of a mold sheet, below, have no code, and nothing is looked up in them.
+ * The result records of a mold sheet, below, have no code: do not look codes up in them.
  */
 
 /*

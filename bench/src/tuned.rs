@@ -550,7 +550,7 @@ pub fn grade_mold(sheet: &[u8], results: &mut [u8]) -> Answer {
     answer(sheet, grade_mold_units(sheet, results))
 }
 
-/// So many records are looked at without a loop over them, which made a look-up faster.
+/// So many records are looked at in a loop of fixed length, which made a look-up faster.
 const BLOCK: usize = 8;
 
 /// What a look-up has found so far.

@@ -1,6 +1,6 @@
 /*
- * How far hatmuyon_find_code reads. The results lie in memory that cannot be written and end right
- * before memory that cannot be read, so that a byte too many ends the program. The first thing that
+ * How far hatmuyon_find_code reads. The results end right before memory that cannot be read, so that a
+ * byte too many ends the program, and at last lie in memory that cannot be written. The first thing that
  * is not as it should be is printed, and the exit status is 1.
  */
 #define _DEFAULT_SOURCE
@@ -35,9 +35,37 @@ static void put(uint8_t *record, uint16_t code, uint8_t portion_grade)
     record[HATMUYON_RESULT_PORTION_GRADE] = portion_grade;
 }
 
+enum { RESULT = HATMUYON_RESULT_SIZE, RECORDS = 4, RESULTS = RECORDS * RESULT };
+
+/* What stands before the record where the reading ends: other codes alone, the code alone, each by
+ * turns, and the code in every ninth record. */
+enum { PATTERNS = 4, PLACES = 64 };
+
+static uint16_t code_before(int pattern, size_t record)
+{
+    int has = pattern == 1 || (pattern == 2 && record % 2 == 0) || (pattern == 3 && record % 9 == 0);
+
+    return has ? 7 : 8;
+}
+
+/* The first Substandard portion of the code stands at every place of several blocks of eight records,
+ * right before memory that cannot be read, of which the results are said to have a page more. */
+static void ends_at_every_place(uint8_t *end, size_t page)
+{
+    for (int pattern = 0; pattern < PATTERNS; pattern++)
+        for (size_t place = 0; place < PLACES; place++) {
+            uint8_t *results = end - (place + 1) * RESULT;
+
+            for (size_t record = 0; record < place; record++)
+                put(results + record * RESULT, code_before(pattern, record), HATMUYON_GRADE_C);
+            put(results + place * RESULT, 7, 200);
+            MUST(is(hatmuyon_find_code(results, (place + 1) * RESULT + page, 7), HATMUYON_FOUND,
+                    place * RESULT, RESULT));
+        }
+}
+
 int main(void)
 {
-    enum { RESULT = HATMUYON_RESULT_SIZE, RECORDS = 4, RESULTS = RECORDS * RESULT };
     size_t page = (size_t)sysconf(_SC_PAGESIZE);
     uint8_t *pages = (uint8_t *)mmap(NULL, 2 * page, PROT_READ | PROT_WRITE,
                                      MAP_PRIVATE | MAP_ANONYMOUS, -1, 0);
@@ -45,13 +73,15 @@ int main(void)
 
     MUST(pages != MAP_FAILED);
     end = pages + page;
+    MUST(mprotect(end, page, PROT_NONE) == 0);
+    ends_at_every_place(end, page);
+
     results = end - RESULTS;
     put(results, 7, HATMUYON_GRADE_A);
     put(results + RESULT, 8, HATMUYON_GRADE_SUBSTANDARD);
     put(results + 2 * RESULT, 7, HATMUYON_GRADE_C);
     put(results + 3 * RESULT, 9, 200);
     MUST(mprotect(pages, page, PROT_READ) == 0);
-    MUST(mprotect(end, page, PROT_NONE) == 0);
 
     /* To the last byte, and not beyond. */
     MUST(is(hatmuyon_find_code(results, RESULTS, 7), HATMUYON_FOUND, 2 * RESULT, RESULT));

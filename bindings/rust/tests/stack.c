@@ -1,7 +1,7 @@
 /*
  * Prints the bytes of stack that each function takes, hatmuyon_grade, hatmuyon_grade_mold,
- * hatmuyon_regrade under the plan named and then hatmuyon_find_code in the results of that, for each
- * sheet named: stack PLANFILE FILE...
+ * hatmuyon_regrade under the plan named and then hatmuyon_find_code in the result buffer of that, for
+ * each sheet named: stack PLANFILE FILE...
  *
  * A thread paints the unused part of its stack, calls, and looks how far down the paint is gone. It
  * counts from its own frame, so that the figure is that of the function and a little more.

@@ -7,6 +7,7 @@ use Rattle.regrade.proofs.regrade.Met as regrade
 use Rattle.hatmuyon.proofs.hatmuyon_regrade.Met as hatmuyon_regrade
 use Rattle.lookup.proofs.find.Met as find
 use Rattle.lookup.proofs.find_place.Met as find_place
+use Rattle.lookup.proofs.read_records.Met as read_records
 use Rattle.hatmuyon.proofs.hatmuyon_find_code.Met as hatmuyon_find_code
 use Rattle.lines.proofs.print_into.Met as print_into
 use Rattle.mold_lines.proofs.print_mold_into.Met as print_mold_into
@@ -39,6 +40,7 @@ demands =
       promise-of-hatmuyon-regrade = hatmuyon_regrade.met;
       promise-of-find = find.met;
       promise-of-find-place = find_place.met;
+      promise-of-read-records = read_records.met;
       promise-of-hatmuyon-find-code = hatmuyon_find_code.met;
       promise-of-print-into = print_into.met;
       promise-of-print-mold-into = print_mold_into.met;

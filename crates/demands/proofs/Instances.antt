@@ -1,7 +1,7 @@
 -- Each demand on its concrete sheets, from the demand's theorem. Only its premises are computed: which answer a sheet gets, which records
 -- are units, of which standing and with which code, that a plan is in force, where two units in a row fail.
 use Prim.Native.Nat.{ℕ, _*_, _≤_}
-use mathlib.Core.Path.{_≡_, refl, sym}
+use mathlib.Core.Path.{_≡_, refl, sym, _∙_, ap}
 use mathlib.Core.Bool.{true, false}
 use mathlib.Core.List.{List, [], _∷_}
 use native.Mathlib.Omega.{arith}
@@ -18,10 +18,13 @@ use Rattle.lookup.specs.declared.Part.{Part}
 use Rattle.lookup.specs.Lookup.{lookup}
 use Rattle.lookup.proofs.Computing as lookup
 use Rattle.demands.specs.Demand3.{NeverWorse}
-use Rattle.demands.specs.LookupGraded.{LookupInSheet}
+use Rattle.demands.specs.LookupGraded.{unitRecords, LookupInSheet}
+use Rattle.regrade_demands.specs.RegradeSheets.{recordedPlan, buyerB, twoFailuresBeforeRedesignation, twoFailuresBeforeRedesignationResults}
+use Rattle.regrade_demands.specs.RegradeInstances.{moreLeft}
+use Rattle.regrade_demands.proofs.RegradeInstances.{fourAccepted, more-accepted}
 use Rattle.computed.specs.WorkedCases.{peachPlan, peachUnits, peach, peachResults}
 use Rattle.computed.specs.FurtherSheets.{breakBetweenFailures, breakBetweenFailuresResults, everyKindOfRecord, everyKindOfRecordResults, everyLowerPlan, everyLowerPlanResults, oneMinorDefectFewer, oneMinorDefectFewerResults, oneSevereDefectFewer, oneSevereDefectFewerResults, rawValueAtLimit, rawValueAtLimitResults, noDefectInPlaceOfOne, noDefectInPlaceOfOneResults}
-use Rattle.demands.specs.Instances.{left, peachLeft, everyKindLeft, lowerPlansLeft, peachStandings, everyKindStandings, peachPlanned, lowerPlansPlanned, everyKindPlanned, standingByte, CourseInstance, LowerPlansInstance, CodeInstance, LargestInstance, LargestNumber, FewerInstance, FewerTwiceInstance, FewerMeetsInstance, Instances}
+use Rattle.demands.specs.Instances.{left, peachLeft, everyKindLeft, lowerPlansLeft, peachStandings, everyKindStandings, peachPlanned, lowerPlansPlanned, everyKindPlanned, standingByte, CourseInstance, LowerPlansInstance, CodeInstance, LargestInstance, LargestNumber, FewerInstance, FewerTwiceInstance, FewerMeetsInstance, LookupInstance, Instances}
 use Rattle.demands.proofs.Computing.{computing}
 use Rattle.answers.proofs.AnswerInstances.{answer-instances}
 use Rattle.computed.proofs.WorkedCases.{worked-cases}
@@ -79,19 +82,42 @@ code-met-again buffer holds =
 
 -- ---- look-ups
 
-peach-looked-up : (buffer : List ℕ) → resultSize * 7 ≤ length buffer → (code : ℕ) (part : Part) → part ≡ lookup peachResults code
-    → LookupInSheet peach (peachLeft buffer) code part
-unfolding computing peachPlan peachUnits peach peachResults
-peach-looked-up buffer holds code part given =
-    lookup-graded .in-grading peach buffer peachAnswer (peachLeft buffer) (peach-accepted buffer holds) (all-bytes peach refl) code part given
+-- a look-up in the records of so many units, by what it answers in the results that stand first in the buffer
+module _ (bytes results buffer : List ℕ) (units : ℕ) (first : unitRecords (left results units buffer) units ≡ results)
+    (in-sheet : (code : ℕ) (part : Part) → part ≡ lookup (unitRecords (left results units buffer) units) code
+    → LookupInSheet bytes (left results units buffer) code part) where
+  looked-up : (code : ℕ) (answer : Part) → lookup results code ≡ answer → (part : Part) → part ≡ lookup (unitRecords (left results units buffer) units) code
+      → LookupInstance bytes (left results units buffer) code answer part
+  looked-up code answer is part given =
+      record { answered = given ∙ ap (λ (records : List ℕ). lookup records code) first ∙ is; in-sheet = in-sheet code part given }
 
-code-found : (buffer : List ℕ) → resultSize * 7 ≤ length buffer → LookupInSheet peach (peachLeft buffer) 5 (record { number = 0; offset = 160; length = 32 })
-unfolding lookup.computing peachResults
-code-found buffer holds = peach-looked-up buffer holds 5 (record { number = 0; offset = 160; length = 32 }) refl
+module _ (buffer : List ℕ) (holds : resultSize * 7 ≤ length buffer) where
+  peach-looked-up : (code : ℕ) (answer : Part) → lookup peachResults code ≡ answer → (part : Part) → part ≡ lookup (unitRecords (peachLeft buffer) 7) code
+      → LookupInstance peach (peachLeft buffer) code answer part
+  unfolding computing peachPlan peachUnits peach peachResults
+  peach-looked-up =
+      looked-up peach peachResults buffer 7 refl
+      (lookup-graded .in-grading peach buffer peachAnswer (peachLeft buffer) (peach-accepted buffer holds) (all-bytes peach refl))
 
-code-not-found : (buffer : List ℕ) → resultSize * 7 ≤ length buffer → LookupInSheet peach (peachLeft buffer) 6 (record { number = 1; offset = 0; length = 0 })
-unfolding lookup.computing peachResults
-code-not-found buffer holds = peach-looked-up buffer holds 6 (record { number = 1; offset = 0; length = 0 }) refl
+  code-found : (part : Part) → part ≡ lookup (unitRecords (peachLeft buffer) 7) 5
+      → LookupInstance peach (peachLeft buffer) 5 (record { number = 0; offset = 160; length = 32 }) part
+  unfolding lookup.computing peachResults
+  code-found = peach-looked-up 5 (record { number = 0; offset = 160; length = 32 }) refl
+
+  code-not-found : (part : Part) → part ≡ lookup (unitRecords (peachLeft buffer) 7) 6
+      → LookupInstance peach (peachLeft buffer) 6 (record { number = 1; offset = 0; length = 0 }) part
+  unfolding lookup.computing peachResults
+  code-not-found = peach-looked-up 6 (record { number = 1; offset = 0; length = 0 }) refl
+
+code-found-regraded : (buffer : List ℕ) → resultSize * 4 ≤ length buffer → (part : Part) → part ≡ lookup (unitRecords (moreLeft buffer) 4) 3
+    → LookupInstance twoFailuresBeforeRedesignation (moreLeft buffer) 3 (record { number = 0; offset = 64; length = 32 }) part
+unfolding computing lookup.computing twoFailuresBeforeRedesignation twoFailuresBeforeRedesignationResults recordedPlan
+code-found-regraded buffer holds =
+    let accepted = more-accepted buffer holds in
+    looked-up twoFailuresBeforeRedesignation twoFailuresBeforeRedesignationResults buffer 4 refl
+    (lookup-graded .in-regrading twoFailuresBeforeRedesignation buyerB buffer fourAccepted (moreLeft buffer) accepted
+    (all-bytes twoFailuresBeforeRedesignation refl))
+    3 (record { number = 0; offset = 64; length = 32 }) refl
 
 -- ---- demand 3, the first half
 
@@ -244,4 +270,5 @@ instances =
       fewer-defects-meets = fewer-defects-meets;
       code-found = code-found;
       code-not-found = code-not-found;
+      code-found-regraded = code-found-regraded;
     }

@@ -2,19 +2,14 @@
 -- order, and no portion grade is above Substandard, so that the worst the code has is its code grade.
 use Prim.Native.Nat.{ℕ, suc, _*_, _≤_, _<_}
 use mathlib.Core.Path.{_≡_, refl, sym, _∙_, ap, subst}
-use mathlib.Core.Bool.{Bool, true, false}
 use mathlib.Core.List.{List}
 use native.Mathlib.Omega.{arith}
-use borrow.Author.Tests.{ltb-true, ltb-false}
-use lib.Dec.{ltb}
 use lib.ListN.{length}
 use Rattle.encoding.specs.Bytes.{byte}
-use Rattle.units.specs.Words.{substandard, tenthsOf}
+use Rattle.units.specs.Words.{substandard}
 use Rattle.units.proofs.Records.{record-of-unit}
-use Rattle.units.proofs.Bounds.{defect-grade-at-most}
-use Rattle.layout.specs.Layout.{unitsBefore, entryAt, sampleUnitAt, offset}
-use Rattle.layout.proofs.Units.{units-among, units-mono, next-units, unit-mark, entry-unit}
-use Rattle.sheet.proofs.Ranges.{designated-le, prerequisite-le}
+use Rattle.layout.specs.Layout.{unitsBefore, entryAt}
+use Rattle.layout.proofs.Units.{units-among, units-mono, next-units, unit-mark}
 use Rattle.results.specs.Record.{resultSize, codeIn}
 use Rattle.outcome.specs.declared.Answer.{Answer}
 use Rattle.tally.specs.Outcome.{recordsIn}
@@ -23,35 +18,24 @@ use Rattle.tally.proofs.AcceptedSheet.{accepted-sheet}
 use Rattle.courses.specs.Demand2.{recordedCode, codeOf, WorstOfCode}
 use Rattle.courses.proofs.Recorded.{recorded-portion-le}
 use Rattle.courses.proofs.Graded.{demand2-records}
-use Rattle.regrade.specs.Regrading.{regradedPortion, cusumsBefore}
-use Rattle.regrade.specs.Outcome.{sheetUnder}
 use Rattle.regrade.proofs.AcceptedRegrading.{accepted-regrading}
-use Rattle.regrade_demands.specs.RegradeAccepted.{RegradedAs, regradedSheet}
-use Rattle.regrade_demands.proofs.RegradeRecorded.{its-facts, second-facts}
+use Rattle.regrade_demands.specs.RegradeAccepted.{RegradedAs}
 use Rattle.regrade_demands.proofs.RegradeRecorded as regraded
 use Rattle.regrade_demands.proofs.RegradeRecords.{regrade-graded}
 use Rattle.lookup.specs.declared.Part.{Part}
 use Rattle.lookup.specs.Records as look
 use Rattle.lookup.specs.Lookup.{lookup, foundAt, notOnThisSheet}
-use Rattle.lookup.proofs.Worst.{grade-below, grade-from, FirstOf, NoneOf}
+use Rattle.lookup.proofs.Worst.{grade-is, FirstOf, NoneOf}
 use Rattle.lookup.proofs.Cases.{Case, refused, found, none, case-of}
 use Rattle.lookup.proofs.Cut.{cut-whole, cut-records, cut-code, cut-portion}
-use Rattle.demands.specs.LookupGraded.{recordsOf, UnitFound, LookupInSheet, LookupGraded}
-
--- a grade is its own byte
-pub grade-is : (grade : ℕ) → grade ≤ substandard → look.gradeOf grade ≡ grade
-grade-is grade most = go (ltb grade substandard) refl
-  where
-    go : (below : Bool) → ltb grade substandard ≡ below → look.gradeOf grade ≡ grade
-    go true test = grade-below grade (ltb-true grade substandard test)
-    go false test = omega (arith, grade-from grade (ltb-false grade substandard test), ltb-false grade substandard test)
+use Rattle.demands.specs.LookupGraded.{unitRecords, UnitFound, LookupInSheet, LookupGraded}
 
 module _ (bytes results : List ℕ) (units : ℕ) (counted : units ≡ unitsBefore bytes (recordsIn bytes)) (room : resultSize * units ≤ length results)
     (code-is : (i : ℕ) → UnitAt bytes i → recordedCode bytes results i ≡ codeOf bytes i)
     (portion-most : (i : ℕ) → UnitAt bytes i → recordedPortionGrade bytes results i ≤ substandard)
     (worst : (i : ℕ) → UnitAt bytes i → WorstOfCode bytes results i) where
   abbrev records : List ℕ
-  records = recordsOf results units
+  records = unitRecords results units
 
   -- the unit whose record is record j of the results
   record Numbered (j : ℕ) : Type 0 where
@@ -75,7 +59,8 @@ module _ (bytes results : List ℕ) (units : ℕ) (counted : units ≡ unitsBefo
 
   grade-in : (i : ℕ) → UnitAt bytes i → look.gradeIn records (unitsBefore bytes i) ≡ recordedPortionGrade bytes results i
   grade-in i at =
-      ap look.gradeOf (cut-portion results units room (unitsBefore bytes i) (inside-records i at)) ∙ grade-is (recordedPortionGrade bytes results i) (portion-most i at)
+      ap look.gradeOf (cut-portion results units room (unitsBefore bytes i) (inside-records i at))
+      ∙ grade-is (recordedPortionGrade bytes results i) (portion-most i at)
 
   its-code : (i : ℕ) → UnitAt bytes i → codeIn records (unitsBefore bytes i) ≡ codeOf bytes i
   its-code i at = cut-code results units room (unitsBefore bytes i) (inside-records i at) ∙ code-is i at
@@ -91,7 +76,8 @@ module _ (bytes results : List ℕ) (units : ℕ) (counted : units ≡ unitsBefo
         let own : codeOf bytes i ≡ code = sym (its-code i at) ∙ is .has-code in
         let has = worst i at .one-has-it in
         let k = has .index in
-        let its-worst = is .none-worse (unitsBefore bytes k) (omega (arith, many, inside-records k (has .unit))) (its-code k (has .unit) ∙ has .same-code ∙ own) in
+        let below : unitsBefore bytes k < look.resultRecords records = omega (arith, many, inside-records k (has .unit)) in
+        let its-worst = is .none-worse (unitsBefore bytes k) below (its-code k (has .unit) ∙ has .same-code ∙ own) in
         record {
           index = i;
           unit = at;
@@ -139,7 +125,7 @@ module _ (bytes results : List ℕ) (units : ℕ) (counted : units ≡ unitsBefo
 -- ---- gradings and regradings
 
 in-grading : (bytes buffer : List ℕ) (answer : Answer) (results : List ℕ) → AcceptedAs bytes buffer answer results
-    → ((place : ℕ) → byte bytes place < 256) → (code : ℕ) (part : Part) → part ≡ lookup (recordsOf results (answer .units)) code
+    → ((place : ℕ) → byte bytes place < 256) → (code : ℕ) (part : Part) → part ≡ lookup (unitRecords results (answer .units)) code
     → LookupInSheet bytes results code part
 in-grading bytes buffer answer results accepted small =
     let sheet = accepted-sheet bytes buffer answer results accepted in
@@ -149,29 +135,15 @@ in-grading bytes buffer answer results accepted small =
     (λ i at. recorded-portion-le bytes buffer answer results accepted i at)
     (graded .code-grades)
 
--- the portion grade of a regraded unit
-regraded-portion-le : (bytes plan buffer : List ℕ) (answer : Answer) (results : List ℕ) → RegradedAs bytes plan buffer answer results
-    → (i : ℕ) → UnitAt bytes i → recordedPortionGrade bytes results i ≤ substandard
-unfolding regradedPortion regradedSheet sheetUnder
-regraded-portion-le bytes plan buffer answer results accepted i at =
-    let sheet = regradedSheet bytes plan in
-    let unit = sampleUnitAt bytes (offset bytes i) in
-    let facts = its-facts bytes plan buffer answer results accepted in
-    let designated = designated-le plan 0 (second-facts bytes plan buffer answer results accepted) in
-    let defects =
-    defect-grade-at-most (sheet .table) (sheet .designated) (cusumsBefore sheet i) (tenthsOf unit) (omega (arith, designated)) in
-    let prerequisite = prerequisite-le bytes (recordsIn bytes) facts i unit (entry-unit bytes i (at .is-unit)) in
-    rw (regraded.recorded-portion bytes plan buffer answer results accepted i at) (omega (arith, defects, prerequisite))
-
 in-regrading : (bytes plan buffer : List ℕ) (answer : Answer) (results : List ℕ) → RegradedAs bytes plan buffer answer results
-    → ((place : ℕ) → byte bytes place < 256) → (code : ℕ) (part : Part) → part ≡ lookup (recordsOf results (answer .units)) code
+    → ((place : ℕ) → byte bytes place < 256) → (code : ℕ) (part : Part) → part ≡ lookup (unitRecords results (answer .units)) code
     → LookupInSheet bytes results code part
 in-regrading bytes plan buffer answer results accepted small =
     let sheet = accepted-regrading bytes plan buffer answer results accepted in
     let graded = regrade-graded bytes plan buffer answer results accepted in
     in-sheet bytes results (answer .units) (sheet .answered-units) (omega (arith, sheet .room, sheet .same-length, sheet .answered-units))
     (λ i at. graded .recorded i at .code small)
-    (λ i at. regraded-portion-le bytes plan buffer answer results accepted i at)
+    (λ i at. regraded.recorded-portion-le bytes plan buffer answer results accepted i at)
     (graded .code-grades)
 
 pub lookup-graded : LookupGraded

@@ -2,12 +2,14 @@
 -- every input: of `tally::grade`, and of `hatmuyon_grade`, through which C and Rust call it, that the answer and the whole result buffer
 -- are the `outcome` of the sheet and the buffer; of `mold::grade_mold` and `hatmuyon_grade_mold` the same with `moldOutcome`; of
 -- `regrade::regrade` and `hatmuyon_regrade` the same with `regradeOutcome`, which looks at a second plan, too; of `lookup::find` that the
--- number and the part of the lent results are those of `handed`, and of `lookup::find_place` and `hatmuyon_find_code` that number and place
--- are those of `lookup`; of `lines::print_into` that the text is that of `printing`, with `printed` of the input in front, of
--- `mold_lines::print_mold_into` the same with `moldPrinting` and `moldPrinted`, and of `regrade_lines::print_regrading_into` with
--- `regradePrinting` and `regradePrinted`. Demands 1 to 3, P9 and P10, the further sheets and the instances speak of `outcome`; the lines of
--- P10 and the printed text of `printed`; the layout of the bytes alone, P1 to P8 of the rules alone, `mold` of mold sheets, `regradings` of
--- recorded sheets that are graded again under a second plan, and `lookups` of what is found in finished results.
+-- number and the part of the lent results are those of `handed`, of `lookup::find_place` and `hatmuyon_find_code` that number and place are
+-- those of `lookup`, and of `lookup::read_records`, which reads for them, that what it finds and how many records it reads are `readingOf`;
+-- of `lines::print_into` that the text is that of `printing`, with `printed` of the input in front, of `mold_lines::print_mold_into` the
+-- same with `moldPrinting` and `moldPrinted`, and of `regrade_lines::print_regrading_into` with `regradePrinting` and `regradePrinted`.
+-- Demands 1 to 3, P9 and P10, the further sheets and the instances speak of `outcome`; the lines of P10 and the printed text of `printed`;
+-- the layout of the bytes alone, P1 to P8 of the rules alone, `mold` of mold sheets, `regradings` of recorded sheets that are graded again
+-- under a second plan, `lookups` of `lookup`, `handed` and `recordsRead`, and `lookups-graded`, with three of the instances, of look-ups in
+-- the results of `outcome` and `regradeOutcome`.
 use Rattle.tally.proofs.grade.Statement as grade
 use Rattle.hatmuyon.proofs.hatmuyon_grade.Statement as hatmuyon_grade
 use Rattle.mold.proofs.grade_mold.Statement as grade_mold
@@ -16,6 +18,7 @@ use Rattle.regrade.proofs.regrade.Statement as regrade
 use Rattle.hatmuyon.proofs.hatmuyon_regrade.Statement as hatmuyon_regrade
 use Rattle.lookup.proofs.find.Statement as find
 use Rattle.lookup.proofs.find_place.Statement as find_place
+use Rattle.lookup.proofs.read_records.Statement as read_records
 use Rattle.hatmuyon.proofs.hatmuyon_find_code.Statement as hatmuyon_find_code
 use Rattle.lines.proofs.print_into.Statement as print_into
 use Rattle.mold_lines.proofs.print_mold_into.Statement as print_mold_into
@@ -44,6 +47,7 @@ pub record Demands : Type 2 where
   pub promise-of-hatmuyon-regrade : {M : Type 1} → hatmuyon_regrade.statement M
   pub promise-of-find : {M : Type 1} → find.statement M
   pub promise-of-find-place : {M : Type 1} → find_place.statement M
+  pub promise-of-read-records : {M : Type 1} → read_records.statement M
   pub promise-of-hatmuyon-find-code : {M : Type 1} → hatmuyon_find_code.statement M
   pub promise-of-print-into : {M : Type 1} → print_into.statement M
   pub promise-of-print-mold-into : {M : Type 1} → print_mold_into.statement M

@@ -13,12 +13,16 @@ use Rattle.anchors.specs.TwoInARow.{secondInARow}
 use Rattle.anchors.specs.Anchor.{classFailsAt, tenthsFrom, Anchor, Latest}
 use Rattle.results.specs.Record.{resultSize}
 use Rattle.tally.specs.Accepted.{sheetIn, recordedCusum, recordedOvershoot, recordedPortionGrade, recordedCodeGrade, numbersInForce}
+use Rattle.lookup.specs.declared.Part.{Part}
+use Rattle.lookup.specs.Lookup.{lookup}
 use Rattle.answers.specs.Grounds.{toleranceIn, limitIn}
 use Rattle.answers.specs.AnswerInstances.{AnswerInstances}
 use Rattle.courses.specs.Course.{Course, tenTimesCount, prerequisite, ClassFails, UnitFails, SecondFailsLower, Qualifies, ThreeQualify, Recovered, Rules}
 use Rattle.courses.specs.Demand2.{recordedMark, recordedCode, recordedPlanGrade, recordedStanding, codeOf}
 use Rattle.demands.specs.Demand3.{AnchorAt}
-use Rattle.demands.specs.LookupGraded.{LookupInSheet}
+use Rattle.demands.specs.LookupGraded.{unitRecords, LookupInSheet}
+use Rattle.regrade_demands.specs.RegradeSheets.{twoFailuresBeforeRedesignation}
+use Rattle.regrade_demands.specs.RegradeInstances.{moreLeft}
 use Rattle.computed.specs.WorkedCases.{peach, peachResults}
 use Rattle.computed.specs.FurtherSheets.{breakBetweenFailures, breakBetweenFailuresResults, everyKindOfRecord, everyKindOfRecordResults, everyLowerPlan, everyLowerPlanResults, oneMinorDefectFewer, oneMinorDefectFewerResults, oneSevereDefectFewer, oneSevereDefectFewerResults, rawValueAtLimit, rawValueAtLimitResults, noDefectInPlaceOfOne, noDefectInPlaceOfOneResults}
 
@@ -214,6 +218,13 @@ pub record FewerMeetsInstance (buffer buffer' : List ℕ) : Type 0 where
   pub not-over : recordedOvershoot noDefectInPlaceOfOne (left noDefectInPlaceOfOneResults 2 buffer) 1 3 ≡ 0
   pub over : recordedOvershoot rawValueAtLimit (left rawValueAtLimitResults 2 buffer') 1 3 ≡ 1
 
+-- ---- look-ups
+
+-- a code of a sheet is looked up in its results: the answer, and what it says of the sheet
+pub record LookupInstance (bytes results : List ℕ) (code : ℕ) (answer part : Part) : Type 0 where
+  pub answered : part ≡ answer
+  pub in-sheet : LookupInSheet bytes results code part
+
 -- ---- together
 
 pub record Instances : Type 0 where
@@ -246,8 +257,12 @@ pub record Instances : Type 0 where
       → FewerTwiceInstance buffer buffer'
   pub fewer-defects-meets : (buffer buffer' : List ℕ) → resultSize * 2 ≤ length buffer → resultSize * 2 ≤ length buffer'
       → FewerMeetsInstance buffer buffer'
-  -- look-ups in the results of the peach sheet: code 5 is found at record 5, the second of its two, and code 6 is not on the sheet
-  pub code-found : (buffer : List ℕ) → resultSize * 7 ≤ length buffer
-      → LookupInSheet peach (peachLeft buffer) 5 (record { number = 0; offset = 160; length = 32 })
-  pub code-not-found : (buffer : List ℕ) → resultSize * 7 ≤ length buffer
-      → LookupInSheet peach (peachLeft buffer) 6 (record { number = 1; offset = 0; length = 0 })
+  -- look-ups in the results of the peach sheet: code 5 is found at offset 160, in the record of its second unit; code 6 is not on the sheet
+  pub code-found : (buffer : List ℕ) → resultSize * 7 ≤ length buffer → (part : Part) → part ≡ lookup (unitRecords (peachLeft buffer) 7) 5
+      → LookupInstance peach (peachLeft buffer) 5 (record { number = 0; offset = 160; length = 32 }) part
+  pub code-not-found : (buffer : List ℕ) → resultSize * 7 ≤ length buffer → (part : Part) → part ≡ lookup (unitRecords (peachLeft buffer) 7) 6
+      → LookupInstance peach (peachLeft buffer) 6 (record { number = 1; offset = 0; length = 0 }) part
+  -- and in those of a regrading of four units, with a redesignation and a break among its records: code 3 is found at offset 64, in the record of the third
+  pub code-found-regraded : (buffer : List ℕ) → resultSize * 4 ≤ length buffer
+      → (part : Part) → part ≡ lookup (unitRecords (moreLeft buffer) 4) 3
+      → LookupInstance twoFailuresBeforeRedesignation (moreLeft buffer) 3 (record { number = 0; offset = 64; length = 32 }) part

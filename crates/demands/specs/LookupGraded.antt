@@ -16,8 +16,8 @@ use Rattle.lookup.specs.declared.Part.{Part}
 use Rattle.lookup.specs.Lookup.{lookup}
 
 -- the result records of so many units
-abbrev pub recordsOf : List ℕ → ℕ → List ℕ
-recordsOf results units = take (resultSize * units) results
+abbrev pub unitRecords : List ℕ → ℕ → List ℕ
+unitRecords results units = take (resultSize * units) results
 
 -- the unit whose result record is the part
 pub record UnitFound (bytes results : List ℕ) (code : ℕ) (part : Part) : Type 0 where
@@ -40,8 +40,8 @@ pub record LookupInSheet (bytes results : List ℕ) (code : ℕ) (part : Part) :
 -- of every accepted sheet and every accepted regrading; the sheet is made of bytes, as every sheet is
 pub record LookupGraded : Type 0 where
   pub in-grading : (bytes buffer : List ℕ) (answer : Answer) (results : List ℕ) → AcceptedAs bytes buffer answer results
-      → ((place : ℕ) → byte bytes place < 256) → (code : ℕ) (part : Part) → part ≡ lookup (recordsOf results (answer .units)) code
+      → ((place : ℕ) → byte bytes place < 256) → (code : ℕ) (part : Part) → part ≡ lookup (unitRecords results (answer .units)) code
       → LookupInSheet bytes results code part
   pub in-regrading : (bytes plan buffer : List ℕ) (answer : Answer) (results : List ℕ) → RegradedAs bytes plan buffer answer results
-      → ((place : ℕ) → byte bytes place < 256) → (code : ℕ) (part : Part) → part ≡ lookup (recordsOf results (answer .units)) code
+      → ((place : ℕ) → byte bytes place < 256) → (code : ℕ) (part : Part) → part ≡ lookup (unitRecords results (answer .units)) code
       → LookupInSheet bytes results code part

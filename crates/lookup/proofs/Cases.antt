@@ -1,6 +1,6 @@
 -- What a look-up comes to, case by case: refused, found, not on this sheet; and that the part lies inside the results. Each by its tests.
 use Prim.Native.Nat.{ℕ, _+_, _-_, _%_, _≤_, _<_}
-use mathlib.Core.Path.{_≡_, refl, ap₂}
+use mathlib.Core.Path.{_≡_, refl, sym, ap₂, subst}
 use mathlib.Core.Bool.{Bool, true, false}
 use mathlib.Core.List.{List}
 use native.Mathlib.Omega.{arith}
@@ -54,8 +54,8 @@ module _ (results : List ℕ) (code : ℕ) where
 abbrev pub Inside : List ℕ → Part → Type 0
 Inside results part = part .offset + part .length ≤ length results
 
-pub part-inside : (results : List ℕ) (code : ℕ) → Inside results (lookup results code)
-part-inside results code = go (case-of results code)
+pub part-inside : (results : List ℕ) (code : ℕ) (part : Part) → part ≡ lookup results code → Inside results part
+part-inside results code part given = subst (Inside results) (sym given) (go (case-of results code))
   where
     go : Case results code → Inside results (lookup results code)
     go (refused rest is) = rw is (omega arith)

@@ -25,12 +25,32 @@ pub grade-from : (gradeByte : ℕ) → substandard ≤ gradeByte → gradeOf gra
 unfolding gradeOf
 grade-from gradeByte above = rw (le-ltb gradeByte substandard above)
 
-pub grade-at-most : (gradeByte : ℕ) → gradeOf gradeByte ≤ substandard
-grade-at-most gradeByte = go (ltb gradeByte substandard) refl
+-- so that it is its own grade, or Substandard
+pub data Graded (gradeByte : ℕ) : Type 0 where
+  as-it-is : gradeByte < substandard → gradeOf gradeByte ≡ gradeByte → Graded gradeByte
+  from-three : substandard ≤ gradeByte → gradeOf gradeByte ≡ substandard → Graded gradeByte
+
+pub graded : (gradeByte : ℕ) → Graded gradeByte
+graded gradeByte = go (ltb gradeByte substandard) refl
   where
-    go : (below : Bool) → ltb gradeByte substandard ≡ below → gradeOf gradeByte ≤ substandard
-    go true test = let less = ltb-true gradeByte substandard test in omega (arith, less, grade-below gradeByte less)
-    go false test = omega (arith, grade-from gradeByte (ltb-false gradeByte substandard test))
+    go : (below : Bool) → ltb gradeByte substandard ≡ below → Graded gradeByte
+    go true test = let below = ltb-true gradeByte substandard test in as-it-is below (grade-below gradeByte below)
+    go false test = let above = ltb-false gradeByte substandard test in from-three above (grade-from gradeByte above)
+
+pub grade-at-most : (gradeByte : ℕ) → gradeOf gradeByte ≤ substandard
+grade-at-most gradeByte = go (graded gradeByte)
+  where
+    go : Graded gradeByte → gradeOf gradeByte ≤ substandard
+    go (as-it-is below is) = omega (arith, below, is)
+    go (from-three above is) = omega (arith, is)
+
+-- a grade is its own byte
+pub grade-is : (grade : ℕ) → grade ≤ substandard → gradeOf grade ≡ grade
+grade-is grade most = go (graded grade)
+  where
+    go : Graded grade → gradeOf grade ≡ grade
+    go (as-it-is below is) = is
+    go (from-three above is) = omega (arith, above, is)
 
 module _ (results : List ℕ) (code : ℕ) where
   -- ---- the test of a record

@@ -1,11 +1,7 @@
 // What became of a code: a part of finished results, the first record of the code whose portion grade is the worst that the code has.
 ghost use mathlib.Core.Path.{_≡_};
-ghost use Prim.Native.Nat.{_*_, _≤_};
-ghost use lib.ListN.{length};
-ghost use Rattle.results.specs.Record.{resultSize};
-ghost use Rattle.lookup.specs.declared.Reading.{Reading};
-ghost use Rattle.lookup.specs.Lookup.{firstOfWorst, lookup, Handed, handed};
-ghost use Rattle.lookup.specs.Reading.{recordsRead};
+ghost use Rattle.lookup.specs.Lookup.{lookup, Handed, handed};
+ghost use Rattle.lookup.specs.Reading.{readingOf};
 use codes::next_with;
 use encoding::holds_at;
 use results::CODE_OFFSET;
@@ -24,16 +20,16 @@ pub struct Part {
 
 // A reading of records in their order: the first of the worst portions of a code, or the number of records if none has the code; and how
 // many records were read.
-struct Reading {
-    first: usize,
-    read: usize,
+pub struct Reading {
+    pub first: usize,
+    pub read: usize,
 }
 
-// Reads so many records up to and with the first Substandard portion of this code, since none can be worse; else all of them.
-fn read_records(results: &[u8], code: u16, records: usize) -> Reading
-    requires { ⌜ resultSize * records ≤ length (now results) ⌝ }
-    ensures { λ r. ⌜ r ≡ record { first = firstOfWorst (now (results .entry)) code records; read = recordsRead (now (results .entry)) code records } ⌝ }
+// Reads the records up to and with the first Substandard portion of this code, since none can be worse; else all of them.
+pub fn read_records(results: &[u8], code: u16) -> Reading
+    ensures { λ r. ⌜ r ≡ readingOf (now (results .entry)) code ⌝ }
 {
+    let records = results.len() / RESULT_SIZE;
     let mut first = records;
     // The best grade that is worse than all those of the code so far.
     let mut next_worse: u8 = 0;
@@ -76,7 +72,7 @@ pub fn find_place(results: &[u8], code: u16) -> Part
         };
     }
     let records = results.len() / RESULT_SIZE;
-    let reading = read_records(results, code, records);
+    let reading = read_records(results, code);
     if reading.first < records {
         return Part {
             number: 0,

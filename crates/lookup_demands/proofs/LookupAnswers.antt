@@ -89,7 +89,7 @@ module _ (block at : ℕ) (results : List ℕ) (code : ℕ) where
   part-of : PartOfResults block at results code (lookup results code) back
   unfolding back handedAs
   part-of =
-      let inside = part-inside results code in
+      let inside = part-inside results code (lookup results code) refl in
       record {
         number = refl;
         start = refl;

@@ -48,8 +48,8 @@ read-to results code records =
 -- the first of the worst portions of a code in one of them, and that there is none, is the same in another where the records say so
 module _ (results results' : List ℕ) (code n : ℕ)
     (same-code : (j : ℕ) → j < n → codeIn results j ≡ codeIn results' j) (same-grade : (j : ℕ) → j < n → gradeIn results j ≡ gradeIn results' j) where
-  first-stays : {first : ℕ} → FirstOf results code n first → FirstOf results' code n first
-  first-stays {first} at =
+  first-in-other : {first : ℕ} → FirstOf results code n first → FirstOf results' code n first
+  first-in-other {first} at =
       let here = same-grade first (at .inside) in
       record {
         inside = at .inside;
@@ -60,8 +60,8 @@ module _ (results results' : List ℕ) (code n : ℕ)
             omega (arith, here, same-grade j inside, at .earlier-better j below (same-code j inside ∙ own));
       }
 
-  none-stays : NoneOf results code n → NoneOf results' code n
-  none-stays has = record { none = λ j below own. has .none j below (same-code j below ∙ own) }
+  none-in-other : NoneOf results code n → NoneOf results' code n
+  none-in-other has = record { none = λ j below own. has .none j below (same-code j below ∙ own) }
 
 -- ---- what an answer goes by
 
@@ -88,11 +88,11 @@ module _ (results results' : List ℕ) (code : ℕ) (same-length : length result
       go : Case results code → lookup results code ≡ lookup results' code
       go (refused rest is) = is ∙ sym (refused-is results' code (λ whole. rest (omega (arith, same-length, whole))))
       go (found whole first at is) =
-          let stays = first-stays results results' code (resultRecords results) same-code same-grade at in
+          let stays = first-in-other results results' code (resultRecords results) same-code same-grade at in
           is ∙ sym (found-is results' code (omega (arith, same-length, whole)) (ap (firstOfWorst results' code) many ∙ first-of-worst-is results' code stays)
           (omega (arith, many, at .inside)))
       go (none whole has is) =
-          let stays = none-stays results results' code (resultRecords results) same-code same-grade has in
+          let stays = none-in-other results results' code (resultRecords results) same-code same-grade has in
           is ∙ sym (none-is results' code (omega (arith, same-length, whole)) (ap (firstOfWorst results' code) many ∙ first-of-none results' code stays)
           (omega (arith, many)))
 
@@ -118,7 +118,7 @@ module _ (results : List ℕ) (code records : ℕ) (whole : AreRecords results r
         earlier-better = at .earlier-better;
       } in
       let stays =
-      first-stays results cut code (suc first) (λ j below. sym (cut-code results (suc first) room j below))
+      first-in-other results cut code (suc first) (λ j below. sym (cut-code results (suc first) room j below))
       (λ j below. sym (ap gradeOf (cut-portion results (suc first) room j below))) here in
       let many = cut-records results (suc first) room in
       found-is cut code (cut-whole results (suc first) room) (ap (firstOfWorst cut code) many ∙ first-of-worst-is cut code stays) (omega (arith, many))

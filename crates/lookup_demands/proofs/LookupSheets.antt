@@ -1,12 +1,19 @@
 -- The look-ups in bytes, each by computing.
 use mathlib.Core.Path.{refl}
 use Rattle.lookup.proofs.Computing.{computing}
-use Rattle.lookup_demands.specs.HandedBack.{HandsBack}
 use Rattle.lookup_demands.specs.LookupSheets as sheets
 use Rattle.lookup_demands.specs.LookupSheets.{LookupSheets}
 
 pub lookup-sheets : LookupSheets
-unfolding computing sheets.peachSheet sheets.peachSheetPart sheets.onlyRecord sheets.onlyRecordPart sheets.worstFirst sheets.worstFirstPart sheets.worstLast sheets.worstLastPart sheets.worstBetween sheets.worstBetweenPart sheets.firstOfEquals sheets.firstOfEqualsPart sheets.firstOfEqualsBehindBetterOne sheets.firstOfEqualsBehindBetterOnePart sheets.byte3Before200 sheets.byte3Before200Part sheets.byte200Before3 sheets.byte200Before3Part sheets.byte200Before255 sheets.byte200Before255Part sheets.byte3BetweenTwoOfC sheets.byte3BetweenTwoOfCPart sheets.anotherCodeSubstandard sheets.anotherCodeSubstandardPart sheets.misleadingCodeGrades sheets.misleadingCodeGradesPart sheets.markOfZeros sheets.markOfZerosPart sheets.otherMarks sheets.otherMarksPart sheets.bytesExchanged sheets.bytesExchangedPart sheets.largestCode sheets.largestCodePart sheets.code0InZeros sheets.code0InZerosPart sheets.noByte sheets.notThere sheets.codeAtMark sheets.codeAtGrades sheets.codeAcrossTwoRecords sheets.oneByte sheets.oneByteLess sheets.oneByteMore sheets.oneByteLessThanTwoRecords
+unfolding computing sheets.peachSheet sheets.peachSheetPart sheets.onlyRecord sheets.onlyRecordPart sheets.worstFirst
+    sheets.worstFirstPart sheets.worstLast sheets.worstLastPart sheets.worstBetween sheets.worstBetweenPart sheets.firstOfEquals
+    sheets.firstOfEqualsPart sheets.firstOfEqualsBehindBetterOne sheets.firstOfEqualsBehindBetterOnePart sheets.byte3Before200
+    sheets.byte3Before200Part sheets.byte200Before3 sheets.byte200Before3Part sheets.byte200Before255 sheets.byte200Before255Part
+    sheets.byte3BetweenTwoOfC sheets.byte3BetweenTwoOfCPart sheets.anotherCodeSubstandard sheets.anotherCodeSubstandardPart
+    sheets.misleadingCodeGrades sheets.misleadingCodeGradesPart sheets.markOfZeros sheets.markOfZerosPart sheets.otherMarks
+    sheets.otherMarksPart sheets.bytesExchanged sheets.bytesExchangedPart sheets.largestCode sheets.largestCodePart sheets.code0InZeros
+    sheets.code0InZerosPart sheets.noByte sheets.notThere sheets.codeAtMark sheets.codeAtGrades sheets.codeAcrossTwoRecords sheets.oneByte
+    sheets.oneByteLess sheets.oneByteMore sheets.oneByteLessThanTwoRecords
 lookup-sheets =
     record {
       peach-sheet = record { place = refl; in-memory = λ block at. refl };

@@ -1,17 +1,14 @@
 -- The words of the statements are those of the definitions: how many records, which grade a byte is, and the first of the worst portions.
 use Prim.Native.Nat.{ℕ, _+_, _*_, _%_, _≤_, _<_}
-use mathlib.Core.Path.{_≡_, refl, sym, _∙_, ap}
-use mathlib.Core.Bool.{Bool, true, false}
+use mathlib.Core.Path.{_≡_, sym, _∙_, ap}
 use mathlib.Core.List.{List}
 use mathlib.Core.Logic.{inl, inr}
 use native.Mathlib.Omega.{arith}
-use borrow.Author.Tests.{ltb-true, ltb-false}
-use lib.Dec.{ltb}
 use lib.ListN.{length}
 use Rattle.encoding.specs.Bytes.{byte}
 use Rattle.results.specs.Record.{resultSize, codeIn}
 use Rattle.lookup.specs.Records.{resultRecords, gradeOf}
-use Rattle.lookup.proofs.Worst.{grade-below, grade-from, grade-at-most, FirstOf, NoneOf}
+use Rattle.lookup.proofs.Worst.{grade-below, grade-from, Graded, as-it-is, from-three, graded, grade-at-most, FirstOf, NoneOf}
 use Rattle.lookup_demands.specs.LookupAnswers.{AreRecords, codeAt, gradeByteAt, NoWorse, Better, NotThere, FirstOfWorst}
 
 -- ---- so many records
@@ -26,60 +23,40 @@ module _ (results : List ℕ) where
   pub are-records : length results % resultSize ≡ 0 → AreRecords results (resultRecords results)
   are-records whole = omega arith
 
--- ---- grades of bytes
-
--- a byte is its grade, or Substandard
-data Graded (gradeByte : ℕ) : Type 0 where
-  as-it-is : gradeByte < 3 → gradeOf gradeByte ≡ gradeByte → Graded gradeByte
-  substandard : 3 ≤ gradeByte → gradeOf gradeByte ≡ 3 → Graded gradeByte
-
-graded : (gradeByte : ℕ) → Graded gradeByte
-graded gradeByte = go (ltb gradeByte 3) refl
-  where
-    go : (below : Bool) → ltb gradeByte 3 ≡ below → Graded gradeByte
-    go true test = let below = ltb-true gradeByte 3 test in as-it-is below (grade-below gradeByte below)
-    go false test = let above = ltb-false gradeByte 3 test in substandard above (grade-from gradeByte above)
+-- ---- grades of two bytes
 
 module _ (gradeByte other : ℕ) where
-  pub no-worse : gradeOf gradeByte ≤ gradeOf other → NoWorse gradeByte other
+  no-worse : gradeOf gradeByte ≤ gradeOf other → NoWorse gradeByte other
   no-worse at-most = go (graded gradeByte) (graded other)
     where
       go : Graded gradeByte → Graded other → NoWorse gradeByte other
-      go its (substandard above is) = inr above
+      go its (from-three above is) = inr above
       go (as-it-is below is) (as-it-is below' is') = inl (omega (arith, is, is'))
-      go (substandard above is) (as-it-is below' is') = absurd (omega (arith, is, is', below'))
+      go (from-three above is) (as-it-is below' is') = absurd (omega (arith, is, is', below'))
 
   pub at-most : NoWorse gradeByte other → gradeOf gradeByte ≤ gradeOf other
   at-most (inr above) = omega (arith, grade-at-most gradeByte, grade-from other above)
   at-most (inl less) = go (graded gradeByte) (graded other)
     where
       go : Graded gradeByte → Graded other → gradeOf gradeByte ≤ gradeOf other
-      go its (substandard above is) = omega (arith, grade-at-most gradeByte, is)
+      go its (from-three above is) = omega (arith, grade-at-most gradeByte, is)
       go (as-it-is below is) (as-it-is below' is') = omega (arith, is, is')
-      go (substandard above is) (as-it-is below' is') = absurd (omega (arith, above, below'))
+      go (from-three above is) (as-it-is below' is') = absurd (omega (arith, above, below'))
 
-  pub better : gradeOf gradeByte < gradeOf other → Better gradeByte other
+  better : gradeOf gradeByte < gradeOf other → Better gradeByte other
   better less = go (graded gradeByte) (graded other)
     where
       go : Graded gradeByte → Graded other → Better gradeByte other
       go (as-it-is below is) (as-it-is below' is') = (omega (arith, is, is'), below)
-      go (as-it-is below is) (substandard above is') = (omega (arith, below, above), below)
-      go (substandard above is) its = absurd (omega (arith, is, grade-at-most other))
+      go (as-it-is below is) (from-three above is') = (omega (arith, below, above), below)
+      go (from-three above is) its = absurd (omega (arith, is, grade-at-most other))
 
-  pub less-than : Better gradeByte other → gradeOf gradeByte < gradeOf other
+  less-than : Better gradeByte other → gradeOf gradeByte < gradeOf other
   less-than (less, below) = go (graded other)
     where
       go : Graded other → gradeOf gradeByte < gradeOf other
       go (as-it-is below' is) = omega (arith, is, grade-below gradeByte below)
-      go (substandard above is) = omega (arith, is, grade-below gradeByte below)
-
--- Substandard is 3 or more
-pub below-three : (gradeByte : ℕ) → gradeOf gradeByte < 3 → gradeByte < 3
-below-three gradeByte less = go (graded gradeByte)
-  where
-    go : Graded gradeByte → gradeByte < 3
-    go (as-it-is below is) = below
-    go (substandard above is) = absurd (omega (arith, is))
+      go (from-three above is) = omega (arith, is, grade-below gradeByte below)
 
 -- ---- codes
 

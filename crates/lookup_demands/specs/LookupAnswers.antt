@@ -1,5 +1,5 @@
--- A look-up said a second time: A.6 of paper 02, sentence by sentence, by what stands in the bytes and in the paper's own numbers. Nothing
--- here computes an answer.
+-- A look-up said a second time: A.6 of paper 02, sentence by sentence, by what stands in the bytes and in the paper's own numbers; how far
+-- is read and what is looked at is in `LookupReading`. Nothing here computes an answer.
 use Prim.Native.Nat.{ℕ, _+_, _*_, _≤_, _<_}
 use mathlib.Core.Path.{_≡_}
 use mathlib.Core.List.{List}

@@ -1,5 +1,5 @@
--- Look-ups once more on three records, written out here and proved from the theorems: statements for fewer slices or codes, or without one
--- of the parts used here, would no longer give these.
+-- Look-ups once more on one to three records, proved from the theorems and not by computing: statements for fewer slices or codes, or
+-- without one of the parts used here, would no longer give these.
 use Prim.Native.Nat.{ℕ, _+_}
 use mathlib.Core.Path.{_≡_}
 use mathlib.Core.List.{List, _∷_, _++_}
@@ -28,7 +28,7 @@ pub record LookupInstances : Type 0 where
   -- two of the three are read, and they give the answer alone
   pub two-read : recordsRead byte3BetweenTwoOfC 5 3 ≡ 2
   pub as-full : lookup (take 64 byte3BetweenTwoOfC) 5 ≡ lookup byte3BetweenTwoOfC 5
-  -- all of which are read where none is Substandard
+  -- two records of other codes, both Substandard: all are read
   pub all-read : recordsRead notThere 5 2 ≡ 2
   -- other bytes in every other place make no difference, nor does 200 in the place of 3
   pub looked-at : lookup byte3BetweenTwoOfC 5 ≡ lookup otherBytes 5

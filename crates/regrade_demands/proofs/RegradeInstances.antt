@@ -41,10 +41,10 @@ more = twoFailuresBeforeRedesignation
 abbrev fewer : List ℕ
 fewer = fiveMinorDefectsFewer
 
-abbrev fourAccepted : Answer
+abbrev pub fourAccepted : Answer
 fourAccepted = acceptedAs 4 136
 
-more-accepted : (buffer : List ℕ) → resultSize * 4 ≤ length buffer → RegradedAs more buyerB buffer fourAccepted (moreLeft buffer)
+pub more-accepted : (buffer : List ℕ) → resultSize * 4 ≤ length buffer → RegradedAs more buyerB buffer fourAccepted (moreLeft buffer)
 more-accepted buffer holds = record { promise = sym (regrade-sheets .fewer-defects .two-failures-before-redesignation buffer holds); accepted = refl }
 
 fewer-accepted : (buffer : List ℕ) → resultSize * 4 ≤ length buffer → RegradedAs fewer buyerB buffer fourAccepted (fewerLeft buffer)

@@ -7,12 +7,12 @@ use mathlib.Core.List.{List}
 use native.Mathlib.Omega.{arith}
 use lib.ListN.{length, drop}
 use Rattle.encoding.specs.Bytes.{byte}
-use Rattle.units.specs.Words.{classes, numbersOf, tenthsIn, tenthsOf, countTenths}
+use Rattle.units.specs.Words.{substandard, classes, numbersOf, tenthsIn, tenthsOf, countTenths}
 use Rattle.units.specs.Unit.{classCusum, classOvershoot, newCusums, newOvershoots, unitFails}
 use Rattle.units.specs.declared.SampleUnit.{SampleUnit}
 use Rattle.units.specs.declared.Entry.{Entry}
 use Rattle.units.specs.declared.Entry.the-variants.{UnitRecord, Redesignation, Break}
-use Rattle.units.proofs.Bounds.{class-cusum-le, class-overshoot-le}
+use Rattle.units.proofs.Bounds.{class-cusum-le, class-overshoot-le, defect-grade-at-most}
 use Rattle.units.proofs.Classes.{at-class}
 use Rattle.units.proofs.Lists.{map-at}
 use Rattle.rules.specs.Sheet.{Sheet}
@@ -20,7 +20,7 @@ use Rattle.rules.proofs.FailingUnits.{starts-at}
 use Rattle.layout.specs.Layout.{sampleUnitAt, offset, unitsBefore}
 use Rattle.layout.proofs.Units.{entry-unit}
 use Rattle.sheet.proofs.Accepted.{Facts}
-use Rattle.sheet.proofs.Ranges.{limit-le, start-le-limit, count-le}
+use Rattle.sheet.proofs.Ranges.{designated-le, limit-le, start-le-limit, prerequisite-le, count-le}
 use Rattle.results.specs.Record.{resultSize}
 use Rattle.single_plan.specs.SinglePlan.{resultUnder}
 use Rattle.outcome.specs.declared.Answer.{Answer}
@@ -91,6 +91,14 @@ module _ (bytes plan buffer : List ℕ) (answer : Answer) (results : List ℕ) (
     pub recorded-portion : recordedPortionGrade bytes results i ≡ regradedPortion (regradedSheet bytes plan) i (sampleUnitAt bytes (offset bytes i))
     unfolding resultUnder regradedPortion
     recorded-portion = there .portion
+
+    pub recorded-portion-le : recordedPortionGrade bytes results i ≤ substandard
+    unfolding regradedPortion regradedSheet sheetUnder
+    recorded-portion-le =
+        let designated = designated-le plan 0 second-facts in
+        let defects = defect-grade-at-most (sheet .table) (sheet .designated) (cusumsBefore sheet i) (tenthsOf unit) (omega (arith, designated)) in
+        let prerequisite = prerequisite-le bytes (recordsIn bytes) its-facts i unit (entry-unit bytes i (at .is-unit)) in
+        rw recorded-portion (omega (arith, defects, prerequisite))
 
     pub recorded-code-grade : recordedCodeGrade bytes results i ≡ regradedCode (regradedSheet bytes plan) (sampleUnitAt bytes (offset bytes i) .code)
     recorded-code-grade = there .code-grade

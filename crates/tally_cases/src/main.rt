@@ -13,7 +13,7 @@ use text::LARGEST_INPUT;
 // No test has more cases.
 const MOST_CASES: u64 = 10000;
 
-// Room for a sheet or a plan: one byte more than is taken for a sheet; and what stands for no such bytes.
+// Room for a sheet, a plan or results: one byte more than is taken for a sheet; and what stands for no such bytes.
 const ROOM: usize = LARGEST_INPUT + 1;
 
 const NO_BYTES: usize = ROOM + 1;

@@ -1,9 +1,9 @@
 -- The part lies inside the results, so that its end is no sum that wraps; what is handed back is that part, where it is.
-use mathlib.Core.Path.{sym, _∙_, ap, subst}
+use mathlib.Core.Path.{_∙_, ap}
 use native.Mathlib.Omega.{arith}
 use borrow.Author.Needs.{needs}
 use Rattle.lookup.specs.Lookup.{handedAs}
-use Rattle.lookup.proofs.Cases.{Inside, part-inside, handed-part}
+use Rattle.lookup.proofs.Cases.{part-inside, handed-part}
 use Rattle.lookup.proofs.find.Statement.{statement}
 use Rattle.lookup.proofs.find.Tie as tie
 
@@ -12,11 +12,9 @@ find-place-requires c κs = search needs
 
 add-end : tie.Need-add-end
 add-end c =
-    let place = c .before in
-    let args = place .before .before .args in
-    let inside : Inside (args .results .now) (place .find-place .result) =
-    subst (Inside (args .results .now)) (sym (place .find-place .ensures)) (part-inside (args .results .now) (args .code)) in
-    omega (arith, inside)
+    let place = c .before .find-place in
+    let args = c .before .before .before .args in
+    omega (arith, part-inside (args .results .now) (args .code) (place .result) (place .ensures))
 
 sub-result : tie.Need-sub-result
 sub-result c = search needs
@@ -25,10 +23,7 @@ part-result-start : tie.Need-part-result-start
 part-result-start c = search needs
 
 part-result-end : tie.Need-part-result-end
-part-result-end c =
-    let place = c .before in
-    let args = place .before .before .args in
-    subst (Inside (args .results .now)) (sym (place .find-place .ensures)) (part-inside (args .results .now) (args .code))
+part-result-end c = let place = c .before .find-place in part-inside _ _ (place .result) (place .ensures)
 
 returns : tie.Need-returns
 returns c =

@@ -9,13 +9,13 @@ use Rattle.lookup.proofs.read_records.Statement.{statement}
 use Rattle.lookup.proofs.read_records.Tie as tie
 
 abbrev Inv-loop : tie.InvT-loop
-Inv-loop results code records first₀ next-worse₀ read₀ first next-worse read = (read ≤ records) × SoFar results code records first next-worse read
+Inv-loop results code records first₀ next-worse₀ read₀ first next-worse read = (read ≤ records) × SoFar results code first next-worse read
 
 abbrev μ-loop : tie.MeasureT-loop
 μ-loop results code records first₀ next-worse₀ read₀ first next-worse read = records - read
 
 loop-holds : tie.Need-loop-holds Inv-loop μ-loop
-loop-holds c = let args = c .before .args in (omega arith, start (args .results .now) (args .code) (args .records))
+loop-holds c = let args = c .before .args in (omega arith, start (args .results .now) (args .code))
 
 add-read : tie.Need-add-read Inv-loop μ-loop
 add-read c = search needs
@@ -44,7 +44,7 @@ returns c =
     let tested = test .before .before in
     let loop = tested .before .loop in
     let own = eqb-true _ _ (sym (test .before .holds-at .ensures) ∙ test .if1 .taken) in
-    ends-here _ _ _ (loop .inv .1) (tested .loop-test .taken) own (c .if3 .taken)
+    ends-here _ _ (loop .inv .1) (tested .loop-test .taken) own (c .if3 .taken)
 
 add-next-worse : tie.Need-add-next-worse Inv-loop μ-loop
 add-next-worse c = search needs
@@ -56,15 +56,16 @@ loop-again : tie.Need-loop-again Inv-loop μ-loop
 loop-again c =
     let test = c .before .before .before in
     let tested = test .before .before in
-    let loop = tested .before .loop in
-    let own = eqb-true _ _ (sym (test .before .holds-at .ensures) ∙ test .if1 .taken) in
-    (search needs, worse-here _ _ _ (loop .inv .1) own (c .before .if2 .taken) (c .if3 .left))
+    let loop = tested .before .loop in (
+      search needs,
+      worse-here _ _ (loop .inv .1) (eqb-true _ _ (sym (test .before .holds-at .ensures) ∙ test .if1 .taken)) (c .before .if2 .taken) (c .if3 .left),
+    )
 
 loop-less-2 : tie.Need-loop-less-2 Inv-loop μ-loop
 loop-less-2 c = search needs
 
 loop-again-2 : tie.Need-loop-again-2 Inv-loop μ-loop
-loop-again-2 c = let loop = c .before .before .before .before .before .loop in (search needs, no-worse _ _ _ (loop .inv .1) (c .if2 .left))
+loop-again-2 c = let loop = c .before .before .before .before .before .loop in (search needs, no-worse _ _ (loop .inv .1) (c .if2 .left))
 
 next-with-requires : tie.Need-next-with-requires Inv-loop μ-loop
 next-with-requires c κs = search needs
@@ -77,10 +78,10 @@ loop-again-3 c =
     let test = c .before in
     let loop = test .before .before .before .loop in
     let found = c .next-with .ensures in
-    (found .at-most, to-next _ _ _ (loop .inv .1) (eqb-false _ _ (sym (test .before .holds-at .ensures) ∙ test .if1 .left)) found)
+    (found .at-most, to-next _ _ (loop .inv .1) (eqb-false _ _ (sym (test .before .holds-at .ensures) ∙ test .if1 .left)) found)
 
 returns-2 : tie.Need-returns-2 Inv-loop μ-loop
-returns-2 c = let loop = c .before .loop in ends-all _ _ _ (loop .inv .1) (c .loop-test .left) (loop .inv .0)
+returns-2 c = let loop = c .before .loop in ends-all _ _ (loop .inv .1) (c .loop-test .left) (loop .inv .0)
 
 pub read-records-spec : {M : Type 1} → statement M
 read-records-spec =
