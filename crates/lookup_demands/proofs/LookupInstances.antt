@@ -8,7 +8,7 @@ use Rattle.lookup.specs.declared.Part.{Part}
 use Rattle.lookup.specs.Lookup.{lookup}
 use Rattle.lookup_demands.specs.LookupAnswers.{codeAt, gradeByteAt, FirstOfWorst, PartOfResults}
 use Rattle.lookup_demands.specs.LookupReading.{SameCodeAndGrade}
-use Rattle.lookup_demands.specs.LookupSheets.{byte3BetweenTwoOfC, notThere, oneByteMore}
+use Rattle.lookup_demands.specs.LookupSheets.{byte3BetweenTwoOfC, byte200Before255, notThere, oneByteMore}
 use Rattle.lookup_demands.specs.LookupInstances.{otherBytes, LookupInstances}
 use Rattle.lookup_demands.proofs.LookupAnswers.{lookup-answers}
 use Rattle.lookup_demands.proofs.LookupReading.{lookup-reading}
@@ -46,7 +46,7 @@ same-three (suc (suc zero)) below = record { same-code = refl; no-worse = inl (o
 same-three (suc (suc (suc j))) below = absurd (omega arith)
 
 pub lookup-instances : LookupInstances
-unfolding byte3BetweenTwoOfC notThere oneByteMore otherBytes
+unfolding byte3BetweenTwoOfC byte200Before255 notThere oneByteMore otherBytes
 lookup-instances =
     let two = lookup-reading .read-to byte3BetweenTwoOfC 5 3 .at-first 1 (omega arith) refl (omega arith) before-second in
     record {
@@ -59,6 +59,8 @@ lookup-instances =
       as-full =
           subst (λ (read : ℕ). lookup (take (32 * read) byte3BetweenTwoOfC) 5 ≡ lookup byte3BetweenTwoOfC 5) two
           (lookup-reading .as-full byte3BetweenTwoOfC 5 3 refl);
+      one-read =
+          lookup-reading .read-to byte200Before255 5 2 .at-first 0 (omega arith) refl (omega arith) (λ k below own. absurd (omega (arith, below)));
       all-read = lookup-reading .read-to notThere 5 2 .all (λ k below own. absurd (none-of-two k below own));
       looked-at = lookup-reading .looked-at byte3BetweenTwoOfC otherBytes 5 refl (λ j inside. same-three j (omega (arith, inside)));
       not-there = λ part given.

@@ -8,7 +8,7 @@ use Rattle.lookup.specs.declared.Part.{Part}
 use Rattle.lookup.specs.Lookup.{lookup, Handed, handed}
 use Rattle.lookup.specs.Reading.{recordsRead}
 use Rattle.lookup_demands.specs.LookupAnswers.{FirstOfWorst, PartOfResults}
-use Rattle.lookup_demands.specs.LookupSheets.{byte3BetweenTwoOfC, notThere, oneByteMore}
+use Rattle.lookup_demands.specs.LookupSheets.{byte3BetweenTwoOfC, byte200Before255, notThere, oneByteMore}
 
 -- a record of code 5 with this portion grade byte, and 255 in all other places
 abbrev pub otherRecord : ℕ → List ℕ
@@ -28,6 +28,8 @@ pub record LookupInstances : Type 0 where
   -- two of the three are read, and they give the answer alone
   pub two-read : recordsRead byte3BetweenTwoOfC 5 3 ≡ 2
   pub as-full : lookup (take 64 byte3BetweenTwoOfC) 5 ≡ lookup byte3BetweenTwoOfC 5
+  -- and one of two that are Substandard by 200 and 255
+  pub one-read : recordsRead byte200Before255 5 2 ≡ 1
   -- two records of other codes, both Substandard: all are read
   pub all-read : recordsRead notThere 5 2 ≡ 2
   -- other bytes in every other place make no difference, nor does 200 in the place of 3

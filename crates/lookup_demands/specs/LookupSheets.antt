@@ -188,6 +188,40 @@ byte200Before255Part =
     ∷ 16 ∷ 17 ∷ 18 ∷ 19 ∷ 20 ∷ 21 ∷ 22 ∷ 23 ∷ 24 ∷ 25 ∷ 26 ∷ 27 ∷ 28 ∷ 29 ∷ 30 ∷ 31
     ∷ []
 
+-- 4 is Substandard as 3 is, and no C.
+unfoldable pub byte4Before3 : List ℕ
+byte4Before3 =
+    0x47 ∷ 0x52 ∷ 0 ∷ 5 ∷ 2 ∷ 3 ∷ 6 ∷ 7 ∷ 8 ∷ 9 ∷ 10 ∷ 11 ∷ 12 ∷ 13 ∷ 14 ∷ 15  -- 5: 2, 3
+    ∷ 16 ∷ 17 ∷ 18 ∷ 19 ∷ 20 ∷ 21 ∷ 22 ∷ 23 ∷ 24 ∷ 25 ∷ 26 ∷ 27 ∷ 28 ∷ 29 ∷ 30 ∷ 31
+    ∷ 0x47 ∷ 0x52 ∷ 0 ∷ 5 ∷ 4 ∷ 3 ∷ 38 ∷ 39 ∷ 40 ∷ 41 ∷ 42 ∷ 43 ∷ 44 ∷ 45 ∷ 46 ∷ 47  -- 5: 4, 3
+    ∷ 48 ∷ 49 ∷ 50 ∷ 51 ∷ 52 ∷ 53 ∷ 54 ∷ 55 ∷ 56 ∷ 57 ∷ 58 ∷ 59 ∷ 60 ∷ 61 ∷ 62 ∷ 63
+    ∷ 0x47 ∷ 0x52 ∷ 0 ∷ 5 ∷ 3 ∷ 3 ∷ 70 ∷ 71 ∷ 72 ∷ 73 ∷ 74 ∷ 75 ∷ 76 ∷ 77 ∷ 78 ∷ 79  -- 5: 3, 3
+    ∷ 80 ∷ 81 ∷ 82 ∷ 83 ∷ 84 ∷ 85 ∷ 86 ∷ 87 ∷ 88 ∷ 89 ∷ 90 ∷ 91 ∷ 92 ∷ 93 ∷ 94 ∷ 95
+    ∷ []
+
+unfoldable pub byte4Before3Part : List ℕ
+byte4Before3Part =
+    0x47 ∷ 0x52 ∷ 0 ∷ 5 ∷ 4 ∷ 3 ∷ 38 ∷ 39 ∷ 40 ∷ 41 ∷ 42 ∷ 43 ∷ 44 ∷ 45 ∷ 46 ∷ 47  -- 5: 4, 3
+    ∷ 48 ∷ 49 ∷ 50 ∷ 51 ∷ 52 ∷ 53 ∷ 54 ∷ 55 ∷ 56 ∷ 57 ∷ 58 ∷ 59 ∷ 60 ∷ 61 ∷ 62 ∷ 63
+    ∷ []
+
+-- All eight bits of the grade byte count.
+unfoldable pub byte128BehindC : List ℕ
+byte128BehindC =
+    0x47 ∷ 0x52 ∷ 0 ∷ 5 ∷ 2 ∷ 3 ∷ 6 ∷ 7 ∷ 8 ∷ 9 ∷ 10 ∷ 11 ∷ 12 ∷ 13 ∷ 14 ∷ 15  -- 5: 2, 3
+    ∷ 16 ∷ 17 ∷ 18 ∷ 19 ∷ 20 ∷ 21 ∷ 22 ∷ 23 ∷ 24 ∷ 25 ∷ 26 ∷ 27 ∷ 28 ∷ 29 ∷ 30 ∷ 31
+    ∷ 0x47 ∷ 0x52 ∷ 0 ∷ 5 ∷ 128 ∷ 3 ∷ 38 ∷ 39 ∷ 40 ∷ 41 ∷ 42 ∷ 43 ∷ 44 ∷ 45 ∷ 46 ∷ 47  -- 5: 128, 3
+    ∷ 48 ∷ 49 ∷ 50 ∷ 51 ∷ 52 ∷ 53 ∷ 54 ∷ 55 ∷ 56 ∷ 57 ∷ 58 ∷ 59 ∷ 60 ∷ 61 ∷ 62 ∷ 63
+    ∷ 0x47 ∷ 0x52 ∷ 0 ∷ 5 ∷ 2 ∷ 3 ∷ 70 ∷ 71 ∷ 72 ∷ 73 ∷ 74 ∷ 75 ∷ 76 ∷ 77 ∷ 78 ∷ 79  -- 5: 2, 3
+    ∷ 80 ∷ 81 ∷ 82 ∷ 83 ∷ 84 ∷ 85 ∷ 86 ∷ 87 ∷ 88 ∷ 89 ∷ 90 ∷ 91 ∷ 92 ∷ 93 ∷ 94 ∷ 95
+    ∷ []
+
+unfoldable pub byte128BehindCPart : List ℕ
+byte128BehindCPart =
+    0x47 ∷ 0x52 ∷ 0 ∷ 5 ∷ 128 ∷ 3 ∷ 38 ∷ 39 ∷ 40 ∷ 41 ∷ 42 ∷ 43 ∷ 44 ∷ 45 ∷ 46 ∷ 47  -- 5: 128, 3
+    ∷ 48 ∷ 49 ∷ 50 ∷ 51 ∷ 52 ∷ 53 ∷ 54 ∷ 55 ∷ 56 ∷ 57 ∷ 58 ∷ 59 ∷ 60 ∷ 61 ∷ 62 ∷ 63
+    ∷ []
+
 -- Reading goes on behind C, and C behind Substandard changes nothing.
 unfoldable pub byte3BetweenTwoOfC : List ℕ
 byte3BetweenTwoOfC =
@@ -394,6 +428,20 @@ oneByteLessThanTwoRecords =
     ∷ 48 ∷ 49 ∷ 50 ∷ 51 ∷ 52 ∷ 53 ∷ 54 ∷ 55 ∷ 56 ∷ 57 ∷ 58 ∷ 59 ∷ 60 ∷ 61 ∷ 62
     ∷ []
 
+-- 19: 16 bytes of a record.
+unfoldable pub halfRecord : List ℕ
+halfRecord =
+    0x47 ∷ 0x52 ∷ 0 ∷ 5 ∷ 3 ∷ 3 ∷ 6 ∷ 7 ∷ 8 ∷ 9 ∷ 10 ∷ 11 ∷ 12 ∷ 13 ∷ 14 ∷ 15  -- 16 bytes of 5: 3, 3
+    ∷ []
+
+-- 19: 48 bytes, a multiple of 16 and not of 32.
+unfoldable pub recordAndHalf : List ℕ
+recordAndHalf =
+    0x47 ∷ 0x52 ∷ 0 ∷ 5 ∷ 1 ∷ 1 ∷ 6 ∷ 7 ∷ 8 ∷ 9 ∷ 10 ∷ 11 ∷ 12 ∷ 13 ∷ 14 ∷ 15  -- 5: 1, 1
+    ∷ 16 ∷ 17 ∷ 18 ∷ 19 ∷ 20 ∷ 21 ∷ 22 ∷ 23 ∷ 24 ∷ 25 ∷ 26 ∷ 27 ∷ 28 ∷ 29 ∷ 30 ∷ 31
+    ∷ 0x47 ∷ 0x52 ∷ 0 ∷ 5 ∷ 3 ∷ 3 ∷ 38 ∷ 39 ∷ 40 ∷ 41 ∷ 42 ∷ 43 ∷ 44 ∷ 45 ∷ 46 ∷ 47  -- 16 bytes of 5: 3, 3
+    ∷ []
+
 -- all of them: results and code; of a code that is found also the offset and the bytes of the part
 pub record LookupSheets : Type 0 where
   pub peach-sheet : FoundWith peachSheet 5 160 peachSheetPart
@@ -406,6 +454,8 @@ pub record LookupSheets : Type 0 where
   pub byte-3-before-200 : FoundWith byte3Before200 5 32 byte3Before200Part
   pub byte-200-before-3 : FoundWith byte200Before3 5 32 byte200Before3Part
   pub byte-200-before-255 : FoundWith byte200Before255 5 0 byte200Before255Part
+  pub byte-4-before-3 : FoundWith byte4Before3 5 32 byte4Before3Part
+  pub byte-128-behind-c : FoundWith byte128BehindC 5 32 byte128BehindCPart
   pub byte-3-between-two-of-c : FoundWith byte3BetweenTwoOfC 5 32 byte3BetweenTwoOfCPart
   pub another-code-substandard : FoundWith anotherCodeSubstandard 5 96 anotherCodeSubstandardPart
   pub misleading-code-grades : FoundWith misleadingCodeGrades 5 32 misleadingCodeGradesPart
@@ -423,3 +473,5 @@ pub record LookupSheets : Type 0 where
   pub one-byte-less : RefusedResults oneByteLess 5
   pub one-byte-more : RefusedResults oneByteMore 5
   pub one-byte-less-than-two-records : RefusedResults oneByteLessThanTwoRecords 5
+  pub half-record : RefusedResults halfRecord 5
+  pub record-and-half : RefusedResults recordAndHalf 5

@@ -91,11 +91,11 @@ fn marked(fields: Fields, marks: &[(usize, [u8; 2])]) -> Vec<Part> {
     fields.iter().enumerate().map(bytes).map(|bytes| record(&bytes)).collect()
 }
 
-/// Such records, the last without its last byte.
-fn cut(fields: Fields) -> Vec<Part> {
+/// Such records, of the last so many bytes.
+fn cut(fields: Fields, length: usize) -> Vec<Part> {
     let mut parts = records(fields);
     let last = parts.pop().expect("a record");
-    parts.push(last.cut(RESULT_SIZE - 1));
+    parts.push(last.cut(length));
     parts
 }
 
@@ -193,6 +193,20 @@ fn substandard() -> Vec<Case> {
             "byte 200 before 255",
             "Neither is 3, and both are Substandard.",
             records(&[(5, 200, 3), (5, 255, 3)]),
+            5,
+        ),
+        found(
+            1,
+            "byte 4 before 3",
+            "4 is Substandard as 3 is, and no C.",
+            records(&[(5, 2, 3), (5, 4, 3), (5, 3, 3)]),
+            5,
+        ),
+        found(
+            1,
+            "byte 128 behind C",
+            "All eight bits of the grade byte count.",
+            records(&[(5, 2, 3), (5, 128, 3), (5, 2, 3)]),
             5,
         ),
         found(
@@ -301,7 +315,7 @@ fn refusals() -> Vec<Case> {
         refused(
             "one byte less",
             "19: a record of the code without its last byte; not 'not on this sheet'.",
-            cut(&[(5, 3, 3)]),
+            cut(&[(5, 3, 3)], RESULT_SIZE - 1),
             5,
         ),
         refused(
@@ -313,7 +327,14 @@ fn refusals() -> Vec<Case> {
         refused(
             "one byte less than two records",
             "19: a whole record of the code, and another one without its last byte.",
-            cut(&[(5, 1, 1), (5, 3, 3)]),
+            cut(&[(5, 1, 1), (5, 3, 3)], RESULT_SIZE - 1),
+            5,
+        ),
+        refused("half a record", "19: 16 bytes of a record.", cut(&[(5, 3, 3)], 16), 5),
+        refused(
+            "a record and a half",
+            "19: 48 bytes, a multiple of 16 and not of 32.",
+            cut(&[(5, 1, 1), (5, 3, 3)], 16),
             5,
         ),
     ]
