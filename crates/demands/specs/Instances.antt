@@ -262,7 +262,8 @@ pub record Instances : Type 0 where
       → LookupInstance peach (peachLeft buffer) 5 (record { number = 0; offset = 160; length = 32 }) part
   pub code-not-found : (buffer : List ℕ) → resultSize * 7 ≤ length buffer → (part : Part) → part ≡ lookup (unitRecords (peachLeft buffer) 7) 6
       → LookupInstance peach (peachLeft buffer) 6 (record { number = 1; offset = 0; length = 0 }) part
-  -- and in those of a regrading of four units, with a redesignation and a break among its records: code 3 is found at offset 64, in the record of the third
+  -- and in those of a regrading of four units, with a redesignation and a break among its records: code 3 is found at offset 64, in the
+  -- record of the third
   pub code-found-regraded : (buffer : List ℕ) → resultSize * 4 ≤ length buffer
       → (part : Part) → part ≡ lookup (unitRecords (moreLeft buffer) 4) 3
       → LookupInstance twoFailuresBeforeRedesignation (moreLeft buffer) 3 (record { number = 0; offset = 64; length = 32 }) part

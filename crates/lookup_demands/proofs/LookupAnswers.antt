@@ -1,5 +1,5 @@
--- The answer of a look-up, by its case: what refuses one case of the answer is the first of the worst portions, or its absence, in the
--- other. There is one first of the worst, as `firstOfWorst` gives it.
+-- The answer of a look-up, by its case. In each case the other two are ruled out: by the length of the results, or because a record that is
+-- the first of the worst has the code. There is one first of the worst, as `firstOfWorst` gives it.
 use Prim.Native.Nat.{ℕ, _+_, _*_, _%_, _<_}
 use mathlib.Core.Path.{_≡_, refl, sym, _∙_, ap, ap₂, subst}
 use mathlib.Core.List.{List}

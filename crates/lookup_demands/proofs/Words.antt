@@ -1,4 +1,5 @@
--- The words of the statements are those of the definitions: how many records, which grade a byte is, and the first of the worst portions.
+-- The words of the statements are those of the definitions: how many records, which grade a byte is,
+-- the code, and the first of the worst portions.
 use Prim.Native.Nat.{ℕ, _+_, _*_, _%_, _≤_, _<_}
 use mathlib.Core.Path.{_≡_, sym, _∙_, ap}
 use mathlib.Core.List.{List}

@@ -23,7 +23,7 @@ pub record SameCodeAndGrade (results results' : List ℕ) (j : ℕ) : Type 0 whe
   pub no-better : NoWorse (gradeByteAt results' j) (gradeByteAt results j)
 
 pub record LookupReading : Type 0 where
-  -- for every slice, every code and any number of records; `read_records` reads so many of all that there are
+  -- for every slice, every code and any number of records; `read_records` promises it of all the records that there are
   pub read-to : (results : List ℕ) (code records : ℕ) → ReadTo results code records (recordsRead results code records)
   -- "the answer equals that of a full reading": it is that of the records that are read, alone
   pub as-full : (results : List ℕ) (code records : ℕ) → AreRecords results records
