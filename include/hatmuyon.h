@@ -21,7 +21,7 @@ extern "C" {
  * and of the functions and types in C or Rust. A program, the header and the archive of one version
  * belong together. The archive does not carry its version, so that nothing notices another one.
  */
-#define HATMUYON_VERSION "0.7.0"
+#define HATMUYON_VERSION "0.8.0"
 #define HATMUYON_VERSION_MAJOR 0
 #define HATMUYON_VERSION_MINOR 7
 #define HATMUYON_VERSION_PATCH 0
@@ -175,16 +175,16 @@ enum hatmuyon_standing {
 
 /*
  * The number of an answer: 0, or the ground on which the sheet is refused. The place is 0 for 1 to 5,
- * 16 and 18, the offset of the record's mark for 6 to 12 and 17, and the sheet's length for 13 and
- * 14. The first ground met is the answer.
+ * 16 and 18, the offset of the record's mark for 6 to 12 and 17, and the sheet's length for 13. The
+ * first ground met is the answer.
  *
- * A tally sheet is refused by 1 to 14. The plan is checked first, for 1 to 5 in turn; then the
+ * A tally sheet is refused by 1 to 13. The plan is checked first, for 1 to 5 in turn; then the
  * records from left to right, each wholly before the next, for 6, 7, 12, 8, 9, 10, 11 in this order;
- * then the result buffer, for 13 and 14.
+ * then the result buffer, for 13.
  *
  * A regrading is refused by these and 18. The sheet is checked first in the same way, its own plan
  * and its records, for 1 to 12; then the second plan, for 18: its length is not HATMUYON_PLAN_SIZE,
- * its mark not that of a plan, or one of 2 to 5 applies to it; then the result buffer, for 13 and 14.
+ * its mark not that of a plan, or one of 2 to 5 applies to it; then the result buffer, for 13.
  *
  * A mold sheet is refused by 1, 6, 7, 12, 13, 16 and 17. The opening is checked first, for 1 and 16;
  * then the records in the same way, for 6, 7, 12, 17 in this order; then the result buffer, for 13.
@@ -195,7 +195,7 @@ enum hatmuyon_standing {
  *   13    result buffer shorter than 5 times the units
  *
  * 15 is answered by the printing program alone, for an input above 65,536 bytes. 19 is answered by a
- * look-up, whose numbers are apart from these.
+ * look-up, whose numbers are apart from these. 14 is not used again.
  */
 enum hatmuyon_number {
     HATMUYON_ACCEPTED = 0,
@@ -212,7 +212,6 @@ enum hatmuyon_number {
     HATMUYON_REFUSED_SAME_GRADE = 11,               /* new grade equals the one designated just before this record */
     HATMUYON_REFUSED_TOO_MANY_UNITS = 12,           /* a unit after the 1,000th */
     HATMUYON_REFUSED_RESULT_BUFFER_TOO_SHORT = 13,  /* result buffer shorter than 32 times the units */
-    HATMUYON_REFUSED_CUSUM_TOO_LARGE = 14,          /* a CuSum too large for two bytes; no sheet leads to it */
     HATMUYON_REFUSED_BAD_LEVEL_ROW = 16,            /* level row above 5 */
     HATMUYON_REFUSED_TOO_MANY_POSITIVE_FIELDS = 17, /* positive fields above 25 */
     HATMUYON_REFUSED_BAD_SECOND_PLAN = 18           /* second plan not exactly one plan record free of 2 to 5 */

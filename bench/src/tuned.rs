@@ -7,8 +7,6 @@
 //! no `map` of an array in the paths, which is not inlined, CuSums and overshoots written eight bytes
 //! at a time, and a table that has every code by its type, so that none is looked for behind its end.
 //!
-//! Refusal 14 is left out: no limit of an accepted plan is too large for two bytes.
-//!
 //! A regrading, by [`Tuned::regrade`], is checked in the same way; its one path takes in the worst
 //! grade by code as it writes. A mold sheet is read twice, too, by [`grade_mold`]. Of one code the
 //! results are read once, by [`find`], up to its first Substandard portion.

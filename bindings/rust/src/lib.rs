@@ -380,7 +380,7 @@ impl Standing {
 /// ```
 #[derive(Clone, Copy, Debug, PartialEq, Eq, Hash)]
 pub struct Refusal {
-    /// The number of the first ground met. From an archive of this version it is 1 to 14, and from
+    /// The number of the first ground met. From an archive of this version it is 1 to 13, and from
     /// [`regrade`] also 18.
     pub number: u32,
     /// 0 for a ground in the plan or in the second plan, the offset of the record's mark for one in a
@@ -422,7 +422,8 @@ fn say_refused(
 ///
 /// The plan is checked first, for grounds 1 to 5 in turn; then the records from left to right, each
 /// wholly before the next, for 6, 7, 12, 8, 9, 10, 11 in this order; then, by [`regrade`] alone, the
-/// second plan, for 18; then the result buffer. More grounds may follow.
+/// second plan, for 18; then the result buffer, for 13. More grounds may follow; number 14 is not used
+/// again.
 #[derive(Clone, Copy, Debug, PartialEq, Eq, Hash)]
 #[repr(u32)]
 #[non_exhaustive]
@@ -453,8 +454,6 @@ pub enum Ground {
     TooManyUnits = 12,
     /// The result buffer is shorter than 32 times the units.
     ResultBufferTooShort = 13,
-    /// A CuSum is too large for two bytes; no sheet leads to it.
-    CusumTooLarge = 14,
     /// The second plan is not exactly one plan record free of 2 to 5: it has another length than
     /// [`PLAN_SIZE`] or another mark than [`PLAN_MARK`], or one of these grounds applies to it. From
     /// [`regrade`] alone, never from [`grade`].
@@ -477,11 +476,10 @@ impl Ground {
         Ground::SameGrade,
         Ground::TooManyUnits,
         Ground::ResultBufferTooShort,
-        Ground::CusumTooLarge,
         Ground::BadSecondPlan,
     ];
 
-    /// The number of the refusal, 1 to 14 or 18.
+    /// The number of the refusal, 1 to 13 or 18.
     pub fn number(self) -> u32 {
         self as u32
     }
@@ -517,7 +515,6 @@ impl fmt::Display for Ground {
             Ground::SameGrade => "new grade equals the one designated just before this record",
             Ground::TooManyUnits => "a unit after the 1,000th",
             Ground::ResultBufferTooShort => "result buffer shorter than 32 times the units",
-            Ground::CusumTooLarge => "a CuSum too large for two bytes",
             Ground::BadSecondPlan => "second plan not exactly one plan record free of 2 to 5",
         })
     }
@@ -546,7 +543,7 @@ mod tests {
         for number in [2, 5, 8, 11, 14, 18] {
             assert_eq!(MoldRefusal { number, offset: 0 }.ground(), None);
         }
-        for number in [16, 17] {
+        for number in [14, 16, 17] {
             assert_eq!(Refusal { number, offset: 0 }.ground(), None);
         }
         // That of a look-up.

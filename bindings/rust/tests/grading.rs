@@ -188,7 +188,7 @@ fn every_refusal() {
     for room in [0, 1, RESULT_SIZE, 2 * RESULT_SIZE - 1] {
         assert_eq!(refused(&two, room), (13, PLAN_SIZE + 2 * UNIT_SIZE));
     }
-    // Every ground but 14, to which no sheet leads, and 18, which is that of a regrading.
+    // Every ground but 18, which is that of a regrading.
     let mut met: Vec<u32> = cases.iter().map(|(number, _, _)| *number).collect();
     met.push(13);
     met.sort();
@@ -247,13 +247,13 @@ fn records_from_both_ends() {
 
 #[test]
 fn grounds_and_errors() {
-    for (number, &ground) in (1..=14).chain([18]).zip(Ground::ALL) {
+    for (number, &ground) in (1..=13).chain([18]).zip(Ground::ALL) {
         assert_eq!(ground.number(), number);
         assert_eq!(Ground::from_number(number), Some(ground));
         assert!(!ground.to_string().is_empty());
     }
-    assert_eq!(Ground::ALL.len(), 15);
-    for number in [0, 15, 16, 17, 19] {
+    assert_eq!(Ground::ALL.len(), 14);
+    for number in [0, 14, 15, 16, 17, 19] {
         assert_eq!(Ground::from_number(number), None);
     }
     let error: Box<dyn std::error::Error> = Box::new(grade(DAMAGED, &mut []).unwrap_err());

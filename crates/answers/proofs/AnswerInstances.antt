@@ -44,7 +44,7 @@ stopped listed =
     ⊎-elim (λ (none, at). absurd (omega arith))
     (⊎-elim (λ (from, to, of-plan, at). absurd (omega arith))
     (⊎-elim (λ (from, to, stop). stop)
-    (λ (from, to, at). absurd (omega arith)))) listed
+    (λ (is-13, at). absurd (omega arith)))) listed
 
 -- by its offset that record is none of the first three
 at-third : (stop : ℕ) → 95 ≡ offset ground11ByLastRedesignation stop → 3 ≤ stop

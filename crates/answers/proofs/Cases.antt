@@ -1,8 +1,8 @@
 -- How an answer about a tally sheet comes about: by the check of the sheet, or where that passes by the room in the result buffer.
--- Number 14 never applies. What is known of a sheet that passes is a parameter: a regrading has the same cases where its second plan is right.
+-- What is known of a sheet that passes is a parameter: a regrading has the same cases where its second plan is right.
 use Prim.Native.Nat.{ℕ, _*_, _≤_, _<_}
 use mathlib.Core.Path.{_≡_, refl}
-use mathlib.Core.Bool.{Bool, true, false, true≢false}
+use mathlib.Core.Bool.{Bool, true, false}
 use mathlib.Core.List.{List}
 use mathlib.Core.Logic.{⊎-elim}
 use native.Mathlib.Omega.{arith}
@@ -20,7 +20,6 @@ use Rattle.results.specs.Record.{resultSize}
 use Rattle.outcome.specs.declared.Answer.{Answer}
 use Rattle.outcome.specs.Outcome.{acceptedAs, refusedAs, refusal}
 use Rattle.tally.specs.Outcome.{acceptance, outcomeBy, outcome}
-use Rattle.tally.proofs.Overfull.{none-overfull}
 
 pub data Case (bytes buffer : List ℕ) (Passed : ℕ → Type 0) : Answer → Type 0 where
   by-check : (number at : ℕ) → verdict bytes ≡ Refused number at → Case bytes buffer Passed (refusedAs number at)
@@ -30,13 +29,12 @@ pub data Case (bytes buffer : List ℕ) (Passed : ℕ → Type 0) : Answer → T
       → Case bytes buffer Passed (acceptedAs units (length bytes))
 
 module _ (bytes buffer : List ℕ) {Passed : ℕ → Type 0} where
-  -- by the tests of numbers 13 and 14, whatever an acceptance leaves in the buffer
-  pub by-buffer : (records units : ℕ) → Passed records → units ≡ unitsBefore bytes records → (full : Bool) → full ≡ false → (results : List ℕ)
+  -- by the test of number 13, whatever an acceptance leaves in the buffer
+  pub by-buffer : (records units : ℕ) → Passed records → units ≡ unitsBefore bytes records → (results : List ℕ)
       → Case bytes buffer Passed (pick (ltb (length buffer) (resultSize * units)) (refusal 13 (length bytes) buffer)
-      (pick full (refusal 14 (length bytes) buffer) (record { answer = acceptedAs units (length bytes); buffer = results })) .answer)
+      (record { answer = acceptedAs units (length bytes); buffer = results }) .answer)
   unfolding pick
-  by-buffer records units passed counted true none results = absurd (true≢false none)
-  by-buffer records units passed counted false none results = go (ltb (length buffer) (resultSize * units)) refl
+  by-buffer records units passed counted results = go (ltb (length buffer) (resultSize * units)) refl
     where
       go : (short : Bool) → ltb (length buffer) (resultSize * units) ≡ short
           → Case bytes buffer Passed
@@ -59,7 +57,7 @@ module _ (bytes buffer : List ℕ) where
   case-by (Refused number at) says = by-check number at says
   case-by (Accepted records units) says =
       let (passes, counted) = facts bytes records units says in
-      by-buffer bytes buffer records units passes counted _ (none-overfull bytes records passes records) _
+      by-buffer bytes buffer records units passes counted _
 
   pub outcome-case : Case bytes buffer (Facts bytes) (outcome bytes buffer .answer)
   unfolding outcome

@@ -2,32 +2,22 @@
 -- What the check computes, with the first row of each place, whatever rows come behind the records; then by the cases of the answer.
 use Prim.Native.Nat.{ℕ, _*_, _≤_, _<_}
 use mathlib.Core.Path.{_≡_, refl, sym, _∙_, ap, subst, subst⁻¹}
-use mathlib.Core.Bool.{false}
 use mathlib.Core.List.{List}
 use native.Mathlib.Omega.{arith}
 use lib.Dec.{lit<}
 use lib.ListN.{length}
-use Rattle.cusum.specs.declared.Cusum.{Cusum}
-use Rattle.units.specs.Words.{classes, tenthsIn}
-use Rattle.units.specs.declared.SampleUnit.{SampleUnit}
-use Rattle.rules.specs.Sheet.{gradedAt}
-use Rattle.layout.specs.Layout.{sampleUnitAt, offset, entryAt, unitsBefore}
+use Rattle.layout.specs.Layout.{offset, unitsBefore}
 use Rattle.layout.proofs.Offsets.{offset-order, offset-same, offset-ge}
-use Rattle.layout.proofs.Units.{entry-unit}
 use Rattle.sheet.specs.Refusals.{planRefusal, recordRefusal}
 use Rattle.sheet.specs.declared.Verdict.{Verdict}
 use Rattle.sheet.proofs.Accepted.{Facts, Says, verdict-says}
 use Rattle.results.specs.Record.{resultSize}
-use Rattle.recording.specs.Sheet.{sheetOf}
 use Rattle.outcome.specs.declared.Answer.{Answer}
 use Rattle.outcome.specs.Outcome.{Outcome, refusedAs}
-use Rattle.tally.specs.Outcome.{overfullAmong}
-use Rattle.tally.proofs.Overfull.{none-overfull, fits-among}
 use Rattle.grounds.specs.Grounds.{Grounds, rowsAbove, RefusedByGround}
 use Rattle.grounds.proofs.FirstRow.{InRows}
 use Rattle.grounds.proofs.Decided.{Computes, refused-by-check, refused-by-buffer, accepted-by}
-use Rattle.answers.specs.Grounds.{IsUnit, FilledBy, BufferShort, PlanRow, RecordRow, BufferRow, row13, row14, rows, sheetGrounds, WholeSheet, Demand2Grounds}
-use Rattle.answers.proofs.Rows.{is-unit-mark}
+use Rattle.answers.specs.Grounds.{FilledBy, BufferShort, PlanRow, RecordRow, BufferRow, row13, rows, sheetGrounds, WholeSheet, Demand2Grounds}
 use Rattle.answers.proofs.FirstRow.{plan-in-rows, plan-rows, plan-first, record-in-rows, record-rows, record-first}
 use Rattle.answers.proofs.Cases.{Case, by-check, without-room, with-room, outcome-case}
 
@@ -94,7 +84,7 @@ module _ (bytes buffer : List ℕ) {Passed Row : ℕ → Type 0} (behind : RowsB
       accepted-by computes (WholeSheet bytes) records (facts .plan) (facts .end) (λ j before. facts .within j before .1)
       answer refl (behind .none records passed room) (record { records = records; filled = facts .end; counted = counted })
 
--- ---- 13 and 14
+-- ---- 13
 
 module _ (bytes : List ℕ) (records : ℕ) (facts : Facts bytes records) where
   same-records : (k : ℕ) → FilledBy bytes k → k ≡ records
@@ -103,40 +93,23 @@ module _ (bytes : List ℕ) (records : ℕ) (facts : Facts bytes records) where
   pub not-short : (buffer : List ℕ) → resultSize * unitsBefore bytes records ≤ length buffer → BufferShort bytes buffer → ⊥
   not-short buffer room h = omega (arith, h .short, ap (unitsBefore bytes) (same-records (h .records) (h .filled)))
 
-  -- no CuSum is above two bytes where none is overfull, whatever CuSums the units of so many records make
-  pub not-above : (cusums : ℕ → ℕ → SampleUnit → List Cusum) → overfullAmong (cusums records) (entryAt bytes) records ≡ false
-      → (k i class : ℕ) → FilledBy bytes k → i < k → IsUnit bytes i → class < length classes
-      → 65535 < tenthsIn (cusums k i (sampleUnitAt bytes (offset bytes i))) class → ⊥
-  not-above cusums none k i class filled inside is-unit a-class above =
-      let same = same-records k filled in
-      let unit = sampleUnitAt bytes (offset bytes i) in
-      let fits = fits-among (cusums records) (entryAt bytes) records none i (omega (arith, inside, same)) unit
-      (entry-unit bytes i (is-unit-mark bytes i is-unit)) class a-class in
-      omega (arith, fits, above, ap (λ (n : ℕ). tenthsIn (cusums n i unit) class) same)
-
 -- ---- of a grading
 
 module _ (bytes buffer : List ℕ) where
   in-rows : (n : ℕ) → BufferRow bytes buffer n → InRows rows n
   unfolding rowsAbove
   in-rows n (row13 h) = (lit< tt, refl)
-  in-rows n (row14 h) = (lit< tt, refl)
 
   from-13 : (n : ℕ) → BufferRow bytes buffer n → rowsAbove rows 13 ≤ rowsAbove rows n
   unfolding rowsAbove
   from-13 n (row13 h) = omega arith
-  from-13 n (row14 h) = omega arith
 
   behind-records : (n : ℕ) → BufferRow bytes buffer n → 12 ≤ rowsAbove rows n
   unfolding rowsAbove
   behind-records n applies = omega (arith, from-13 n applies)
 
   has-room : (records : ℕ) → Facts bytes records → resultSize * unitsBefore bytes records ≤ length buffer → (n : ℕ) → BufferRow bytes buffer n → ⊥
-  unfolding sheetOf
   has-room records facts room n (row13 h) = not-short bytes records facts buffer room h
-  has-room records facts room n (row14 h) =
-      not-above bytes records facts (λ k i unit. gradedAt (sheetOf bytes k) i unit .cusums) (none-overfull bytes records facts records)
-      (h .records) (h .i) (h .class) (h .filled) (h .inside) (h .is-unit) (h .a-class) (h .above)
 
   behind : RowsBehind bytes buffer (Facts bytes) (BufferRow bytes buffer)
   behind =

@@ -3,6 +3,5 @@ pub mod Listed
 pub mod Rows
 pub mod FirstRow
 pub mod Grounds
-pub mod NeverOverfull
 pub mod Bytes
 pub mod AnswerInstances

@@ -18,7 +18,7 @@ pub listed-case : (bytes buffer : List ℕ) {Passed : ℕ → Type 0} (answer : 
 unfolding Listed
 listed-case bytes buffer answer (by-check number at says) =
     ⊎-elim (λ of-plan. inr (inl of-plan)) (λ (from, to, stops). inr (inr (inl (from, to, stopped _ _ _ _ _ stops)))) (refusal-listed bytes number at says)
-listed-case bytes buffer answer (without-room records passed short) = inr (inr (inr (omega arith, omega arith, refl)))
+listed-case bytes buffer answer (without-room records passed short) = inr (inr (inr (refl, refl)))
 listed-case bytes buffer answer (with-room records units passed counted room) = inl (refl, refl)
 
 pub demand1 : Demand1

@@ -14,14 +14,14 @@ use Rattle.outcome.specs.declared.Answer.{Answer}
 use Rattle.outcome.specs.Outcome.{Outcome}
 use Rattle.tally.specs.Outcome.{outcome, recordsIn}
 
--- accepted: 0 and the sheet's length. Refused: 1 to 5 for the plan, at offset 0; 6 to 12 for a record, at its mark; 13 or 14 for the
--- result buffer, at the sheet's length
+-- accepted: 0 and the sheet's length. Refused: 1 to 5 for the plan, at offset 0; 6 to 12 for a record, at its mark; 13 for the result
+-- buffer, at the sheet's length
 unfoldable pub Listed : List ℕ → Answer → Type 0
 Listed bytes answer =
     ((answer .number ≡ 0) × (answer .offset ≡ length bytes))
     ⊎ (((1 ≤ answer .number) × (answer .number ≤ 5) × (answer .number ≡ planRefusal bytes) × (answer .offset ≡ 0))
     ⊎ (((6 ≤ answer .number) × (answer .number ≤ 12) × StoppedAt (offset bytes) (recordRefusal bytes) (length bytes) (answer .number) (answer .offset))
-    ⊎ ((13 ≤ answer .number) × (answer .number ≤ 14) × (answer .offset ≡ length bytes))))
+    ⊎ ((answer .number ≡ 13) × (answer .offset ≡ length bytes))))
 
 -- for every sheet and every buffer, as the promise of `grade` says
 abbrev pub Demand1 : Type 0

@@ -1,19 +1,17 @@
 -- Demand 2, the grounds: "no sheet is refused unless a listed ground applies". The table of paper 01, "Where a sheet is turned away",
 -- said a second time: each row by what stands in the bytes; which is returned is said in `Grounds` of the crate grounds. The rows
 -- take from the definitions that the code meets how many grades and classes a plan has, sizes and offsets, all of which `Bytes` gives in the
--- paper's numbers, and for number 14 the rules of grading; the answer and the `outcome` are what the promise of `grade` speaks of.
+-- paper's numbers; the answer and the `outcome` are what the promise of `grade` speaks of.
 use Prim.Native.Nat.{ℕ, _+_, _*_, _≤_, _<_}
 use mathlib.Core.Path.{_≡_}
 use mathlib.Core.List.{List, [], _∷_}
 use mathlib.Core.Logic.{_⊎_}
 use lib.ListN.{length}
 use Rattle.encoding.specs.Bytes.{byte, number}
-use Rattle.units.specs.Words.{plannedGrades, classes, tenthsIn}
-use Rattle.rules.specs.Sheet.{gradedAt}
-use Rattle.layout.specs.Layout.{gradeOffset, tableOffset, toleranceOffset, limitOffset, planNumbersSize, planSize, kinds, countOffset, prerequisiteOffset, recoverableOffset, unitSize, redesignationSize, sampleUnitAt, offset, unitsBefore}
-use Rattle.grounds.specs.Grounds.{Grounds, Ground, RefusedByGround}
+use Rattle.units.specs.Words.{plannedGrades, classes}
+use Rattle.layout.specs.Layout.{gradeOffset, tableOffset, toleranceOffset, limitOffset, planNumbersSize, planSize, kinds, countOffset, prerequisiteOffset, recoverableOffset, unitSize, redesignationSize, offset, unitsBefore}
+use Rattle.grounds.specs.Grounds.{Grounds, RefusedByGround}
 use Rattle.results.specs.Record.{resultSize}
-use Rattle.recording.specs.Sheet.{sheetOf}
 use Rattle.outcome.specs.declared.Answer.{Answer}
 use Rattle.outcome.specs.Outcome.{Outcome}
 use Rattle.tally.specs.Outcome.{outcome}
@@ -147,17 +145,6 @@ pub record BufferShort (bytes buffer : List ℕ) : Type 0 where
   pub filled : FilledBy bytes records
   pub short : length buffer < resultSize * unitsBefore bytes records
 
--- 14: "a CuSum too large for two bytes"
-pub record CusumAbove (bytes : List ℕ) : Type 0 where
-  pub records : ℕ
-  pub filled : FilledBy bytes records
-  pub i : ℕ
-  pub inside : i < records
-  pub is-unit : IsUnit bytes i
-  pub class : ℕ
-  pub a-class : class < length classes
-  pub above : 65535 < tenthsIn (gradedAt (sheetOf bytes records) i (sampleUnitAt bytes (offset bytes i)) .cusums) class
-
 -- ---- the table: place, number, condition
 
 pub data PlanRow (bytes : List ℕ) : ℕ → Type 0 where
@@ -178,12 +165,11 @@ pub data RecordRow (bytes : List ℕ) (i : ℕ) : ℕ → Type 0 where
 
 pub data BufferRow (bytes buffer : List ℕ) : ℕ → Type 0 where
   row13 : BufferShort bytes buffer → BufferRow bytes buffer 13
-  row14 : CusumAbove bytes → BufferRow bytes buffer 14
 
 -- the numbers from the first row of the table to its last, for gradings and regradings; 18, between the records and the result buffer, is a
--- row of regradings alone
+-- row of regradings alone. "Number 14 is not used again."
 abbrev pub rows : List ℕ
-rows = 1 ∷ 2 ∷ 3 ∷ 4 ∷ 5 ∷ 6 ∷ 7 ∷ 12 ∷ 8 ∷ 9 ∷ 10 ∷ 11 ∷ 18 ∷ 13 ∷ 14 ∷ []
+rows = 1 ∷ 2 ∷ 3 ∷ 4 ∷ 5 ∷ 6 ∷ 7 ∷ 12 ∷ 8 ∷ 9 ∷ 10 ∷ 11 ∷ 18 ∷ 13 ∷ []
 
 -- the plan opens the sheet
 abbrev pub sheetGrounds : List ℕ → List ℕ → Grounds
@@ -211,10 +197,3 @@ Demand2Grounds =
     (bytes buffer : List ℕ) (answer : Answer) (results : List ℕ)
     → _≡_ {A = Outcome} (record { answer = answer; buffer = results }) (outcome bytes buffer)
     → RefusedByGround (sheetGrounds bytes buffer) (WholeSheet bytes) answer
-
--- number 14 never applies: no CuSum is above its L, and no L of a plan that is not refused above 9,999
-pub record NeverOverfull : Type 0 where
-  -- the row is never met where none from 1 to 13 is
-  pub never-met : (bytes buffer : List ℕ) → ((number at : ℕ) → number ≤ 13 → Ground (sheetGrounds bytes buffer) number at → ⊥) → CusumAbove bytes → ⊥
-  -- and the number is never answered
-  pub never-answered : (bytes buffer : List ℕ) → outcome bytes buffer .answer .number ≡ 14 → ⊥

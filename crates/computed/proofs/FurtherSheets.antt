@@ -5,7 +5,7 @@ use mathlib.Core.Path.{refl}
 use lib.Dec.{lit<}
 use Rattle.tally.proofs.Computing.{computing}
 use Rattle.computed.specs.WorkedCases.{peachPlan}
-use Rattle.computed.specs.FurtherSheets.{BreakSheets, RedesignationSheets, UnitSheets, StepThreeSheets, LowerPlanSheets, OvershootSheets, FewerDefectSheets, RefusedSheets, FullSheets, FurtherSheets, ground12, grounds12And8, grounds7And12, breakBetweenUnits, breakBetweenUnitsResults, breakBetweenFailures, breakBetweenFailuresResults, breakInStepThree, breakInStepThreeResults, breakInRun, breakInRunResults, breakWithoutPlan, breakWithoutPlanResults, noUnit, noUnitResults, noUnitButRecords, noUnitButRecordsResults, redesignationOutsideStepThree, redesignationOutsideStepThreeResults, redesignationInStepThree, redesignationInStepThreeResults, redesignationInRun, redesignationInRunResults, redesignationToLowerGrade, redesignationToLowerGradeResults, redesignationBelowLowerGrade, redesignationBelowLowerGradeResults, redesignationWithoutPlan, redesignationWithoutPlanResults, redesignationAfterStepThree, redesignationAfterStepThreeResults, everyKindOfRecord, everyKindOfRecordResults, bestLowerGrade, bestLowerGradeResults, designatedCFailedTwice, designatedCFailedTwiceResults, prerequisiteSubstandard, prerequisiteSubstandardResults, prerequisitesOfTwoFailures, prerequisitesOfTwoFailuresResults, totalAloneFails, totalAloneFailsResults, twoClassesFailInTurn, twoClassesFailInTurnResults, unitThatMeetsBetweenFailures, unitThatMeetsBetweenFailuresResults, codeMetAgain, codeMetAgainResults, startEqualToLimit, startEqualToLimitResults, cusumsOfTwoBytes, cusumsOfTwoBytesResults, p1InBytes, p1InBytesResults, failureInStepThree, failureInStepThreeResults, lowerThanPlanInForce, lowerThanPlanInForceResults, aboveTolerance, aboveToleranceResults, cusumAboveZero, cusumAboveZeroResults, recovery, recoveryResults, recoveryWithoutPlan, recoveryWithoutPlanResults, afterStepThree, afterStepThreeResults, p7AndP8InBytes, p7AndP8InBytesResults, everyLowerPlan, everyLowerPlanResults, oneFailureBehindStartOfStepThree, oneFailureBehindStartOfStepThreeResults, threeFailuresInStepThree, threeFailuresInStepThreeResults, worseFailureFirstInStepThree, worseFailureFirstInStepThreeResults, worseFailureSecondInStepThree, worseFailureSecondInStepThreeResults, unitThatMeetsBetweenFailuresInStepThree, unitThatMeetsBetweenFailuresInStepThreeResults, breakBetweenFailuresInStepThree, breakBetweenFailuresInStepThreeResults, redesignationBetweenFailuresInStepThree, redesignationBetweenFailuresInStepThreeResults, endOfStepThreeBetweenFailures, endOfStepThreeBetweenFailuresResults, runBeforeAnotherLowerPlan, runBeforeAnotherLowerPlanResults, recoveryUnderAnotherLowerPlan, recoveryUnderAnotherLowerPlanResults, redesignationAfterAnotherLowerPlan, redesignationAfterAnotherLowerPlanResults, overshootAboveTwoBytes, overshootAboveTwoBytesResults, overshootsAroundTwoBytes, overshootsAroundTwoBytesResults, overshootsInEveryClass, overshootsInEveryClassResults, rawValueAtLimit, rawValueAtLimitResults, noOvershootWithoutPlan, noOvershootWithoutPlanResults, oneMinorDefectFewer, oneMinorDefectFewerResults, oneSevereDefectFewer, oneSevereDefectFewerResults, noDefectInPlaceOfOne, noDefectInPlaceOfOneResults, planCutShort, grounds1And2, grounds2And3, grounds3And4, grounds4And5, ground5BySum, ground5ByTolerance, oneByteLeft, secondPlan, markAlone, grounds7And8, grounds8And9, ground9Before8, recoverableAbove1, newGradeAboveC, ground11Before10, ground11ByLastRedesignation, ground11InStepThree, bufferWithoutRoom}
+use Rattle.computed.specs.FurtherSheets.{BreakSheets, RedesignationSheets, UnitSheets, StepThreeSheets, LowerPlanSheets, OvershootSheets, FewerDefectSheets, RefusedSheets, FullSheets, FurtherSheets, largestPlan, ground12, grounds12And8, grounds7And12, breakBetweenUnits, breakBetweenUnitsResults, breakBetweenFailures, breakBetweenFailuresResults, breakInStepThree, breakInStepThreeResults, breakInRun, breakInRunResults, breakWithoutPlan, breakWithoutPlanResults, noUnit, noUnitResults, noUnitButRecords, noUnitButRecordsResults, redesignationOutsideStepThree, redesignationOutsideStepThreeResults, redesignationInStepThree, redesignationInStepThreeResults, redesignationInRun, redesignationInRunResults, redesignationToLowerGrade, redesignationToLowerGradeResults, redesignationBelowLowerGrade, redesignationBelowLowerGradeResults, redesignationWithoutPlan, redesignationWithoutPlanResults, redesignationAfterStepThree, redesignationAfterStepThreeResults, everyKindOfRecord, everyKindOfRecordResults, bestLowerGrade, bestLowerGradeResults, designatedCFailedTwice, designatedCFailedTwiceResults, prerequisiteSubstandard, prerequisiteSubstandardResults, prerequisitesOfTwoFailures, prerequisitesOfTwoFailuresResults, totalAloneFails, totalAloneFailsResults, twoClassesFailInTurn, twoClassesFailInTurnResults, unitThatMeetsBetweenFailures, unitThatMeetsBetweenFailuresResults, codeMetAgain, codeMetAgainResults, startEqualToLimit, startEqualToLimitResults, cusumsOfTwoBytes, cusumsOfTwoBytesResults, largestCusums, largestCusumsResults, p1InBytes, p1InBytesResults, failureInStepThree, failureInStepThreeResults, lowerThanPlanInForce, lowerThanPlanInForceResults, aboveTolerance, aboveToleranceResults, cusumAboveZero, cusumAboveZeroResults, recovery, recoveryResults, recoveryWithoutPlan, recoveryWithoutPlanResults, afterStepThree, afterStepThreeResults, p7AndP8InBytes, p7AndP8InBytesResults, everyLowerPlan, everyLowerPlanResults, oneFailureBehindStartOfStepThree, oneFailureBehindStartOfStepThreeResults, threeFailuresInStepThree, threeFailuresInStepThreeResults, worseFailureFirstInStepThree, worseFailureFirstInStepThreeResults, worseFailureSecondInStepThree, worseFailureSecondInStepThreeResults, unitThatMeetsBetweenFailuresInStepThree, unitThatMeetsBetweenFailuresInStepThreeResults, breakBetweenFailuresInStepThree, breakBetweenFailuresInStepThreeResults, redesignationBetweenFailuresInStepThree, redesignationBetweenFailuresInStepThreeResults, endOfStepThreeBetweenFailures, endOfStepThreeBetweenFailuresResults, runBeforeAnotherLowerPlan, runBeforeAnotherLowerPlanResults, recoveryUnderAnotherLowerPlan, recoveryUnderAnotherLowerPlanResults, redesignationAfterAnotherLowerPlan, redesignationAfterAnotherLowerPlanResults, overshootAboveTwoBytes, overshootAboveTwoBytesResults, overshootsAroundTwoBytes, overshootsAroundTwoBytesResults, overshootsInEveryClass, overshootsInEveryClassResults, rawValueAtLimit, rawValueAtLimitResults, noOvershootWithoutPlan, noOvershootWithoutPlanResults, oneMinorDefectFewer, oneMinorDefectFewerResults, oneSevereDefectFewer, oneSevereDefectFewerResults, noDefectInPlaceOfOne, noDefectInPlaceOfOneResults, planCutShort, grounds1And2, grounds2And3, grounds3And4, grounds4And5, ground5BySum, ground5ByTolerance, oneByteLeft, secondPlan, markAlone, grounds7And8, grounds8And9, ground9Before8, recoverableAbove1, newGradeAboveC, ground11Before10, ground11ByLastRedesignation, ground11InStepThree, bufferWithoutRoom}
 use Rattle.computed.proofs.Computed.{accepts, without-room}
 use Rattle.computed.proofs.FullSheet.{cut-short, one-too-many}
 
@@ -14,13 +14,13 @@ unfolding computing peachPlan breakBetweenUnits breakBetweenUnitsResults breakBe
     breakInStepThreeResults breakInRun breakInRunResults breakWithoutPlan breakWithoutPlanResults noUnit noUnitResults noUnitButRecords noUnitButRecordsResults
 break-sheets =
     record {
-      break-between-units = λ buffer holds. accepts breakBetweenUnits buffer 4 3 refl holds refl;
-      break-between-failures = λ buffer holds. accepts breakBetweenFailures buffer 4 3 refl holds refl;
-      break-in-step-three = λ buffer holds. accepts breakInStepThree buffer 5 4 refl holds refl;
-      break-in-run = λ buffer holds. accepts breakInRun buffer 7 6 refl holds refl;
-      break-without-plan = λ buffer holds. accepts breakWithoutPlan buffer 8 7 refl holds refl;
-      no-unit = λ buffer holds. accepts noUnit buffer 0 0 refl holds refl;
-      no-unit-but-records = λ buffer holds. accepts noUnitButRecords buffer 4 0 refl holds refl;
+      break-between-units = λ buffer holds. accepts breakBetweenUnits buffer 4 3 refl holds;
+      break-between-failures = λ buffer holds. accepts breakBetweenFailures buffer 4 3 refl holds;
+      break-in-step-three = λ buffer holds. accepts breakInStepThree buffer 5 4 refl holds;
+      break-in-run = λ buffer holds. accepts breakInRun buffer 7 6 refl holds;
+      break-without-plan = λ buffer holds. accepts breakWithoutPlan buffer 8 7 refl holds;
+      no-unit = λ buffer holds. accepts noUnit buffer 0 0 refl holds;
+      no-unit-but-records = λ buffer holds. accepts noUnitButRecords buffer 4 0 refl holds;
     }
 
 redesignation-sheets : RedesignationSheets
@@ -30,34 +30,36 @@ unfolding computing peachPlan redesignationOutsideStepThree redesignationOutside
     redesignationAfterStepThree redesignationAfterStepThreeResults everyKindOfRecord everyKindOfRecordResults
 redesignation-sheets =
     record {
-      redesignation-outside-step-three = λ buffer holds. accepts redesignationOutsideStepThree buffer 4 3 refl holds refl;
-      redesignation-in-step-three = λ buffer holds. accepts redesignationInStepThree buffer 5 4 refl holds refl;
-      redesignation-in-run = λ buffer holds. accepts redesignationInRun buffer 8 7 refl holds refl;
-      redesignation-to-lower-grade = λ buffer holds. accepts redesignationToLowerGrade buffer 5 4 refl holds refl;
-      redesignation-below-lower-grade = λ buffer holds. accepts redesignationBelowLowerGrade buffer 5 4 refl holds refl;
-      redesignation-without-plan = λ buffer holds. accepts redesignationWithoutPlan buffer 7 6 refl holds refl;
-      redesignation-after-step-three = λ buffer holds. accepts redesignationAfterStepThree buffer 7 6 refl holds refl;
-      every-kind-of-record = λ buffer holds. accepts everyKindOfRecord buffer 9 6 refl holds refl;
+      redesignation-outside-step-three = λ buffer holds. accepts redesignationOutsideStepThree buffer 4 3 refl holds;
+      redesignation-in-step-three = λ buffer holds. accepts redesignationInStepThree buffer 5 4 refl holds;
+      redesignation-in-run = λ buffer holds. accepts redesignationInRun buffer 8 7 refl holds;
+      redesignation-to-lower-grade = λ buffer holds. accepts redesignationToLowerGrade buffer 5 4 refl holds;
+      redesignation-below-lower-grade = λ buffer holds. accepts redesignationBelowLowerGrade buffer 5 4 refl holds;
+      redesignation-without-plan = λ buffer holds. accepts redesignationWithoutPlan buffer 7 6 refl holds;
+      redesignation-after-step-three = λ buffer holds. accepts redesignationAfterStepThree buffer 7 6 refl holds;
+      every-kind-of-record = λ buffer holds. accepts everyKindOfRecord buffer 9 6 refl holds;
     }
 
 unit-sheets : UnitSheets
 unfolding computing peachPlan bestLowerGrade bestLowerGradeResults designatedCFailedTwice designatedCFailedTwiceResults prerequisiteSubstandard
     prerequisiteSubstandardResults prerequisitesOfTwoFailures prerequisitesOfTwoFailuresResults totalAloneFails totalAloneFailsResults
     twoClassesFailInTurn twoClassesFailInTurnResults unitThatMeetsBetweenFailures unitThatMeetsBetweenFailuresResults codeMetAgain codeMetAgainResults
-    startEqualToLimit startEqualToLimitResults cusumsOfTwoBytes cusumsOfTwoBytesResults p1InBytes p1InBytesResults
+    startEqualToLimit startEqualToLimitResults cusumsOfTwoBytes cusumsOfTwoBytesResults largestPlan largestCusums largestCusumsResults
+    p1InBytes p1InBytesResults
 unit-sheets =
     record {
-      best-lower-grade = λ buffer holds. accepts bestLowerGrade buffer 7 4 refl holds refl;
-      designated-c-failed-twice = λ buffer holds. accepts designatedCFailedTwice buffer 3 3 refl holds refl;
-      prerequisite-substandard = λ buffer holds. accepts prerequisiteSubstandard buffer 3 3 refl holds refl;
-      prerequisites-of-two-failures = λ buffer holds. accepts prerequisitesOfTwoFailures buffer 3 3 refl holds refl;
-      total-alone-fails = λ buffer holds. accepts totalAloneFails buffer 5 3 refl holds refl;
-      two-classes-fail-in-turn = λ buffer holds. accepts twoClassesFailInTurn buffer 3 3 refl holds refl;
-      unit-that-meets-between-failures = λ buffer holds. accepts unitThatMeetsBetweenFailures buffer 4 4 refl holds refl;
-      code-met-again = λ buffer holds. accepts codeMetAgain buffer 4 4 refl holds refl;
-      start-equal-to-limit = λ buffer holds. accepts startEqualToLimit buffer 2 2 refl holds refl;
-      cusums-of-two-bytes = λ buffer holds. accepts cusumsOfTwoBytes buffer 3 3 refl holds refl;
-      p1-in-bytes = λ buffer holds. accepts p1InBytes buffer 5 5 refl holds refl;
+      best-lower-grade = λ buffer holds. accepts bestLowerGrade buffer 7 4 refl holds;
+      designated-c-failed-twice = λ buffer holds. accepts designatedCFailedTwice buffer 3 3 refl holds;
+      prerequisite-substandard = λ buffer holds. accepts prerequisiteSubstandard buffer 3 3 refl holds;
+      prerequisites-of-two-failures = λ buffer holds. accepts prerequisitesOfTwoFailures buffer 3 3 refl holds;
+      total-alone-fails = λ buffer holds. accepts totalAloneFails buffer 5 3 refl holds;
+      two-classes-fail-in-turn = λ buffer holds. accepts twoClassesFailInTurn buffer 3 3 refl holds;
+      unit-that-meets-between-failures = λ buffer holds. accepts unitThatMeetsBetweenFailures buffer 4 4 refl holds;
+      code-met-again = λ buffer holds. accepts codeMetAgain buffer 4 4 refl holds;
+      start-equal-to-limit = λ buffer holds. accepts startEqualToLimit buffer 2 2 refl holds;
+      cusums-of-two-bytes = λ buffer holds. accepts cusumsOfTwoBytes buffer 3 3 refl holds;
+      largest-cusums = λ buffer holds. accepts largestCusums buffer 3 3 refl holds;
+      p1-in-bytes = λ buffer holds. accepts p1InBytes buffer 5 5 refl holds;
     }
 
 step-three-sheets : StepThreeSheets
@@ -66,14 +68,14 @@ unfolding computing peachPlan failureInStepThree failureInStepThreeResults lower
     afterStepThreeResults p7AndP8InBytes p7AndP8InBytesResults
 step-three-sheets =
     record {
-      failure-in-step-three = λ buffer holds. accepts failureInStepThree buffer 4 4 refl holds refl;
-      lower-than-plan-in-force = λ buffer holds. accepts lowerThanPlanInForce buffer 4 4 refl holds refl;
-      above-tolerance = λ buffer holds. accepts aboveTolerance buffer 6 6 refl holds refl;
-      cusum-above-zero = λ buffer holds. accepts cusumAboveZero buffer 6 6 refl holds refl;
-      recovery = λ buffer holds. accepts recovery buffer 6 6 refl holds refl;
-      recovery-without-plan = λ buffer holds. accepts recoveryWithoutPlan buffer 7 7 refl holds refl;
-      after-step-three = λ buffer holds. accepts afterStepThree buffer 7 7 refl holds refl;
-      p7-and-p8-in-bytes = λ buffer holds. accepts p7AndP8InBytes buffer 8 8 refl holds refl;
+      failure-in-step-three = λ buffer holds. accepts failureInStepThree buffer 4 4 refl holds;
+      lower-than-plan-in-force = λ buffer holds. accepts lowerThanPlanInForce buffer 4 4 refl holds;
+      above-tolerance = λ buffer holds. accepts aboveTolerance buffer 6 6 refl holds;
+      cusum-above-zero = λ buffer holds. accepts cusumAboveZero buffer 6 6 refl holds;
+      recovery = λ buffer holds. accepts recovery buffer 6 6 refl holds;
+      recovery-without-plan = λ buffer holds. accepts recoveryWithoutPlan buffer 7 7 refl holds;
+      after-step-three = λ buffer holds. accepts afterStepThree buffer 7 7 refl holds;
+      p7-and-p8-in-bytes = λ buffer holds. accepts p7AndP8InBytes buffer 8 8 refl holds;
     }
 
 lower-plan-sheets : LowerPlanSheets
@@ -86,18 +88,18 @@ unfolding computing peachPlan everyLowerPlan everyLowerPlanResults oneFailureBeh
     redesignationAfterAnotherLowerPlan redesignationAfterAnotherLowerPlanResults
 lower-plan-sheets =
     record {
-      every-lower-plan = λ buffer holds. accepts everyLowerPlan buffer 7 7 refl holds refl;
-      one-failure-behind-start-of-step-three = λ buffer holds. accepts oneFailureBehindStartOfStepThree buffer 4 4 refl holds refl;
-      three-failures-in-step-three = λ buffer holds. accepts threeFailuresInStepThree buffer 6 6 refl holds refl;
-      worse-failure-first-in-step-three = λ buffer holds. accepts worseFailureFirstInStepThree buffer 5 5 refl holds refl;
-      worse-failure-second-in-step-three = λ buffer holds. accepts worseFailureSecondInStepThree buffer 5 5 refl holds refl;
-      unit-that-meets-between-failures-in-step-three = λ buffer holds. accepts unitThatMeetsBetweenFailuresInStepThree buffer 6 6 refl holds refl;
-      break-between-failures-in-step-three = λ buffer holds. accepts breakBetweenFailuresInStepThree buffer 6 5 refl holds refl;
-      redesignation-between-failures-in-step-three = λ buffer holds. accepts redesignationBetweenFailuresInStepThree buffer 6 5 refl holds refl;
-      end-of-step-three-between-failures = λ buffer holds. accepts endOfStepThreeBetweenFailures buffer 6 5 refl holds refl;
-      run-before-another-lower-plan = λ buffer holds. accepts runBeforeAnotherLowerPlan buffer 8 8 refl holds refl;
-      recovery-under-another-lower-plan = λ buffer holds. accepts recoveryUnderAnotherLowerPlan buffer 8 8 refl holds refl;
-      redesignation-after-another-lower-plan = λ buffer holds. accepts redesignationAfterAnotherLowerPlan buffer 6 5 refl holds refl;
+      every-lower-plan = λ buffer holds. accepts everyLowerPlan buffer 7 7 refl holds;
+      one-failure-behind-start-of-step-three = λ buffer holds. accepts oneFailureBehindStartOfStepThree buffer 4 4 refl holds;
+      three-failures-in-step-three = λ buffer holds. accepts threeFailuresInStepThree buffer 6 6 refl holds;
+      worse-failure-first-in-step-three = λ buffer holds. accepts worseFailureFirstInStepThree buffer 5 5 refl holds;
+      worse-failure-second-in-step-three = λ buffer holds. accepts worseFailureSecondInStepThree buffer 5 5 refl holds;
+      unit-that-meets-between-failures-in-step-three = λ buffer holds. accepts unitThatMeetsBetweenFailuresInStepThree buffer 6 6 refl holds;
+      break-between-failures-in-step-three = λ buffer holds. accepts breakBetweenFailuresInStepThree buffer 6 5 refl holds;
+      redesignation-between-failures-in-step-three = λ buffer holds. accepts redesignationBetweenFailuresInStepThree buffer 6 5 refl holds;
+      end-of-step-three-between-failures = λ buffer holds. accepts endOfStepThreeBetweenFailures buffer 6 5 refl holds;
+      run-before-another-lower-plan = λ buffer holds. accepts runBeforeAnotherLowerPlan buffer 8 8 refl holds;
+      recovery-under-another-lower-plan = λ buffer holds. accepts recoveryUnderAnotherLowerPlan buffer 8 8 refl holds;
+      redesignation-after-another-lower-plan = λ buffer holds. accepts redesignationAfterAnotherLowerPlan buffer 6 5 refl holds;
     }
 
 overshoot-sheets : OvershootSheets
@@ -105,11 +107,11 @@ unfolding computing peachPlan overshootAboveTwoBytes overshootAboveTwoBytesResul
     overshootsInEveryClass overshootsInEveryClassResults rawValueAtLimit rawValueAtLimitResults noOvershootWithoutPlan noOvershootWithoutPlanResults
 overshoot-sheets =
     record {
-      overshoot-above-two-bytes = λ buffer holds. accepts overshootAboveTwoBytes buffer 1 1 refl holds refl;
-      overshoots-around-two-bytes = λ buffer holds. accepts overshootsAroundTwoBytes buffer 2 2 refl holds refl;
-      overshoots-in-every-class = λ buffer holds. accepts overshootsInEveryClass buffer 3 3 refl holds refl;
-      raw-value-at-limit = λ buffer holds. accepts rawValueAtLimit buffer 2 2 refl holds refl;
-      no-overshoot-without-plan = λ buffer holds. accepts noOvershootWithoutPlan buffer 3 3 refl holds refl;
+      overshoot-above-two-bytes = λ buffer holds. accepts overshootAboveTwoBytes buffer 1 1 refl holds;
+      overshoots-around-two-bytes = λ buffer holds. accepts overshootsAroundTwoBytes buffer 2 2 refl holds;
+      overshoots-in-every-class = λ buffer holds. accepts overshootsInEveryClass buffer 3 3 refl holds;
+      raw-value-at-limit = λ buffer holds. accepts rawValueAtLimit buffer 2 2 refl holds;
+      no-overshoot-without-plan = λ buffer holds. accepts noOvershootWithoutPlan buffer 3 3 refl holds;
     }
 
 fewer-defect-sheets : FewerDefectSheets
@@ -117,9 +119,9 @@ unfolding computing peachPlan oneMinorDefectFewer oneMinorDefectFewerResults one
     noDefectInPlaceOfOne noDefectInPlaceOfOneResults
 fewer-defect-sheets =
     record {
-      one-minor-defect-fewer = λ buffer holds. accepts oneMinorDefectFewer buffer 4 3 refl holds refl;
-      one-severe-defect-fewer = λ buffer holds. accepts oneSevereDefectFewer buffer 7 7 refl holds refl;
-      no-defect-in-place-of-one = λ buffer holds. accepts noDefectInPlaceOfOne buffer 2 2 refl holds refl;
+      one-minor-defect-fewer = λ buffer holds. accepts oneMinorDefectFewer buffer 4 3 refl holds;
+      one-severe-defect-fewer = λ buffer holds. accepts oneSevereDefectFewer buffer 7 7 refl holds;
+      no-defect-in-place-of-one = λ buffer holds. accepts noDefectInPlaceOfOne buffer 2 2 refl holds;
     }
 
 refused-sheets : RefusedSheets

@@ -40,6 +40,6 @@ worked-cases =
       p6 = refl;
       p7 = refl;
       p8 = λ c. (refl, refl, refl, refl);
-      p9 = λ buffer. (refl, refl, refl, refl, λ holds. ap (λ (o : Outcome). o .answer) (accepts (oneUnit 2000 2000 2000 2000) buffer 1 1 refl holds refl));
-      p10 = λ buffer holds. accepts peach buffer 7 7 refl holds refl;
+      p9 = λ buffer. (refl, refl, refl, refl, λ holds. ap (λ (o : Outcome). o .answer) (accepts (oneUnit 2000 2000 2000 2000) buffer 1 1 refl holds));
+      p10 = λ buffer holds. accepts peach buffer 7 7 refl holds;
     }

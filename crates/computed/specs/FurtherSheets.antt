@@ -21,6 +21,27 @@ RefusedWith = RefusedBy outcome
 abbrev pub WithoutRoom : ℕ → List ℕ → ℕ → ℕ → Type 0
 WithoutRoom = WithoutRoomBy outcome resultSize
 
+-- the plan with the largest S and L in every class, designated A: 50 4C, 0; then for A, B, C a line for each class, with its S/T/L
+unfoldable pub largestPlan : List ℕ
+largestPlan =
+    0x50 ∷ 0x4C ∷ 0
+    -- A
+    ∷ 39 ∷ 15 ∷ 39 ∷ 6 ∷ 39 ∷ 15  -- 999.9/999/999.9
+    ∷ 39 ∷ 15 ∷ 39 ∷ 6 ∷ 39 ∷ 15  -- 999.9/999/999.9
+    ∷ 39 ∷ 15 ∷ 39 ∷ 6 ∷ 39 ∷ 15  -- 999.9/999/999.9
+    ∷ 39 ∷ 15 ∷ 39 ∷ 6 ∷ 39 ∷ 15  -- 999.9/999/999.9
+    -- B
+    ∷ 39 ∷ 15 ∷ 39 ∷ 6 ∷ 39 ∷ 15  -- 999.9/999/999.9
+    ∷ 39 ∷ 15 ∷ 39 ∷ 6 ∷ 39 ∷ 15  -- 999.9/999/999.9
+    ∷ 39 ∷ 15 ∷ 39 ∷ 6 ∷ 39 ∷ 15  -- 999.9/999/999.9
+    ∷ 39 ∷ 15 ∷ 39 ∷ 6 ∷ 39 ∷ 15  -- 999.9/999/999.9
+    -- C
+    ∷ 39 ∷ 15 ∷ 39 ∷ 6 ∷ 39 ∷ 15  -- 999.9/999/999.9
+    ∷ 39 ∷ 15 ∷ 39 ∷ 6 ∷ 39 ∷ 15  -- 999.9/999/999.9
+    ∷ 39 ∷ 15 ∷ 39 ∷ 6 ∷ 39 ∷ 15  -- 999.9/999/999.9
+    ∷ 39 ∷ 15 ∷ 39 ∷ 6 ∷ 39 ∷ 15  -- 999.9/999/999.9
+    ∷ []
+
 -- a record so many times, and what stands behind them
 unfoldable pub repeated : ℕ → List ℕ → List ℕ → List ℕ
 repeated zero bytes behind = behind
@@ -629,6 +650,27 @@ cusumsOfTwoBytesResults =
     ∷ 0 ∷ 0 ∷ 0 ∷ 0 ∷ 0 ∷ 0 ∷ 0 ∷ 0 ∷ 0 ∷ 0 ∷ 0 ∷ 0 ∷ 0 ∷ 0 ∷ 0 ∷ 6
     ∷ []
 
+-- 999.9/999/999.9 in every class. Unit 1 comes to L in critical and total, 999.9+999-999, and
+-- meets. Unit 2, with as many defects as there may be, fails in each: the CuSums are L, and no
+-- larger.
+unfoldable pub largestCusums : List ℕ
+largestCusums =
+    largestPlan
+    ++ (0x53 ∷ 0x55 ∷ 0 ∷ 1 ∷ 3 ∷ 231 ∷ 0 ∷ 0 ∷ 0 ∷ 0 ∷ 0 ∷ 0 ∷ 0 ∷ 1  -- 1: 999,0,0,0;A;1
+    ∷ 0x53 ∷ 0x55 ∷ 0 ∷ 2 ∷ 7 ∷ 208 ∷ 7 ∷ 208 ∷ 7 ∷ 208 ∷ 7 ∷ 208 ∷ 0 ∷ 1  -- 2: 2000,2000,2000,2000;A;1
+    ∷ 0x53 ∷ 0x55 ∷ 0 ∷ 3 ∷ 0 ∷ 0 ∷ 0 ∷ 0 ∷ 0 ∷ 0 ∷ 3 ∷ 231 ∷ 0 ∷ 1  -- 3: 0,0,0,999;A;1
+    ∷ [])
+
+unfoldable pub largestCusumsResults : List ℕ
+largestCusumsResults =
+    0x47 ∷ 0x52 ∷ 0 ∷ 1 ∷ 0 ∷ 0 ∷ 0 ∷ 0 ∷ 39 ∷ 15 ∷ 0 ∷ 9 ∷ 0 ∷ 9 ∷ 39 ∷ 15  -- 1 1 A A m A 999.9 0.9 0.9 999.9
+    ∷ 0 ∷ 0 ∷ 0 ∷ 0 ∷ 0 ∷ 0 ∷ 0 ∷ 0 ∷ 0 ∷ 0 ∷ 0 ∷ 0 ∷ 0 ∷ 0 ∷ 0 ∷ 0
+    ∷ 0x47 ∷ 0x52 ∷ 0 ∷ 2 ∷ 3 ∷ 3 ∷ 0 ∷ 1 ∷ 39 ∷ 15 ∷ 39 ∷ 15 ∷ 39 ∷ 15 ∷ 39 ∷ 15  -- 2 2 S S f A 999.9 999.9 999.9 999.9
+    ∷ 0 ∷ 0 ∷ 39 ∷ 26 ∷ 0 ∷ 0 ∷ 0 ∷ 20 ∷ 0 ∷ 0 ∷ 0 ∷ 20 ∷ 0 ∷ 1 ∷ 17 ∷ 122
+    ∷ 0x47 ∷ 0x52 ∷ 0 ∷ 3 ∷ 0 ∷ 0 ∷ 0 ∷ 0 ∷ 0 ∷ 9 ∷ 0 ∷ 9 ∷ 0 ∷ 9 ∷ 39 ∷ 15  -- 3 3 A A m A 0.9 0.9 0.9 999.9
+    ∷ 0 ∷ 0 ∷ 0 ∷ 0 ∷ 0 ∷ 0 ∷ 0 ∷ 0 ∷ 0 ∷ 0 ∷ 0 ∷ 0 ∷ 0 ∷ 0 ∷ 0 ∷ 0
+    ∷ []
+
 -- P1 and P2 in the class total, with minor defects alone: 1/3/3, counts 8,3,2,1,12: CuSums 3
 -- (fails),3,2,0,3 (fails). T+L at B 10 and at C 13: the 8 grades B, the 12 C.
 -- The peach plan, but total at A 1/3/3, total at B 2/6/4, total at C 2/7/6.
@@ -667,6 +709,7 @@ pub record UnitSheets : Type 0 where
   pub code-met-again : Graded codeMetAgain 4 131 codeMetAgainResults
   pub start-equal-to-limit : Graded startEqualToLimit 2 103 startEqualToLimitResults
   pub cusums-of-two-bytes : Graded cusumsOfTwoBytes 3 117 cusumsOfTwoBytesResults
+  pub largest-cusums : Graded largestCusums 3 117 largestCusumsResults
   pub p1-in-bytes : Graded p1InBytes 5 145 p1InBytesResults
 
 -- ---- units in step 3, its end and recovery

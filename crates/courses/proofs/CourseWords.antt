@@ -24,6 +24,7 @@ use Rattle.anchors.specs.TwoInARow.{failsInForce, failsDesignated, failsLower, 
 use Rattle.anchors.specs.ThreeInARow.{recordQualifies, unitQualifiesAt, thirdInARow}
 use Rattle.anchors.specs.Anchor.{failsAt, tenthsAt, classFailsAt, restartBy, restartAt, tenthsFrom}
 use Rattle.anchors.proofs.Trails.{tenths-of-one}
+use Rattle.rules.proofs.AtUnits.{cusum-graded}
 use Rattle.layout.specs.Layout.{markSize, sampleUnitAt, offset, mark, entryOf, entryAt, unitsBefore}
 use Rattle.layout.specs.declared.Mark.{Mark}
 use Rattle.layout.specs.declared.Mark.the-variants.{UnitMark, RedesignationMark, BreakMark, NoMark}
@@ -35,7 +36,6 @@ use Rattle.recording.specs.Sheet.{sheetOf}
 use Rattle.tally.specs.Outcome.{recordsIn}
 use Rattle.tally.specs.Accepted.{sheetIn, UnitAt}
 use Rattle.tally.proofs.Entries.{unit-is, designated-before, designated-planned}
-use Rattle.tally.proofs.Overfull.{cusum-graded}
 use Rattle.grounds.specs.Tells.{Tells}
 use Rattle.answers.specs.Grounds.{toleranceIn, limitIn, startIn, IsUnit, IsRedesignation, IsBreak, newGrade}
 use Rattle.courses.specs.Course.{Course, classCounts, tenTimesCount, ClassFails, UnitFails, FailsInForce, FailsDesignated, FailsLower, SecondFails, SecondFailsLower, Qualifies, ThreeQualify, ThirdQualifies, KeepsStepThree, Restart, at-break, step-three-begins, another-lower-plan, step-three-ends, at-redesignation}

@@ -31,6 +31,7 @@ use Rattle.rules.specs.declared.Phase.the-variants.{Designated, StepThree}
 use Rattle.anchors.proofs.Trails.{tenths-go-on}
 use Rattle.rules.proofs.FailingUnits.{FailingNeverQualifies, failing-never-qualifies}
 use Rattle.rules.proofs.Grades.{in-force-at-most}
+use Rattle.rules.proofs.AtUnits.{cusum-graded}
 use Rattle.rules.proofs.FinishedRun.{finished-run, in-run, run-in}
 use Rattle.anchors.proofs.TwoFailures.{begins-at-second, lower-is-worse}
 use Rattle.anchors.proofs.ThreeQualify.{qualifies-at, third-ends}
@@ -48,7 +49,6 @@ use Rattle.tally.specs.Outcome.{recordsIn}
 use Rattle.tally.specs.Accepted.{AcceptedAs, sheetIn, UnitAt, recordedOvershoot, recordedPortionGrade}
 use Rattle.tally.proofs.AcceptedSheet.{accepted-sheet}
 use Rattle.tally.proofs.Entries.{new-grades}
-use Rattle.tally.proofs.Overfull.{cusum-graded}
 use Rattle.answers.specs.Grounds.{startIn, toleranceIn, limitIn, newGrade, IsBreak, IsRedesignation}
 use Rattle.courses.specs.Course.{Course, tenTimesCount, prerequisite, ClassFails, UnitFails, SecondFails, SecondFailsLower, Qualifies, AmongThree, Recovered, Restart, RuleTwo, BestLowerGrade, RuleThree, Rules, LowerPlans, SameBefore, SameAt}
 use Rattle.courses.specs.Demand2.{recordedStanding, UnitRecorded, WorstOfCode, SameRecords, SameWords, Demand2Records}
@@ -86,7 +86,7 @@ module _ (bytes : List ℕ) (facts : Facts bytes (recordsIn bytes)) where
   unfolding sheetIn sheetOf
   apart =
       failing-never-qualifies sheet
-      (record { start-within = start-le-limit bytes (recordsIn bytes) facts; tolerance-rises = tolerance-rises bytes (recordsIn bytes) facts })
+      (record { start-within = start-le-limit bytes (facts .plan); tolerance-rises = tolerance-rises bytes (facts .plan) })
 
   -- S of every class of a plan
   start-is : (grade class : ℕ) → grade < substandard → class < length classes → tenthsIn (starting (rowOf (sheet .table) grade)) class ≡ startIn bytes grade class
@@ -309,7 +309,7 @@ module _ (bytes : List ℕ) (facts : Facts bytes (recordsIn bytes)) where
 
   bounded : (i : ℕ) → course .planGrade i ≤ substandard
   unfolding sheetIn sheetOf
-  bounded = in-force-at-most sheet (designated-le bytes (recordsIn bytes) facts) (new-grades bytes (recordsIn bytes) facts)
+  bounded = in-force-at-most sheet (designated-le bytes (facts .plan)) (new-grades bytes (recordsIn bytes) facts)
 
   same-course : (other : Course) → Rules bytes other
       → ((i : ℕ) → i ≤ recordsIn bytes → SameBefore course other i) × ((i : ℕ) → UnitAt bytes i → i < recordsIn bytes → SameAt course other i)

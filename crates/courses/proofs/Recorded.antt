@@ -1,24 +1,23 @@
 -- What the result buffer of an accepted sheet records of a unit: code, grades, standing, plan grade, CuSums and overshoots of the
--- rules; bounds. From where the result record of the unit stands in the buffer. No CuSum is too large for its two bytes, by number 14;
--- no overshoot for its four: a CuSum is never above its L, so that a class is over by no more than the unit's own defects.
+-- rules; bounds. From where the result record of the unit stands in the buffer. A CuSum is never above its L, so that it is not too large for
+-- its two bytes, nor an overshoot for its four: a class is over by no more than the unit's own defects.
 use Prim.Native.Nat.{ℕ, _*_, _≤_, _<_}
 use mathlib.Core.Path.{_≡_, _∙_}
 use mathlib.Core.List.{List}
 use native.Mathlib.Omega.{arith}
 use lib.ListN.{length, drop}
-use Rattle.cusum.specs.Step.{largestTenths}
 use Rattle.encoding.specs.Bytes.{byte}
 use Rattle.units.specs.Words.{substandard, classes, tenthsIn, tenthsOf, countTenths}
 use Rattle.units.specs.Unit.{classCusum, classOvershoot}
 use Rattle.units.specs.declared.SampleUnit.{SampleUnit}
-use Rattle.units.specs.declared.Entry.the-variants.{UnitRecord}
 use Rattle.units.proofs.Bounds.{class-cusum-le, class-overshoot-le}
 use Rattle.rules.specs.Sheet.{before, inForceAt, gradedAt, portionGrade, standing, codeGrade}
 use Rattle.rules.proofs.Grades.{code-grade-at-most}
+use Rattle.rules.proofs.AtUnits.{cusum-graded, overshoot-graded}
 use Rattle.rules.proofs.FailingUnits.{within-limit}
 use Rattle.layout.specs.Layout.{sampleUnitAt, offset, unitsBefore}
 use Rattle.layout.proofs.Units.{entry-unit}
-use Rattle.sheet.proofs.Ranges.{designated-le, start-le-limit, prerequisite-le, count-le}
+use Rattle.sheet.proofs.Ranges.{designated-le, limit-le, start-le-limit, prerequisite-le, count-le}
 use Rattle.results.specs.Record.{resultSize, markIn, codeIn, planGradeIn, standingIn}
 use Rattle.recording.specs.Sheet.{sheetOf, resultWith, resultOf}
 use Rattle.outcome.specs.declared.Answer.{Answer}
@@ -26,7 +25,6 @@ use Rattle.tally.specs.Outcome.{recordsIn}
 use Rattle.tally.specs.Accepted.{AcceptedAs, sheetIn, UnitAt, recordedCusum, recordedOvershoot, recordedPortionGrade, recordedCodeGrade, numbersInForce}
 use Rattle.tally.proofs.AcceptedSheet.{AcceptedSheet, accepted-sheet}
 use Rattle.tally.proofs.Entries.{code-fits, new-grades, portion-le}
-use Rattle.tally.proofs.Overfull.{cusum-graded, overshoot-graded, cusum-fits}
 use Rattle.courses.proofs.ReadBack.{ReadBack, read-back}
 
 module _ (bytes buffer : List ℕ) (answer : Answer) (results : List ℕ) (accepted : AcceptedAs bytes buffer answer results) where
@@ -40,10 +38,6 @@ module _ (bytes buffer : List ℕ) (answer : Answer) (results : List ℕ) (accep
   module _ (i : ℕ) (at : UnitAt bytes i) where
     abbrev unit : SampleUnit
     unit = sampleUnitAt bytes (offset bytes i)
-
-    unit-here : sheetIn bytes .entry i ≡ UnitRecord unit
-    unfolding sheetIn sheetOf
-    unit-here = entry-unit bytes i (at .is-unit)
 
     -- what was recorded of it, read from the buffer
     there : ReadBack bytes results i (resultOf (sheetIn bytes) i (sampleUnitAt bytes (offset bytes i))) (codeGrade (sheetIn bytes) (sampleUnitAt bytes (offset bytes i) .code))
@@ -75,18 +69,15 @@ module _ (bytes buffer : List ℕ) (answer : Answer) (results : List ℕ) (accep
     unfolding resultOf resultWith
     recorded-code small = there .code (code-fits bytes small i unit (entry-unit bytes i (at .is-unit)))
 
-    -- every CuSum fits in its two bytes
-    pub cusum-in-two-bytes : (class : ℕ) → class < length classes → tenthsIn (gradedAt (sheetIn bytes) i (sampleUnitAt bytes (offset bytes i)) .cusums) class ≤ largestTenths
-    cusum-in-two-bytes class inside =
-        cusum-fits (sheetIn bytes) (recordsIn bytes) (sheet-accepted .none-overfull) i (at .inside) unit unit-here class inside
-
     pub recorded-cusum : (class : ℕ) → class < length classes
         → recordedCusum bytes results i class
         ≡ classCusum (sheetIn bytes .table) (inForceAt (sheetIn bytes) i) (before (sheetIn bytes) i .cusums) (tenthsOf (sampleUnitAt bytes (offset bytes i))) class
-    unfolding resultOf resultWith
+    unfolding resultOf resultWith sheetIn sheetOf
     recorded-cusum class inside =
-        let small = cusum-in-two-bytes class inside in
-        there .cusums class inside (omega arith) ∙ cusum-graded (sheetIn bytes) i unit class inside
+        let is = cusum-graded (sheetIn bytes) i unit class inside in
+        let most = class-cusum-le (sheetIn bytes .table) (inForceAt (sheetIn bytes) i) (before (sheetIn bytes) i .cusums) (tenthsOf unit) class in
+        let fits = limit-le bytes (sheet-accepted .facts .plan) (inForceAt (sheetIn bytes) i) class in
+        there .cusums class inside (omega (arith, is, most, fits)) ∙ is
 
     -- an overshoot is at most the unit's own defects
     pub overshoot-at-most : (class : ℕ) → class < length classes
@@ -96,7 +87,7 @@ module _ (bytes buffer : List ℕ) (answer : Answer) (results : List ℕ) (accep
     overshoot-at-most class inside =
         class-overshoot-le (sheetIn bytes .table) (inForceAt (sheetIn bytes) i) (before (sheetIn bytes) i .cusums) (tenthsOf unit) class
         (λ planned. within-limit (sheetIn bytes) class inside i
-        (start-le-limit bytes (recordsIn bytes) (sheet-accepted .facts) (inForceAt (sheetIn bytes) i) class))
+        (start-le-limit bytes (sheet-accepted .facts .plan) (inForceAt (sheetIn bytes) i) class))
 
     pub recorded-overshoot : (class : ℕ) → class < length classes
         → recordedOvershoot bytes results i class
@@ -125,5 +116,5 @@ module _ (bytes buffer : List ℕ) (answer : Answer) (results : List ℕ) (accep
     recorded-code-grade-le =
         let facts = sheet-accepted .facts in
         rw recorded-code-grade
-        (code-grade-at-most (sheetIn bytes) (designated-le bytes (recordsIn bytes) facts) (new-grades bytes (recordsIn bytes) facts)
+        (code-grade-at-most (sheetIn bytes) (designated-le bytes (facts .plan)) (new-grades bytes (recordsIn bytes) facts)
         (prerequisite-le bytes (recordsIn bytes) facts) (unit .code))

@@ -2,7 +2,7 @@
 ghost use mathlib.Core.Path.{_≡_};
 ghost use Prim.Native.Nat.{_-_, min};
 ghost use Rattle.cusum.specs.Counts.{tenTimes, defectTenths, fieldTenths};
-ghost use Rattle.cusum.specs.Step.{startOf, stepOf};
+ghost use Rattle.cusum.specs.Step.{largestTenths, startOf, stepOf};
 
 // A count of defects.
 pub struct Defects(pub u16);
@@ -74,6 +74,13 @@ impl Cusum {
 
     // The largest number of tenths that the two bytes of a CuSum hold in a result record.
     pub const LARGEST_TENTHS: u32 = 65535;
+
+    // The constant, for what is proved of it: no CuSum of an accepted plan is larger (theorem `cusums-fit`), so that nothing tests it.
+    pub fn largest() -> u32
+        ensures { λ r. ⌜ r ≡ largestTenths ⌝ }
+    {
+        Cusum::LARGEST_TENTHS
+    }
 
     // Every CuSum begins at the S of its own class and plan.
     pub fn starting(numbers: PlanNumbers) -> Cusum

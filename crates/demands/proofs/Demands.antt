@@ -16,11 +16,11 @@ use Rattle.demands.specs.Demands.{Demands}
 use Rattle.answers.proofs.Bytes.{paper-layout}
 use Rattle.answers.proofs.Listed.{demand1}
 use Rattle.answers.proofs.Grounds.{demand2-grounds}
-use Rattle.answers.proofs.NeverOverfull.{never-overfull}
 use Rattle.mold_demands.proofs.MoldDemands.{mold-demands}
 use Rattle.courses.proofs.Graded.{demand2-records}
 use Rattle.regrade_demands.proofs.RegradeDemands.{regrade-demands}
 use Rattle.lookup_demands.proofs.LookupDemands.{lookup-demands}
+use Rattle.demands.proofs.CusumsFit.{cusums-fit}
 use Rattle.demands.proofs.LookupGraded.{lookup-graded}
 use Rattle.demands.proofs.LargestOf.{demand3-largest-form}
 use Rattle.demands.proofs.NeverWorse.{demand3-fewer-defects}
@@ -48,7 +48,7 @@ demands =
       paper-layout = paper-layout;
       demand1 = demand1;
       demand2-grounds = demand2-grounds;
-      never-overfull = never-overfull;
+      cusums-fit = cusums-fit;
       demand2-records = demand2-records;
       demand3-largest-form = demand3-largest-form;
       demand3-fewer-defects = demand3-fewer-defects;

@@ -5,8 +5,9 @@ use mathlib.Core.Path.{_≡_, refl, sym, _∙_, ap}
 use mathlib.Core.Bool.{true, false}
 use mathlib.Core.List.{List, [], _∷_}
 use native.Mathlib.Omega.{arith}
-use lib.Dec.{lit<}
-use lib.ListN.{length}
+use lib.Dec.{lit<, lit≤}
+use lib.ListN.{length, replicate}
+use Rattle.units.specs.declared.Entry.the-variants.{UnitRecord}
 use Rattle.units.proofs.Lists.{in-none}
 use Rattle.anchors.specs.TwoInARow.{secondInARow}
 use Rattle.anchors.specs.Anchor.{classFailsAt, restart, failure, Latest}
@@ -18,19 +19,27 @@ use Rattle.lookup.specs.declared.Part.{Part}
 use Rattle.lookup.specs.Lookup.{lookup}
 use Rattle.lookup.proofs.Computing as lookup
 use Rattle.demands.specs.Demand3.{NeverWorse}
+use Rattle.demands.specs.CusumsFit.{AcceptedPlan}
 use Rattle.demands.specs.LookupGraded.{unitRecords, LookupInSheet}
-use Rattle.regrade_demands.specs.RegradeSheets.{recordedPlan, buyerB, twoFailuresBeforeRedesignation, twoFailuresBeforeRedesignationResults}
+use Rattle.regrade_demands.specs.RegradeAccepted.{RegradedAs}
+use Rattle.regrade_demands.specs.RegradeGrounds.{plan-ground, row18}
+use Rattle.regrade_demands.specs.RegradeSheets.{recordedPlan, buyerB, largestCusumsRegraded, largestCusumsRegradedResults, twoFailuresBeforeRedesignation, twoFailuresBeforeRedesignationResults}
 use Rattle.regrade_demands.specs.RegradeInstances.{moreLeft}
+use Rattle.regrade_demands.proofs.RegradeGrounds.{regrade-refusals}
+use Rattle.regrade_demands.proofs.RegradeSheets.{regrade-sheets}
 use Rattle.regrade_demands.proofs.RegradeInstances.{fourAccepted, more-accepted}
 use Rattle.computed.specs.WorkedCases.{peachPlan, peachUnits, peach, peachResults}
-use Rattle.computed.specs.FurtherSheets.{breakBetweenFailures, breakBetweenFailuresResults, everyKindOfRecord, everyKindOfRecordResults, everyLowerPlan, everyLowerPlanResults, oneMinorDefectFewer, oneMinorDefectFewerResults, oneSevereDefectFewer, oneSevereDefectFewerResults, rawValueAtLimit, rawValueAtLimitResults, noDefectInPlaceOfOne, noDefectInPlaceOfOneResults}
-use Rattle.demands.specs.Instances.{left, peachLeft, everyKindLeft, lowerPlansLeft, peachStandings, everyKindStandings, peachPlanned, lowerPlansPlanned, everyKindPlanned, standingByte, CourseInstance, LowerPlansInstance, CodeInstance, LargestInstance, LargestNumber, FewerInstance, FewerTwiceInstance, FewerMeetsInstance, LookupInstance, Instances}
+use Rattle.computed.specs.FurtherSheets.{breakBetweenFailures, breakBetweenFailuresResults, everyKindOfRecord, everyKindOfRecordResults, everyLowerPlan, everyLowerPlanResults, oneMinorDefectFewer, oneMinorDefectFewerResults, oneSevereDefectFewer, oneSevereDefectFewerResults, rawValueAtLimit, rawValueAtLimitResults, noDefectInPlaceOfOne, noDefectInPlaceOfOneResults, largestPlan, largestCusums, largestCusumsResults}
+use Rattle.demands.specs.Instances.{left, peachLeft, everyKindLeft, lowerPlansLeft, peachStandings, everyKindStandings, peachPlanned, lowerPlansPlanned, everyKindPlanned, standingByte, CourseInstance, LowerPlansInstance, CodeInstance, LargestInstance, LargestNumber, FewerInstance, FewerTwiceInstance, FewerMeetsInstance, manyDefects, FitInstance, LookupInstance, Instances}
 use Rattle.demands.proofs.Computing.{computing}
+use Rattle.grounds.specs.Grounds.{of-opening, of-last}
+use Rattle.answers.proofs.Grounds.{demand2-grounds}
 use Rattle.answers.proofs.AnswerInstances.{answer-instances}
 use Rattle.computed.proofs.WorkedCases.{worked-cases}
 use Rattle.computed.proofs.FurtherSheets.{further-sheets}
 use Rattle.demands.proofs.OneFewer.{one-fewer-compared}
 use Rattle.demands.proofs.AtUnits.{course-recorded, lower-plans-recorded, code-graded, largest-recorded, number-recorded, none-higher, none-lower, all-bytes}
+use Rattle.demands.proofs.CusumsFit.{cusums-fit}
 use Rattle.demands.proofs.LookupGraded.{lookup-graded}
 
 -- ---- the accepted sheets
@@ -79,6 +88,51 @@ unfolding computing peachPlan everyKindOfRecord
 code-met-again buffer holds =
     code-graded everyKindOfRecord buffer everyKindAnswer (everyKindLeft buffer) (every-kind-accepted buffer holds)
     9 refl 300 0 8 refl refl refl refl refl
+
+-- ---- CuSums fit in two bytes
+
+-- the sheet and the regrading with the largest CuSums, in a buffer that holds their records
+abbrev largestAnswer : Answer
+largestAnswer = record { number = 0; units = 3; offset = 117 }
+
+abbrev room : List ℕ
+room = replicate (resultSize * 3) 0
+
+largest-graded : AcceptedAs largestCusums room largestAnswer (left largestCusumsResults 3 room)
+largest-graded = record { promise = sym (further-sheets .units .largest-cusums room (lit≤ tt)); accepted = refl }
+
+largest-regraded : RegradedAs largestCusumsRegraded largestPlan room largestAnswer (left largestCusumsRegradedResults 3 room)
+largest-regraded = record { promise = sym (regrade-sheets .units .largest-cusums-regraded room (lit≤ tt)); accepted = refl }
+
+-- they are accepted, so that no ground applies to the plan
+plan-accepted : AcceptedPlan largestCusums
+plan-accepted number applies =
+    demand2-grounds largestCusums room largestAnswer _ (largest-graded .promise) .accepted refl number 0 (of-opening applies)
+
+second-plan-accepted : AcceptedPlan largestPlan
+second-plan-accepted number applies =
+    regrade-refusals largestCusumsRegraded largestPlan room largestAnswer _ (largest-regraded .promise) .by-ground .accepted refl
+    18 (length largestCusumsRegraded) (of-last (row18 (plan-ground applies)))
+
+fit : FitInstance
+unfolding computing largestPlan largestCusums largestCusumsRegraded recordedPlan
+fit =
+    record {
+      before-record = λ i class known. omega (arith, cusums-fit .before-record largestCusums plan-accepted (λ j. UnitRecord manyDefects) 2000 i class known);
+      of-unit = λ i class known. omega (arith, cusums-fit .of-unit manyDefects largestCusums plan-accepted (λ j. UnitRecord manyDefects) 2000 i class known);
+      before-record-regraded = λ i class known.
+          omega (arith, cusums-fit .before-record-regraded largestPlan second-plan-accepted (λ j. UnitRecord manyDefects) 2000 i class known);
+      of-unit-regraded = λ i class known.
+          omega (arith, cusums-fit .of-unit-regraded manyDefects largestPlan second-plan-accepted (λ j. UnitRecord manyDefects) 2000 i class known);
+      in-grading = λ course rules class known.
+          omega (arith, cusums-fit .in-grading largestCusums room largestAnswer _ largest-graded course rules 1 class (record { inside = lit< tt; is-unit = refl }) known);
+      in-regrading = λ course rules class known.
+          omega (
+            arith,
+            cusums-fit .in-regrading largestCusumsRegraded largestPlan room largestAnswer _ largest-regraded course rules 1 class
+            (record { inside = lit< tt; is-unit = refl }) known,
+          );
+    }
 
 -- ---- look-ups
 
@@ -268,6 +322,7 @@ instances =
       fewer-defects = fewer-defects;
       fewer-defects-twice = fewer-defects-twice;
       fewer-defects-meets = fewer-defects-meets;
+      cusums-fit = fit;
       code-found = code-found;
       code-not-found = code-not-found;
       code-found-regraded = code-found-regraded;

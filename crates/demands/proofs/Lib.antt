@@ -2,6 +2,7 @@ pub mod LargestOf
 pub mod NeverWorse
 pub mod OneFewer
 pub mod AtUnits
+pub mod CusumsFit
 pub mod LookupGraded
 pub mod Computing
 pub mod Instances

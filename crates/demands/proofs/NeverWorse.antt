@@ -124,7 +124,7 @@ module _ (bytes bytes' buffer buffer' : List ℕ) (answer answer' : Answer) (res
         × (codeGrade (sheetIn bytes) (unit .code) ≤ codeGrade (sheetIn bytes') (unit' .code))
     unfolding sheetIn sheetOf
     compared-grades =
-        let grade = designated-le bytes (recordsIn bytes) facts in
+        let grade = designated-le bytes (facts .plan) in
         subst⁻¹ (λ (s : Sheet). ((j : ℕ) → secondInARow s j ≡ false)
         → (portionGrade (sheetIn bytes) i unit ≤ portionGrade s i unit') × (codeGrade (sheetIn bytes) (unit .code) ≤ codeGrade s (unit' .code))) is-fellow
         (λ never. fewer-grades (tableOf (planOf bytes)) (planOf bytes .designated) (entryAt bytes) (entryAt bytes') (recordsIn bytes) fellows none

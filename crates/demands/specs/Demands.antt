@@ -25,11 +25,12 @@ use Rattle.mold_lines.proofs.print_mold_into.Statement as print_mold_into
 use Rattle.regrade_lines.proofs.print_regrading_into.Statement as print_regrading_into
 use Rattle.answers.specs.Bytes.{PaperLayout}
 use Rattle.answers.specs.Demand1.{Demand1}
-use Rattle.answers.specs.Grounds.{Demand2Grounds, NeverOverfull}
+use Rattle.answers.specs.Grounds.{Demand2Grounds}
 use Rattle.mold_demands.specs.MoldDemands.{MoldDemands}
 use Rattle.courses.specs.Demand2.{Demand2Records}
 use Rattle.regrade_demands.specs.RegradeDemands.{RegradeDemands}
 use Rattle.lookup_demands.specs.LookupDemands.{LookupDemands}
+use Rattle.demands.specs.CusumsFit.{CusumsFit}
 use Rattle.demands.specs.LookupGraded.{LookupGraded}
 use Rattle.demands.specs.Demand3.{Demand3LargestForm, Demand3FewerDefects}
 use Rattle.computed.specs.Peach.{SmallSheets}
@@ -58,8 +59,8 @@ pub record Demands : Type 2 where
   pub demand1 : Demand1
   -- nothing is refused without a listed ground, and the first that applies is returned
   pub demand2-grounds : Demand2Grounds
-  -- number 14 never applies
-  pub never-overfull : NeverOverfull
+  -- no accepted plan and no counts lead to a CuSum too large for two bytes, and so no grading and no regrading does
+  pub cusums-fit : CusumsFit
   -- an accepted sheet gets exactly the CuSums, overshoots, grades and recoveries of the rules
   pub demand2-records : Demand2Records
   -- at a unit with a plan in force every recorded CuSum is the 'largest of' form from its anchor

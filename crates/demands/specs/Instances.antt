@@ -8,11 +8,15 @@ use mathlib.Core.Logic.{_↔_}
 use lib.ListN.{length, drop}
 use lib.IntN.{pos}
 use Rattle.cusum.specs.LargestForm.{largestForm, anchorValue}
-use Rattle.units.specs.Words.{substandard, classes, worse}
+use Rattle.units.specs.Words.{substandard, classes, worse, tenthsIn}
+use Rattle.units.specs.declared.SampleUnit.{SampleUnit}
+use Rattle.units.specs.declared.Entry.the-variants.{UnitRecord}
+use Rattle.rules.specs.Sheet.{Sheet, before, gradedAt}
 use Rattle.anchors.specs.TwoInARow.{secondInARow}
 use Rattle.anchors.specs.Anchor.{classFailsAt, tenthsFrom, Anchor, Latest}
 use Rattle.results.specs.Record.{resultSize}
 use Rattle.tally.specs.Accepted.{sheetIn, recordedCusum, recordedOvershoot, recordedPortionGrade, recordedCodeGrade, numbersInForce}
+use Rattle.regrade.specs.Regrading.{cusumsBefore, regradedAt}
 use Rattle.lookup.specs.declared.Part.{Part}
 use Rattle.lookup.specs.Lookup.{lookup}
 use Rattle.answers.specs.Grounds.{toleranceIn, limitIn}
@@ -20,11 +24,13 @@ use Rattle.answers.specs.AnswerInstances.{AnswerInstances}
 use Rattle.courses.specs.Course.{Course, tenTimesCount, prerequisite, ClassFails, UnitFails, SecondFailsLower, Qualifies, ThreeQualify, Recovered, Rules}
 use Rattle.courses.specs.Demand2.{recordedMark, recordedCode, recordedPlanGrade, recordedStanding, codeOf}
 use Rattle.demands.specs.Demand3.{AnchorAt}
+use Rattle.demands.specs.CusumsFit.{sheetBehind}
 use Rattle.demands.specs.LookupGraded.{unitRecords, LookupInSheet}
-use Rattle.regrade_demands.specs.RegradeSheets.{twoFailuresBeforeRedesignation}
+use Rattle.regrade_demands.specs.RegradeRecords.{RegradeCourse, RegradeRules}
+use Rattle.regrade_demands.specs.RegradeSheets.{largestCusumsRegraded, twoFailuresBeforeRedesignation}
 use Rattle.regrade_demands.specs.RegradeInstances.{moreLeft}
 use Rattle.computed.specs.WorkedCases.{peach, peachResults}
-use Rattle.computed.specs.FurtherSheets.{breakBetweenFailures, breakBetweenFailuresResults, everyKindOfRecord, everyKindOfRecordResults, everyLowerPlan, everyLowerPlanResults, oneMinorDefectFewer, oneMinorDefectFewerResults, oneSevereDefectFewer, oneSevereDefectFewerResults, rawValueAtLimit, rawValueAtLimitResults, noDefectInPlaceOfOne, noDefectInPlaceOfOneResults}
+use Rattle.computed.specs.FurtherSheets.{breakBetweenFailures, breakBetweenFailuresResults, everyKindOfRecord, everyKindOfRecordResults, everyLowerPlan, everyLowerPlanResults, oneMinorDefectFewer, oneMinorDefectFewerResults, oneSevereDefectFewer, oneSevereDefectFewerResults, rawValueAtLimit, rawValueAtLimitResults, noDefectInPlaceOfOne, noDefectInPlaceOfOneResults, largestPlan, largestCusums}
 
 -- ---- the sheets
 
@@ -218,6 +224,36 @@ pub record FewerMeetsInstance (buffer buffer' : List ℕ) : Type 0 where
   pub not-over : recordedOvershoot noDefectInPlaceOfOne (left noDefectInPlaceOfOneResults 2 buffer) 1 3 ≡ 0
   pub over : recordedOvershoot rawValueAtLimit (left rawValueAtLimitResults 2 buffer') 1 3 ≡ 1
 
+-- ---- CuSums fit in two bytes
+
+-- a unit with more defects than two bytes can count
+abbrev pub manyDefects : SampleUnit
+manyDefects =
+    record {
+      code = 1;
+      critical = record { 0 = 1000000 };
+      severe = record { 0 = 2000000 };
+      major = record { 0 = 3000000 };
+      minor = record { 0 = 4000000 };
+      prerequisite = 0;
+      recoverable = false;
+    }
+
+-- behind a plan nothing but such units, more than a sheet may have
+abbrev pub manyUnits : List ℕ → Sheet
+manyUnits plan = sheetBehind plan (λ i. UnitRecord manyDefects) 2000
+
+-- the plan with the largest numbers, which opens the sheet with the largest CuSums, and as a second plan: no CuSum of any class is above two
+-- bytes, before any of these units and behind it, nor at unit 2 of that sheet, by any course that follows the rules
+pub record FitInstance : Type 0 where
+  pub before-record : (i class : ℕ) → class < length classes → tenthsIn (before (manyUnits largestCusums) i .cusums) class < 65536
+  pub of-unit : (i class : ℕ) → class < length classes → tenthsIn (gradedAt (manyUnits largestCusums) i manyDefects .cusums) class < 65536
+  pub before-record-regraded : (i class : ℕ) → class < length classes → tenthsIn (cusumsBefore (manyUnits largestPlan) i) class < 65536
+  pub of-unit-regraded : (i class : ℕ) → class < length classes → tenthsIn (regradedAt (manyUnits largestPlan) i manyDefects .cusums) class < 65536
+  pub in-grading : (course : Course) → Rules largestCusums course → (class : ℕ) → class < length classes → course .newCusum 1 class < 65536
+  pub in-regrading : (course : RegradeCourse) → RegradeRules largestCusumsRegraded largestPlan course
+      → (class : ℕ) → class < length classes → course .newCusum 1 class < 65536
+
 -- ---- look-ups
 
 -- a code of a sheet is looked up in its results: the answer, and what it says of the sheet
@@ -257,6 +293,8 @@ pub record Instances : Type 0 where
       → FewerTwiceInstance buffer buffer'
   pub fewer-defects-meets : (buffer buffer' : List ℕ) → resultSize * 2 ≤ length buffer → resultSize * 2 ≤ length buffer'
       → FewerMeetsInstance buffer buffer'
+  -- CuSums fit in two bytes
+  pub cusums-fit : FitInstance
   -- look-ups in the results of the peach sheet: code 5 is found at offset 160, in the record of its second unit; code 6 is not on the sheet
   pub code-found : (buffer : List ℕ) → resultSize * 7 ≤ length buffer → (part : Part) → part ≡ lookup (unitRecords (peachLeft buffer) 7) 5
       → LookupInstance peach (peachLeft buffer) 5 (record { number = 0; offset = 160; length = 32 }) part

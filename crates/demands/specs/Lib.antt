@@ -1,4 +1,5 @@
 pub mod Demand3
+pub mod CusumsFit
 pub mod LookupGraded
 pub mod Instances
 pub mod Demands

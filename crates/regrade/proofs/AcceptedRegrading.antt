@@ -1,5 +1,5 @@
 -- What acceptance says of a regrading: of the sheet, of the second plan, of the answer and the result buffer; and that a refusal keeps the
--- buffer and counts no units. By cases on the verdict, then on the tests of numbers 18, 13 and 14.
+-- buffer and counts no units. By cases on the verdict, then on the tests of numbers 18 and 13.
 use Prim.Native.Nat.{ℕ, _*_, _≤_}
 use mathlib.Core.Path.{_≡_, refl, sym, _∙_, ap}
 use mathlib.Core.Bool.{Bool, true, false}
@@ -22,17 +22,14 @@ use Rattle.outcome.specs.declared.Answer.{Answer}
 use Rattle.outcome.specs.Outcome.{Outcome, refusal, AcceptedBy}
 use Rattle.tally.specs.Outcome.{recordsOf, recordsIn}
 use Rattle.regrade.specs.Regrading.{regradedResult, regradedCode}
-use Rattle.regrade.specs.Outcome.{sheetUnder, secondPlanWrong, regradedResults, regradedOverfull, regraded, regradeBy, regradeOutcome}
+use Rattle.regrade.specs.Outcome.{sheetUnder, secondPlanWrong, regradedResults, regraded, regradeBy, regradeOutcome}
 
 -- ---- the cases of the outcome
 
--- by the three tests behind the sheet's check
-abbrev given : List ℕ → List ℕ → List ℕ → ℕ → ℕ → Bool → Bool → Bool → Outcome
-given bytes plan buffer records units wrong short full =
-    pick wrong (refusal 18 0 buffer)
-    (pick short (refusal 13 (length bytes) buffer)
-    (pick full (refusal 14 (length bytes) buffer)
-    (regraded bytes plan buffer records units)))
+-- by the two tests behind the sheet's check
+abbrev given : List ℕ → List ℕ → List ℕ → ℕ → ℕ → Bool → Bool → Outcome
+given bytes plan buffer records units wrong short =
+    pick wrong (refusal 18 0 buffer) (pick short (refusal 13 (length bytes) buffer) (regraded bytes plan buffer records units))
 
 -- an outcome by a verdict whose number is 0
 record Passes (bytes plan buffer : List ℕ) (v : Verdict) (outcome : Outcome) : Type 0 where
@@ -47,15 +44,14 @@ passes-by : (bytes plan buffer : List ℕ) (v : Verdict) → ((number at : ℕ) 
 unfolding regradeBy recordsOf pick
 passes-by bytes plan buffer (Refused number at) numbered e = absurd (numbered number at refl e)
 passes-by bytes plan buffer (Accepted records units) numbered e =
-    go (secondPlanWrong plan) refl (ltb (length buffer) (resultSize * units)) refl (regradedOverfull (sheetUnder bytes (planOf plan) records)) e
+    go (secondPlanWrong plan) refl (ltb (length buffer) (resultSize * units)) refl e
   where
-    go : (wrong : Bool) → secondPlanWrong plan ≡ wrong → (short : Bool) → ltb (length buffer) (resultSize * units) ≡ short → (full : Bool)
-        → given bytes plan buffer records units wrong short full .answer .number ≡ 0
-        → Passes bytes plan buffer (Accepted records units) (given bytes plan buffer records units wrong short full)
-    go true w short s full e = absurd (omega arith)
-    go false w true s full e = absurd (omega arith)
-    go false w false s true e = absurd (omega arith)
-    go false w false s false e =
+    go : (wrong : Bool) → secondPlanWrong plan ≡ wrong → (short : Bool) → ltb (length buffer) (resultSize * units) ≡ short
+        → given bytes plan buffer records units wrong short .answer .number ≡ 0
+        → Passes bytes plan buffer (Accepted records units) (given bytes plan buffer records units wrong short)
+    go true w short s e = absurd (omega arith)
+    go false w true s e = absurd (omega arith)
+    go false w false s e =
         record { units = units; passed = refl; right = w; room = ltb-false (length buffer) (resultSize * units) s; is-acceptance = refl }
 
 -- any outcome with another number keeps the buffer and counts no units
@@ -63,15 +59,13 @@ refused-by : (bytes plan buffer : List ℕ) (v : Verdict) → (regradeBy bytes p
     → (regradeBy bytes plan buffer v .buffer ≡ buffer) × (regradeBy bytes plan buffer v .answer .units ≡ 0)
 unfolding regradeBy regraded pick
 refused-by bytes plan buffer (Refused number at) other = (refl, refl)
-refused-by bytes plan buffer (Accepted records units) other =
-    go (secondPlanWrong plan) (ltb (length buffer) (resultSize * units)) (regradedOverfull (sheetUnder bytes (planOf plan) records)) other
+refused-by bytes plan buffer (Accepted records units) other = go (secondPlanWrong plan) (ltb (length buffer) (resultSize * units)) other
   where
-    go : (wrong short full : Bool) → (given bytes plan buffer records units wrong short full .answer .number ≡ 0 → ⊥)
-        → (given bytes plan buffer records units wrong short full .buffer ≡ buffer) × (given bytes plan buffer records units wrong short full .answer .units ≡ 0)
-    go true short full other = (refl, refl)
-    go false true full other = (refl, refl)
-    go false false true other = (refl, refl)
-    go false false false other = absurd (other refl)
+    go : (wrong short : Bool) → (given bytes plan buffer records units wrong short .answer .number ≡ 0 → ⊥)
+        → (given bytes plan buffer records units wrong short .buffer ≡ buffer) × (given bytes plan buffer records units wrong short .answer .units ≡ 0)
+    go true short other = (refl, refl)
+    go false true other = (refl, refl)
+    go false false other = absurd (other refl)
 
 -- the result records fill exactly the size of one times the units
 length-results : (bytes plan : List ℕ) (n : ℕ) → length (regradedResults (sheetUnder bytes (planOf plan) n)) ≡ resultSize * unitsBefore bytes n

@@ -1,72 +1,37 @@
--- The outcome of a sheet that passes refusals 1 to 12, case by case as the code takes them: 18, 13, 14, accepted.
+-- The outcome of a sheet that passes refusals 1 to 12, case by case as the code takes them: 18, 13, accepted.
 -- Each case rewrites the outcome with the tests on the way; the accepted buffer comes from the writing pass and the code grading.
 use Prim.Native.Nat.{ℕ, _*_, _≤_, _<_}
 use mathlib.Core.Path.{_≡_, refl, sym, _∙_, ap, subst⁻¹}
-use mathlib.Core.Bool.{true, false, true≢false}
+use mathlib.Core.Bool.{true, false}
 use mathlib.Core.List.{List, _++_}
 use native.Mathlib.Omega.{arith}
 use lib.ListN.{length, drop}
 use borrow.Author.Tests.{lt-ltb, le-ltb}
-use Rattle.cusum.specs.Step.{largestTenths}
 use Rattle.encoding.specs.Bytes.{byte}
 use Rattle.units.specs.Conditions.{pick}
-use Rattle.units.specs.Words.{classes, tenthsIn, tenthsOf}
-use Rattle.units.specs.Unit.{classCusum, newCusums}
+use Rattle.units.specs.Words.{tenthsOf}
 use Rattle.units.specs.declared.Plan.{Plan}
 use Rattle.units.specs.declared.SampleUnit.{SampleUnit}
 use Rattle.units.specs.declared.Entry.the-variants.{UnitRecord}
-use Rattle.units.proofs.Bounds.{class-cusum-le, defect-grade-at-most}
-use Rattle.units.proofs.Classes.{at-class}
-use Rattle.units.proofs.Lists.{none-in}
+use Rattle.units.proofs.Bounds.{defect-grade-at-most}
 use Rattle.rules.specs.Sheet.{Sheet}
 use Rattle.layout.specs.Layout.{planSize, planOf, entryAt, unitsBefore}
 use Rattle.layout.proofs.Units.{units-among}
-use Rattle.sheet.specs.Refusals.{verdict, anyNumbers}
+use Rattle.sheet.specs.Refusals.{verdict}
 use Rattle.sheet.specs.declared.Verdict.the-variants.{Accepted}
 use Rattle.sheet.proofs.Accepted.{Facts, facts}
-use Rattle.sheet.proofs.Ranges.{designated-le, limit-le, prerequisite-le}
+use Rattle.sheet.proofs.Ranges.{designated-le, prerequisite-le}
 use Rattle.results.specs.Record.{resultSize}
 use Rattle.results.specs.Written.{written}
 use Rattle.codes.specs.Codes.{ungraded, codesGraded, Ungraded}
 use Rattle.codes.proofs.Coding.{Gradable, ready-for-codes, codes-done}
 use Rattle.single_plan.specs.SinglePlan.{resultUnder}
 use Rattle.outcome.specs.Outcome.{Outcome, refusal}
-use Rattle.tally.specs.Outcome.{anyTooLarge, limitTooLarge}
-use Rattle.tally.proofs.Overfull.{limits-fit, none-among}
 use Rattle.tally.proofs.Entries.{code-fits}
-use Rattle.regrade.specs.Regrading.{cusumsBefore, regradedAt, regradedResult, regradedPortion, regradedCode}
-use Rattle.regrade.specs.Outcome.{sheetUnder, secondPlanWrong, regradedResults, regradedOverfull, regraded, regradeBy}
+use Rattle.regrade.specs.Regrading.{cusumsBefore, regradedResult, regradedPortion, regradedCode}
+use Rattle.regrade.specs.Outcome.{sheetUnder, secondPlanWrong, regradedResults, regraded, regradeBy}
 use Rattle.regrade.specs.Regradable.{Regradable}
-use Rattle.regrade.proofs.SecondPlan.{plan-length, plan-facts, designated-planned}
-
--- ---- number 14 never applies
-
-module _ (plan : List ℕ) (right : secondPlanWrong plan ≡ false) where
-  pub limits-small : anyNumbers limitTooLarge (planOf plan) ≡ false
-  limits-small = limits-fit plan 0 (plan-facts plan right)
-
-  -- no CuSum is above the L of its class, whatever the records
-  cusums-fit : (bytes : List ℕ) (n i : ℕ) (unit : SampleUnit) → anyTooLarge (regradedAt (sheetUnder bytes (planOf plan) n) i unit .cusums) ≡ false
-  unfolding anyTooLarge sheetUnder newCusums
-  cusums-fit bytes n i unit =
-      let sheet = sheetUnder bytes (planOf plan) n in
-      let cusum = classCusum (sheet .table) (sheet .designated) (cusumsBefore sheet i) (tenthsOf unit) in
-      none-in (length classes) _
-      (λ class inside.
-      le-ltb largestTenths (tenthsIn (regradedAt sheet i unit .cusums) class)
-      (omega (
-        arith,
-        at-class cusum class inside,
-        class-cusum-le (sheet .table) (sheet .designated) (cusumsBefore sheet i) (tenthsOf unit) class,
-        limit-le plan 0 (plan-facts plan right) (sheet .designated) class,
-      )))
-
-  pub not-overfull : (bytes : List ℕ) (n : ℕ) → regradedOverfull (sheetUnder bytes (planOf plan) n) ≡ false
-  not-overfull bytes n =
-      let sheet = sheetUnder bytes (planOf plan) n in
-      none-among (λ i unit. regradedAt sheet i unit .cusums) (sheet .entry) (cusums-fit bytes n) (sheet .size)
-
--- ---- the cases
+use Rattle.regrade.proofs.SecondPlan.{plan-length, plan-passes, designated-planned}
 
 module _ (bytes plan buffer : List ℕ) (records units : ℕ) (accepted : verdict bytes ≡ Accepted records units) where
   sheet-facts : Facts bytes records
@@ -90,10 +55,6 @@ module _ (bytes plan buffer : List ℕ) (records units : ℕ) (accepted : verdic
     unfolding regradeBy pick
     too-short short = rw (right, lt-ltb (length buffer) (resultSize * units) short)
 
-    -- the code tests every L, and no L is too large
-    pub never-overfull : anyNumbers limitTooLarge (planOf plan) ≡ true → ⊥
-    never-overfull found = true≢false (sym found ∙ limits-small plan right)
-
     module _ (room : resultSize * units ≤ length buffer) where
       -- the writing can begin
       pub regradable : {second : Plan} → second ≡ planOf plan → Regradable bytes records second (length buffer)
@@ -116,7 +77,7 @@ module _ (bytes plan buffer : List ℕ) (records units : ℕ) (accepted : verdic
                   omega (
                     arith,
                     prerequisite-le bytes records sheet-facts i unit is-unit,
-                    defect-grade-at-most (sheet .table) (sheet .designated) (cusumsBefore sheet i) (tenthsOf unit) (omega (arith, designated-le plan 0 (plan-facts plan right))),
+                    defect-grade-at-most (sheet .table) (sheet .designated) (cusumsBefore sheet i) (tenthsOf unit) (omega (arith, designated-le plan (plan-passes plan right))),
                   );
             }
 
@@ -141,5 +102,5 @@ module _ (bytes plan buffer : List ℕ) (records units : ℕ) (accepted : verdic
               (regradeBy bytes plan buffer (Accepted records units))
           unfolding regradeBy pick regraded
           done graded is-graded =
-              rw (right, le-ltb (length buffer) (resultSize * units) room, not-overfull plan right bytes records)
+              rw (right, le-ltb (length buffer) (resultSize * units) room)
               (ap (λ (l : List ℕ). record { answer = record { number = 0; units = units; offset = length bytes }; buffer = l }) (is-graded ∙ graded-is))

@@ -16,8 +16,7 @@ use Rattle.sheet.specs.declared.Verdict.the-variants.{Accepted, Refused}
 use Rattle.results.specs.Record.{resultSize}
 use Rattle.results.specs.Written.{written}
 use Rattle.outcome.specs.Outcome.{Outcome, refusal}
-use Rattle.tally.specs.Outcome.{overfullAmong}
-use Rattle.regrade.specs.Regrading.{regradedAt, regradedResult, regradedCode}
+use Rattle.regrade.specs.Regrading.{regradedResult, regradedCode}
 
 -- so many records of the sheet behind the second plan in place of its own
 unfoldable pub sheetUnder : List ℕ → Plan → ℕ → Sheet
@@ -32,10 +31,6 @@ secondPlanWrong plan = not (eqb (length plan) planSize) || not (eqb (planRefusal
 abbrev pub regradedResults : Sheet → List ℕ
 regradedResults sheet = written (regradedResult sheet) (regradedCode sheet) (sheet .entry) (sheet .size)
 
--- 14: a CuSum too large for two bytes
-abbrev pub regradedOverfull : Sheet → Bool
-regradedOverfull sheet = overfullAmong (λ i unit. regradedAt sheet i unit .cusums) (sheet .entry) (sheet .size)
-
 -- acceptance is the check's; bytes behind the last result record keep theirs
 unfoldable pub regraded : List ℕ → List ℕ → List ℕ → ℕ → ℕ → Outcome
 regraded bytes plan buffer records units =
@@ -44,15 +39,13 @@ regraded bytes plan buffer records units =
       buffer = regradedResults (sheetUnder bytes (planOf plan) records) ++ drop (resultSize * units) buffer;
     }
 
--- 1 to 12 by the check of the sheet; then 18, at offset 0; then 13, a buffer shorter than 32 times the units; then 14; these two at the
--- sheet's length
+-- 1 to 12 by the check of the sheet; then 18, at offset 0; then 13, a buffer shorter than 32 times the units, at the sheet's length
 unfoldable pub regradeBy : List ℕ → List ℕ → List ℕ → Verdict → Outcome
 regradeBy bytes plan buffer (Refused number offset) = record { answer = answerOf bytes (Refused number offset); buffer = buffer }
 regradeBy bytes plan buffer (Accepted records units) =
     pick (secondPlanWrong plan) (refusal 18 0 buffer)
     (pick (ltb (length buffer) (resultSize * units)) (refusal 13 (length bytes) buffer)
-    (pick (regradedOverfull (sheetUnder bytes (planOf plan) records)) (refusal 14 (length bytes) buffer)
-    (regraded bytes plan buffer records units)))
+    (regraded bytes plan buffer records units))
 
 -- for every sheet, every second plan and every buffer
 unfoldable pub regradeOutcome : List ℕ → List ℕ → List ℕ → Outcome

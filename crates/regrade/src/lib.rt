@@ -1,4 +1,4 @@
-// Grading a recorded sheet again under a second plan record: the sheet's own check, refusals 18, 13 and 14, the result records, the code
+// Grading a recorded sheet again under a second plan record: the sheet's own check, refusals 18 and 13, the result records, the code
 // grades.
 ghost use mathlib.Core.Path.{_≡_};
 ghost use mathlib.Core.List.{_++_};
@@ -23,7 +23,6 @@ use results::RESULT_SIZE;
 use sheet::Verdict;
 use sheet::check;
 use sheet::plan_refusal;
-use tally::any_limit_too_large;
 use units::Plan;
 use writing::write_again;
 
@@ -64,9 +63,6 @@ fn regrade_accepted(
         return refused_as(13, bytes.len());
     }
     let second = plan_of(plan);
-    if any_limit_too_large(second) {
-        return refused_as(14, bytes.len());
-    }
     write_regraded(bytes, records, second, results);
     grade_codes(results, units);
     Answer {

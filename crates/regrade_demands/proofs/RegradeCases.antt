@@ -1,5 +1,5 @@
 -- How the answer of a regrading comes about: by 18, where the sheet passes its check and the second plan is wrong, or as for a grading.
--- By the verdict, then by the test of 18; number 14 never applies under a second plan that is right.
+-- By the verdict, then by the test of 18.
 use Prim.Native.Nat.{ℕ}
 use mathlib.Core.Path.{_≡_, refl}
 use mathlib.Core.Bool.{Bool, true, false}
@@ -13,7 +13,6 @@ use Rattle.outcome.specs.declared.Answer.{Answer}
 use Rattle.outcome.specs.Outcome.{Outcome, refusedAs, refusal}
 use Rattle.answers.proofs.Cases.{Case, by-check, by-buffer}
 use Rattle.regrade.specs.Outcome.{secondPlanWrong, regraded, regradeBy, regradeOutcome}
-use Rattle.regrade.proofs.Cases.{not-overfull}
 
 -- the sheet passes its check with so many records, and the second plan is right
 abbrev pub PassedUnder : List ℕ → List ℕ → ℕ → Type 0
@@ -30,7 +29,7 @@ module _ (bytes plan buffer : List ℕ) where
   case-by (Accepted records units) says =
       let (passes, counted) = facts bytes records units says in
       go _ (secondPlanWrong plan) refl
-      (λ right. by-buffer bytes buffer records units (passes, right) counted _ (not-overfull plan right bytes records) _)
+      (λ right. by-buffer bytes buffer records units (passes, right) counted _)
     where
       go : (rest : Outcome) (wrong : Bool) → secondPlanWrong plan ≡ wrong
           → (secondPlanWrong plan ≡ false → Case bytes buffer (PassedUnder bytes plan) (rest .answer))

@@ -27,7 +27,7 @@ use Rattle.regrade.specs.Outcome.{sheetUnder}
 use Rattle.alike.proofs.AlikeSheets.{unit-fellow, same-records, fellows-below}
 use Rattle.regrade_demands.specs.RegradeAccepted.{regradedSheet, failsRegradedAt}
 use Rattle.regrade_demands.specs.RegradeFewer.{FewerRegraded, NoWorseAt, RegradeFewerDefects}
-use Rattle.regrade_demands.proofs.RegradeRecorded.{its-facts, second-facts, recorded-portion, recorded-code-grade, recorded-cusum, recorded-overshoot}
+use Rattle.regrade_demands.proofs.RegradeRecorded.{its-facts, second-passes, recorded-portion, recorded-code-grade, recorded-cusum, recorded-overshoot}
 
 -- ---- over records
 
@@ -137,7 +137,7 @@ module _ (bytes bytes' plan buffer buffer' : List ℕ) (answer answer' : Answer)
           fewer-cusums (tableOf (planOf plan)) (planOf plan .designated) (entryAt bytes) (entryAt bytes') (recordsIn bytes) fellows i unit unit'
               (entry-unit bytes i (at .is-unit)) (entry-unit bytes' i (other i at .is-unit)),
           fewer-grades (tableOf (planOf plan)) (planOf plan .designated) (entryAt bytes) (entryAt bytes') (recordsIn bytes) fellows
-              (omega (arith, designated-le plan 0 (second-facts bytes plan buffer answer results (pair .first)))) i unit unit'
+              (omega (arith, designated-le plan (second-passes bytes plan buffer answer results (pair .first)))) i unit unit'
               (entry-unit bytes i (at .is-unit)) (entry-unit bytes' i (other i at .is-unit)),
         ))
 

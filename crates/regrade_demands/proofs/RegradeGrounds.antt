@@ -9,7 +9,7 @@ use native.Mathlib.Omega.{arith}
 use lib.Dec.{lit<}
 use lib.ListN.{length}
 use borrow.Author.Tests.{ne-eqb}
-use Rattle.layout.specs.Layout.{planSize, planOf, unitsBefore}
+use Rattle.layout.specs.Layout.{planSize, unitsBefore}
 use Rattle.sheet.specs.Refusals.{planRefusal}
 use Rattle.results.specs.Record.{resultSize}
 use Rattle.outcome.specs.declared.Answer.{Answer}
@@ -21,11 +21,9 @@ use Rattle.grounds.proofs.Tells.{tells-eq, tells-as, tells-not, tells-or}
 use Rattle.answers.specs.Grounds.{PlanRow, rows, WholeSheet}
 use Rattle.answers.proofs.FirstRow.{plan-in-rows, plan-first}
 use Rattle.answers.proofs.Cases.{to-13}
-use Rattle.answers.proofs.Grounds.{RowsBehind, refused-behind, judged-case, not-short, not-above}
-use Rattle.regrade.specs.Regrading.{regradedAt}
-use Rattle.regrade.specs.Outcome.{sheetUnder, secondPlanWrong}
-use Rattle.regrade.proofs.Cases.{not-overfull}
-use Rattle.regrade_demands.specs.RegradeGrounds.{SecondPlanWrong, other-length, plan-ground, LastRow, row18, row13, row14, regradeGrounds, whereLookedAt, RegradeRefused, RegradeRefusals}
+use Rattle.answers.proofs.Grounds.{RowsBehind, refused-behind, judged-case, not-short}
+use Rattle.regrade.specs.Outcome.{secondPlanWrong}
+use Rattle.regrade_demands.specs.RegradeGrounds.{SecondPlanWrong, other-length, plan-ground, LastRow, row18, row13, regradeGrounds, whereLookedAt, RegradeRefused, RegradeRefusals}
 use Rattle.regrade_demands.proofs.RegradeCases.{PassedUnder, RegradeCase, wrong-plan, as-graded, regrade-case}
 
 -- ---- 18
@@ -48,28 +46,21 @@ module _ (bytes plan buffer : List ℕ) where
   unfolding rowsAbove
   in-rows n (row18 h) = (lit< tt, refl)
   in-rows n (row13 h) = (lit< tt, refl)
-  in-rows n (row14 h) = (lit< tt, refl)
 
   behind-records : (n : ℕ) → LastRow bytes plan buffer n → 12 ≤ rowsAbove rows n
   unfolding rowsAbove
   behind-records n (row18 h) = omega arith
   behind-records n (row13 h) = omega arith
-  behind-records n (row14 h) = omega arith
 
   from-13 : secondPlanWrong plan ≡ false → (n : ℕ) → LastRow bytes plan buffer n → rowsAbove rows 13 ≤ rowsAbove rows n
   unfolding rowsAbove
   from-13 right n (row18 h) = absurd (tells-18 plan .not-so right h)
   from-13 right n (row13 h) = omega arith
-  from-13 right n (row14 h) = omega arith
 
   has-room : (records : ℕ) → PassedUnder bytes plan records → resultSize * unitsBefore bytes records ≤ length buffer
       → (n : ℕ) → LastRow bytes plan buffer n → ⊥
-  unfolding sheetUnder
   has-room records (facts, right) room n (row18 h) = tells-18 plan .not-so right h
   has-room records (facts, right) room n (row13 h) = not-short bytes records facts buffer room h
-  has-room records (facts, right) room n (row14 h) =
-      not-above bytes records facts (λ k i unit. regradedAt (sheetUnder bytes (planOf plan) k) i unit .cusums) (not-overfull plan right bytes records)
-      (h .records) (h .i) (h .class) (h .filled) (h .inside) (h .is-unit) (h .a-class) (h .above)
 
   behind : RowsBehind bytes buffer (PassedUnder bytes plan) (LastRow bytes plan buffer)
   behind =
@@ -102,14 +93,12 @@ module _ (bytes plan buffer : List ℕ) where
             (refused-behind bytes buffer behind records facts 18 (λ e. omega arith) (row18 (tells-18 plan .so wrong))
             (λ n applies above. omega (arith, behind-records n applies)));
         offset-of-18 = λ is-18. refl;
-        never-14 = λ is-14. omega arith;
       }
   refused-case answer (as-graded by) =
       let at-most = to-13 bytes buffer answer by in
       record {
         by-ground = subst⁻¹ Judged (in-order answer (λ is-18. omega arith)) (judged-case bytes buffer behind answer by);
         offset-of-18 = λ is-18. absurd (omega arith);
-        never-14 = λ is-14. omega arith;
       }
 
 pub regrade-refusals : RegradeRefusals

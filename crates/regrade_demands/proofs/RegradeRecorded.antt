@@ -12,13 +12,14 @@ use Rattle.units.specs.Unit.{classCusum, classOvershoot, newCusums, newOvershoo
 use Rattle.units.specs.declared.SampleUnit.{SampleUnit}
 use Rattle.units.specs.declared.Entry.{Entry}
 use Rattle.units.specs.declared.Entry.the-variants.{UnitRecord, Redesignation, Break}
-use Rattle.units.proofs.Bounds.{class-cusum-le, class-overshoot-le, defect-grade-at-most}
+use Rattle.units.proofs.Bounds.{class-cusum-le, new-cusum-le, class-overshoot-le, defect-grade-at-most}
 use Rattle.units.proofs.Classes.{at-class}
 use Rattle.units.proofs.Lists.{map-at}
 use Rattle.rules.specs.Sheet.{Sheet}
 use Rattle.rules.proofs.FailingUnits.{starts-at}
 use Rattle.layout.specs.Layout.{sampleUnitAt, offset, unitsBefore}
 use Rattle.layout.proofs.Units.{entry-unit}
+use Rattle.sheet.specs.Refusals.{planRefusal}
 use Rattle.sheet.proofs.Accepted.{Facts}
 use Rattle.sheet.proofs.Ranges.{designated-le, limit-le, start-le-limit, prerequisite-le, count-le}
 use Rattle.results.specs.Record.{resultSize}
@@ -30,27 +31,22 @@ use Rattle.tally.proofs.Entries.{code-fits}
 use Rattle.regrade.specs.Regrading.{cusumsBehind, cusumsBefore, regradedResult, regradedPortion, regradedCode}
 use Rattle.regrade.specs.Outcome.{sheetUnder}
 use Rattle.regrade.proofs.AcceptedRegrading.{AcceptedRegrading, accepted-regrading}
-use Rattle.regrade.proofs.SecondPlan.{plan-facts}
+use Rattle.regrade.proofs.SecondPlan.{plan-passes}
 use Rattle.courses.specs.Demand2.{recordedMark, recordedCode, recordedPlanGrade, recordedStanding, codeOf}
 use Rattle.courses.proofs.ReadBack.{ReadBack, read-back}
 use Rattle.regrade_demands.specs.RegradeAccepted.{RegradedAs, regradedSheet}
 
 -- where S is at most L, no CuSum before a record is above L
-within-limit : (sheet : Sheet) (class : ℕ) → class < length classes →
+pub within-limit : (sheet : Sheet) (class : ℕ) → class < length classes →
     let numbers = numbersOf (sheet .table) (sheet .designated) class in
     numbers .start ≤ numbers .limit → (i : ℕ) → tenthsIn (cusumsBefore sheet i) class ≤ numbers .limit
-unfolding cusumsBefore cusumsBehind newCusums
+unfolding cusumsBefore cusumsBehind
 within-limit sheet class known start-within zero = omega (arith, starts-at (sheet .table) class known (sheet .designated))
 within-limit sheet class known start-within (suc i) = go (sheet .entry i) (within-limit sheet class known start-within i)
   where
     go : (entry : Entry) → tenthsIn (cusumsBefore sheet i) class ≤ numbersOf (sheet .table) (sheet .designated) class .limit
         → tenthsIn (cusumsBehind sheet (cusumsBefore sheet i) entry) class ≤ numbersOf (sheet .table) (sheet .designated) class .limit
-    go (UnitRecord unit) earlier =
-        omega (
-          arith,
-          at-class (classCusum (sheet .table) (sheet .designated) (cusumsBefore sheet i) (tenthsOf unit)) class known,
-          class-cusum-le (sheet .table) (sheet .designated) (cusumsBefore sheet i) (tenthsOf unit) class,
-        )
+    go (UnitRecord unit) earlier = new-cusum-le (sheet .table) (sheet .designated) (cusumsBefore sheet i) (tenthsOf unit) class known
     go (Redesignation new) earlier = earlier
     go Break earlier = omega (arith, starts-at (sheet .table) class known (sheet .designated))
 
@@ -61,8 +57,8 @@ module _ (bytes plan buffer : List ℕ) (answer : Answer) (results : List ℕ) (
   pub its-facts : Facts bytes (recordsIn bytes)
   its-facts = by-check .facts
 
-  pub second-facts : Facts plan 0
-  second-facts = plan-facts plan (by-check .right)
+  pub second-passes : planRefusal plan ≡ 0
+  second-passes = plan-passes plan (by-check .right)
 
   abbrev sheet : Sheet
   sheet = regradedSheet bytes plan
@@ -95,7 +91,7 @@ module _ (bytes plan buffer : List ℕ) (answer : Answer) (results : List ℕ) (
     pub recorded-portion-le : recordedPortionGrade bytes results i ≤ substandard
     unfolding regradedPortion regradedSheet sheetUnder
     recorded-portion-le =
-        let designated = designated-le plan 0 second-facts in
+        let designated = designated-le plan second-passes in
         let defects = defect-grade-at-most (sheet .table) (sheet .designated) (cusumsBefore sheet i) (tenthsOf unit) (omega (arith, designated)) in
         let prerequisite = prerequisite-le bytes (recordsIn bytes) its-facts i unit (entry-unit bytes i (at .is-unit)) in
         rw recorded-portion (omega (arith, defects, prerequisite))
@@ -117,7 +113,7 @@ module _ (bytes plan buffer : List ℕ) (answer : Answer) (results : List ℕ) (
     recorded-cusum class known =
         let is = at-class (classCusum (sheet .table) (sheet .designated) (cusumsBefore sheet i) (tenthsOf unit)) class known in
         let most = class-cusum-le (sheet .table) (sheet .designated) (cusumsBefore sheet i) (tenthsOf unit) class in
-        let fits = limit-le plan 0 second-facts (sheet .designated) class in
+        let fits = limit-le plan second-passes (sheet .designated) class in
         there .cusums class known (omega (arith, is, most, fits)) ∙ is
 
     -- an overshoot is at most the unit's own defects
@@ -128,7 +124,7 @@ module _ (bytes plan buffer : List ℕ) (answer : Answer) (results : List ℕ) (
     unfolding regradedSheet sheetUnder
     overshoot-at-most class known =
         class-overshoot-le (sheet .table) (sheet .designated) (cusumsBefore sheet i) (tenthsOf unit) class
-        (λ planned. within-limit sheet class known (start-le-limit plan 0 second-facts (sheet .designated) class) i)
+        (λ planned. within-limit sheet class known (start-le-limit plan second-passes (sheet .designated) class) i)
 
     pub recorded-overshoot : (class : ℕ) → class < length classes
         → recordedOvershoot bytes results i class

@@ -25,6 +25,7 @@ use Rattle.anchors.specs.Anchor.{tenthsFrom}
 use Rattle.anchors.proofs.Trails.{tenths-go-on}
 use Rattle.layout.specs.Layout.{planOf, sampleUnitAt, entryAt}
 use Rattle.layout.proofs.Units.{entry-unit}
+use Rattle.sheet.specs.Refusals.{planRefusal}
 use Rattle.sheet.proofs.Accepted.{Facts}
 use Rattle.sheet.proofs.Ranges.{designated-le}
 use Rattle.recording.specs.Sheet.{sheetOf}
@@ -46,7 +47,7 @@ use Rattle.courses.proofs.OneCourse.{settled}
 use Rattle.courses.proofs.Graded.{same-records}
 use Rattle.regrade_demands.specs.RegradeAccepted.{RegradedAs, regradedSheet, secondDesignated, secondNumbers, failsRegradedAt}
 use Rattle.regrade_demands.specs.RegradeRecords.{RegradeCourse, RuleTwoBy, ClassFailsRegraded, UnitFailsRegraded, BestLowerUnder, RuleThreeUnder, RegradeRules, RegradeRecorded, SameRegradedAt, RegradeGraded}
-use Rattle.regrade_demands.proofs.RegradeRecorded.{its-facts, second-facts, recorded-mark, recorded-code, recorded-plan, recorded-portion, recorded-code-grade, recorded-standing, recorded-cusum, overshoot-at-most, recorded-overshoot}
+use Rattle.regrade_demands.proofs.RegradeRecorded.{its-facts, second-passes, recorded-mark, recorded-code, recorded-plan, recorded-portion, recorded-code-grade, recorded-standing, recorded-cusum, overshoot-at-most, recorded-overshoot}
 
 -- ---- rule 2 tells one CuSum and one overshoot
 
@@ -101,7 +102,7 @@ regradedCourse bytes plan =
       defectGrade = λ i. defectGrade (sheet .table) (sheet .designated) (cusumsBefore sheet i) (tenthsOf (unitIn bytes i));
     }
 
-module _ (bytes plan : List ℕ) (facts : Facts bytes (recordsIn bytes)) (second : Facts plan 0) where
+module _ (bytes plan : List ℕ) (facts : Facts bytes (recordsIn bytes)) (second : planRefusal plan ≡ 0) where
   abbrev sheet : Sheet
   sheet = regradedSheet bytes plan
 
@@ -117,7 +118,7 @@ module _ (bytes plan : List ℕ) (facts : Facts bytes (recordsIn bytes)) (second
 
   planned : secondDesignated plan < substandard
   unfolding planOf
-  planned = omega (arith, designated-le plan 0 second)
+  planned = omega (arith, designated-le plan second)
 
   entry-here : (i : ℕ) {entry : Entry} → entryAt bytes i ≡ entry → sheet .entry i ≡ entry
   unfolding regradedSheet sheetUnder
@@ -351,8 +352,8 @@ module _ (bytes plan buffer : List ℕ) (answer : Answer) (results : List ℕ) (
   passed : Facts bytes (recordsIn bytes)
   passed = its-facts bytes plan buffer answer results accepted
 
-  right : Facts plan 0
-  right = second-facts bytes plan buffer answer results accepted
+  right : planRefusal plan ≡ 0
+  right = second-passes bytes plan buffer answer results accepted
 
   abbrev its-course : RegradeCourse
   its-course = regradedCourse bytes plan
@@ -404,7 +405,7 @@ pub regrade-graded : RegradeGraded
 unfolding tenthsFrom
 regrade-graded bytes plan buffer answer results accepted =
     let facts = its-facts bytes plan buffer answer results accepted in
-    let second = second-facts bytes plan buffer answer results accepted in
+    let second = second-passes bytes plan buffer answer results accepted in
     record {
       course = regradedCourse bytes plan;
       rules = rules bytes plan facts second;

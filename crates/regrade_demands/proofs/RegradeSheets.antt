@@ -11,15 +11,15 @@ use Rattle.sheet.specs.declared.Verdict.the-variants.{Accepted}
 use Rattle.results.specs.Record.{resultSize}
 use Rattle.outcome.specs.Outcome.{refusal}
 use Rattle.regrade.specs.Outcome.{secondPlanWrong, regraded, regradeBy, regradeOutcome}
-use Rattle.regrade.proofs.Cases.{not-overfull}
 use Rattle.regrade.proofs.Computing.{computing}
-use Rattle.regrade_demands.specs.RegradeSheets.{FailureSheets, RedesignationSheets, BreakSheets, SecondPlanSheets, UnitSheets, FewerSheets, RefusedSheets, WrongPlanSheets, RegradeSheets, recordedPlan, buyerA, buyerB, buyerC, manualPlan, manualExample, manualExampleResults, failureOfRecordedPlan, failureOfRecordedPlanResults, failureOfSecondPlan, failureOfSecondPlanResults, twoFailures, twoFailuresResults, threeFailures, threeFailuresResults, failureBehindWorseOne, failureBehindWorseOneResults, twoFailuresInDifferentClasses, twoFailuresInDifferentClassesResults, stepThreeOfRecordedPlan, stepThreeOfRecordedPlanResults, noUnitRecoverable, noUnitRecoverableResults, redesignationBetweenUnits, redesignationBetweenUnitsResults, redesignationBeforeFirstUnit, redesignationBeforeFirstUnitResults, redesignationsToEveryGrade, redesignationsToEveryGradeResults, redesignationBetweenFailures, redesignationBetweenFailuresResults, redesignationBesideBreak, redesignationBesideBreakResults, redesignationToCUnderA, redesignationToCUnderAResults, breakBetweenUnits, breakBetweenUnitsResults, breakBetweenFailures, breakBetweenFailuresResults, breakBehindZero, breakBehindZeroResults, breaksInEveryClass, breaksInEveryClassResults, secondPlanOfC, secondPlanOfCResults, secondPlanOfA, secondPlanOfAResults, everyClassUnderA, everyClassUnderAResults, everyClassUnderB, everyClassUnderBResults, everyClassUnderC, everyClassUnderCResults, lowerGradesByTotal, lowerGradesByTotalResults, lowerGradesByOtherClasses, lowerGradesByOtherClassesResults, countsThatAAdmits, countsThatAAdmitsResults, rawValueAtLimit, rawValueAtLimitResults, tenthAboveLimit, tenthAboveLimitResults, belowZero, belowZeroResults, overshootAboveTwoBytes, overshootAboveTwoBytesResults, prerequisites, prerequisitesResults, prerequisiteSubstandard, prerequisiteSubstandardResults, codeMetAgain, codeMetAgainResults, codeMetAgainLater, codeMetAgainLaterResults, codesAcrossBreakAndRedesignation, codesAcrossBreakAndRedesignationResults, codesAlikeInOneByte, codesAlikeInOneByteResults, noUnit, noUnitResults, noUnitButRecords, noUnitButRecordsResults, twoFailuresBeforeRedesignation, twoFailuresBeforeRedesignationResults, fiveMinorDefectsFewer, fiveMinorDefectsFewerResults, ground1, ground2, ground3, ground4, ground5, ground6, ground7, ground8, ground9, ground10, ground11, ground11ByRecordedPlan, bufferWithoutRoom}
+use Rattle.computed.specs.FurtherSheets.{largestPlan}
+use Rattle.regrade_demands.specs.RegradeSheets.{FailureSheets, RedesignationSheets, BreakSheets, SecondPlanSheets, UnitSheets, FewerSheets, RefusedSheets, WrongPlanSheets, RegradeSheets, recordedPlan, buyerA, buyerB, buyerC, manualPlan, manualExample, manualExampleResults, failureOfRecordedPlan, failureOfRecordedPlanResults, failureOfSecondPlan, failureOfSecondPlanResults, twoFailures, twoFailuresResults, threeFailures, threeFailuresResults, failureBehindWorseOne, failureBehindWorseOneResults, twoFailuresInDifferentClasses, twoFailuresInDifferentClassesResults, stepThreeOfRecordedPlan, stepThreeOfRecordedPlanResults, noUnitRecoverable, noUnitRecoverableResults, redesignationBetweenUnits, redesignationBetweenUnitsResults, redesignationBeforeFirstUnit, redesignationBeforeFirstUnitResults, redesignationsToEveryGrade, redesignationsToEveryGradeResults, redesignationBetweenFailures, redesignationBetweenFailuresResults, redesignationBesideBreak, redesignationBesideBreakResults, redesignationToCUnderA, redesignationToCUnderAResults, breakBetweenUnits, breakBetweenUnitsResults, breakBetweenFailures, breakBetweenFailuresResults, breakBehindZero, breakBehindZeroResults, breaksInEveryClass, breaksInEveryClassResults, secondPlanOfC, secondPlanOfCResults, secondPlanOfA, secondPlanOfAResults, everyClassUnderA, everyClassUnderAResults, everyClassUnderB, everyClassUnderBResults, everyClassUnderC, everyClassUnderCResults, lowerGradesByTotal, lowerGradesByTotalResults, lowerGradesByOtherClasses, lowerGradesByOtherClassesResults, countsThatAAdmits, countsThatAAdmitsResults, rawValueAtLimit, rawValueAtLimitResults, tenthAboveLimit, tenthAboveLimitResults, belowZero, belowZeroResults, overshootAboveTwoBytes, overshootAboveTwoBytesResults, largestCusumsRegraded, largestCusumsRegradedResults, prerequisites, prerequisitesResults, prerequisiteSubstandard, prerequisiteSubstandardResults, codeMetAgain, codeMetAgainResults, codeMetAgainLater, codeMetAgainLaterResults, codesAcrossBreakAndRedesignation, codesAcrossBreakAndRedesignationResults, codesAlikeInOneByte, codesAlikeInOneByteResults, noUnit, noUnitResults, noUnitButRecords, noUnitButRecordsResults, twoFailuresBeforeRedesignation, twoFailuresBeforeRedesignationResults, fiveMinorDefectsFewer, fiveMinorDefectsFewerResults, ground1, ground2, ground3, ground4, ground5, ground6, ground7, ground8, ground9, ground10, ground11, ground11ByRecordedPlan, bufferWithoutRoom}
 
 -- a sheet that passes is graded under a right second plan in a buffer that has room for its records, and refused with 13 in one that has not
 module _ (bytes plan buffer : List ℕ) (records units : ℕ) (passes : verdict bytes ≡ Accepted records units) (right : secondPlanWrong plan ≡ false) where
   accepts : resultSize * units ≤ length buffer → regradeOutcome bytes plan buffer ≡ regraded bytes plan buffer records units
   unfolding pick regradeBy regradeOutcome
-  accepts room = rw (passes, right, le-ltb (length buffer) (resultSize * units) room, not-overfull plan right bytes records)
+  accepts room = rw (passes, right, le-ltb (length buffer) (resultSize * units) room)
 
   without-room : length buffer < resultSize * units → regradeOutcome bytes plan buffer ≡ refusal 13 (length bytes) buffer
   unfolding pick regradeBy regradeOutcome
@@ -40,6 +40,10 @@ right-c = refl
 right-manual : secondPlanWrong manualPlan ≡ false
 unfolding computing manualPlan
 right-manual = refl
+
+right-largest : secondPlanWrong largestPlan ≡ false
+unfolding computing largestPlan
+right-largest = refl
 
 failure-sheets : FailureSheets
 unfolding computing recordedPlan buyerA buyerB manualPlan manualExample manualExampleResults failureOfRecordedPlan
@@ -104,7 +108,7 @@ second-plan-sheets =
 
 unit-sheets : UnitSheets
 unfolding computing recordedPlan buyerA buyerB rawValueAtLimit rawValueAtLimitResults tenthAboveLimit tenthAboveLimitResults belowZero
-    belowZeroResults overshootAboveTwoBytes overshootAboveTwoBytesResults prerequisites prerequisitesResults prerequisiteSubstandard
+    belowZeroResults overshootAboveTwoBytes overshootAboveTwoBytesResults largestPlan largestCusumsRegraded largestCusumsRegradedResults prerequisites prerequisitesResults prerequisiteSubstandard
     prerequisiteSubstandardResults codeMetAgain codeMetAgainResults codeMetAgainLater codeMetAgainLaterResults codesAlikeInOneByte
     codesAlikeInOneByteResults noUnit noUnitResults noUnitButRecords noUnitButRecordsResults
     codesAcrossBreakAndRedesignation codesAcrossBreakAndRedesignationResults
@@ -114,6 +118,7 @@ unit-sheets =
       tenth-above-limit = λ buffer room. accepts tenthAboveLimit buyerB buffer 1 1 refl right-b room;
       below-zero = λ buffer room. accepts belowZero buyerB buffer 2 2 refl right-b room;
       overshoot-above-two-bytes = λ buffer room. accepts overshootAboveTwoBytes buyerB buffer 1 1 refl right-b room;
+      largest-cusums-regraded = λ buffer room. accepts largestCusumsRegraded largestPlan buffer 3 3 refl right-largest room;
       prerequisites = λ buffer room. accepts prerequisites buyerB buffer 4 4 refl right-b room;
       prerequisite-substandard = λ buffer room. accepts prerequisiteSubstandard buyerB buffer 3 3 refl right-b room;
       code-met-again = λ buffer room. accepts codeMetAgain buyerB buffer 3 3 refl right-b room;

@@ -1,19 +1,17 @@
 -- The grounds on which a regrading is refused, by what stands in the bytes; which is returned is said in `Grounds` of the crate grounds. The
 -- rows of the sheet are those of its grading.
-use Prim.Native.Nat.{ℕ, _<_}
+use Prim.Native.Nat.{ℕ}
 use mathlib.Core.Path.{_≡_}
 use mathlib.Core.Bool.{cond}
 use mathlib.Core.List.{List}
 use lib.Dec.{eqb}
 use lib.ListN.{length}
-use Rattle.units.specs.Words.{classes, tenthsIn}
-use Rattle.layout.specs.Layout.{planSize, planOf, sampleUnitAt, offset}
+use Rattle.layout.specs.Layout.{planSize, offset}
 use Rattle.outcome.specs.declared.Answer.{Answer}
 use Rattle.outcome.specs.Outcome.{Outcome}
 use Rattle.grounds.specs.Grounds.{Grounds, RefusedByGround}
-use Rattle.answers.specs.Grounds.{IsUnit, FilledBy, BufferShort, PlanRow, RecordRow, rows, WholeSheet}
-use Rattle.regrade.specs.Regrading.{regradedAt}
-use Rattle.regrade.specs.Outcome.{sheetUnder, regradeOutcome}
+use Rattle.answers.specs.Grounds.{BufferShort, PlanRow, RecordRow, rows, WholeSheet}
+use Rattle.regrade.specs.Outcome.{regradeOutcome}
 
 -- 18: "the second plan isn't exactly one plan record free of 2 to 5": it is longer or shorter than 75 bytes, or it has, for itself, a ground
 -- of a sheet's plan (1 is another mark, where the length is right)
@@ -21,22 +19,10 @@ pub data SecondPlanWrong (plan : List ℕ) : Type 0 where
   other-length : (length plan ≡ planSize → ⊥) → SecondPlanWrong plan
   plan-ground : {number : ℕ} → PlanRow plan number → SecondPlanWrong plan
 
--- 14: "a CuSum too large for two bytes"
-pub record CusumAboveRegraded (bytes plan : List ℕ) : Type 0 where
-  pub records : ℕ
-  pub filled : FilledBy bytes records
-  pub i : ℕ
-  pub inside : i < records
-  pub is-unit : IsUnit bytes i
-  pub class : ℕ
-  pub a-class : class < length classes
-  pub above : 65535 < tenthsIn (regradedAt (sheetUnder bytes (planOf plan) records) i (sampleUnitAt bytes (offset bytes i)) .cusums) class
-
 -- behind the records come the second plan, "after all checks of the sheet's records and before 13", and the result buffer
 pub data LastRow (bytes plan buffer : List ℕ) : ℕ → Type 0 where
   row18 : SecondPlanWrong plan → LastRow bytes plan buffer 18
   row13 : BufferShort bytes buffer → LastRow bytes plan buffer 13
-  row14 : CusumAboveRegraded bytes plan → LastRow bytes plan buffer 14
 
 abbrev pub regradeGrounds : List ℕ → List ℕ → List ℕ → Grounds
 regradeGrounds bytes plan buffer =
@@ -58,8 +44,6 @@ pub record RegradeRefused (bytes plan buffer : List ℕ) (answer : Answer) : Typ
   -- refused exactly if a ground applies, and then the first row met is returned, with its number and place
   pub by-ground : RefusedByGround (regradeGrounds bytes plan buffer) (WholeSheet bytes) (whereLookedAt bytes answer)
   pub offset-of-18 : answer .number ≡ 18 → answer .offset ≡ 0
-  -- number 14 is never returned
-  pub never-14 : answer .number ≡ 14 → ⊥
 
 -- for every sheet, every second plan and every buffer, as the promise of `regrade` says
 abbrev pub RegradeRefusals : Type 0

@@ -9,6 +9,7 @@ use Rattle.results.specs.Record.{resultSize}
 use Rattle.outcome.specs.Outcome.{Outcome}
 use Rattle.outcome.specs.Held.{GradedBy, RefusedBy, WithoutRoomBy}
 use Rattle.regrade.specs.Outcome.{regradeOutcome}
+use Rattle.computed.specs.FurtherSheets.{largestPlan}
 
 module _ (plan : List ℕ) where
   -- what a sheet comes to under this second plan
@@ -796,6 +797,27 @@ overshootAboveTwoBytesResults =
     ∷ 0 ∷ 0 ∷ 78 ∷ 18 ∷ 0 ∷ 0 ∷ 77 ∷ 246 ∷ 0 ∷ 0 ∷ 77 ∷ 239 ∷ 0 ∷ 1 ∷ 55 ∷ 254
     ∷ []
 
+-- 999.9/999/999.9 in every class. Unit 1 comes to L in critical and total, 999.9+999-999, and
+-- meets. Unit 2, with as many defects as there may be, fails in each: the CuSums are L, and no
+-- larger.
+unfoldable pub largestCusumsRegraded : List ℕ
+largestCusumsRegraded =
+    recordedPlan
+    ++ (0x53 ∷ 0x55 ∷ 0 ∷ 1 ∷ 3 ∷ 231 ∷ 0 ∷ 0 ∷ 0 ∷ 0 ∷ 0 ∷ 0 ∷ 0 ∷ 1  -- 1: 999,0,0,0;A;1
+    ∷ 0x53 ∷ 0x55 ∷ 0 ∷ 2 ∷ 7 ∷ 208 ∷ 7 ∷ 208 ∷ 7 ∷ 208 ∷ 7 ∷ 208 ∷ 0 ∷ 1  -- 2: 2000,2000,2000,2000;A;1
+    ∷ 0x53 ∷ 0x55 ∷ 0 ∷ 3 ∷ 0 ∷ 0 ∷ 0 ∷ 0 ∷ 0 ∷ 0 ∷ 3 ∷ 231 ∷ 0 ∷ 1  -- 3: 0,0,0,999;A;1
+    ∷ [])
+
+unfoldable pub largestCusumsRegradedResults : List ℕ
+largestCusumsRegradedResults =
+    0x47 ∷ 0x52 ∷ 0 ∷ 1 ∷ 0 ∷ 0 ∷ 0 ∷ 0 ∷ 39 ∷ 15 ∷ 0 ∷ 9 ∷ 0 ∷ 9 ∷ 39 ∷ 15  -- 1 1 A A m A 999.9 0.9 0.9 999.9
+    ∷ 0 ∷ 0 ∷ 0 ∷ 0 ∷ 0 ∷ 0 ∷ 0 ∷ 0 ∷ 0 ∷ 0 ∷ 0 ∷ 0 ∷ 0 ∷ 0 ∷ 0 ∷ 0
+    ∷ 0x47 ∷ 0x52 ∷ 0 ∷ 2 ∷ 3 ∷ 3 ∷ 0 ∷ 1 ∷ 39 ∷ 15 ∷ 39 ∷ 15 ∷ 39 ∷ 15 ∷ 39 ∷ 15  -- 2 2 S S f A 999.9 999.9 999.9 999.9
+    ∷ 0 ∷ 0 ∷ 39 ∷ 26 ∷ 0 ∷ 0 ∷ 0 ∷ 20 ∷ 0 ∷ 0 ∷ 0 ∷ 20 ∷ 0 ∷ 1 ∷ 17 ∷ 122
+    ∷ 0x47 ∷ 0x52 ∷ 0 ∷ 3 ∷ 0 ∷ 0 ∷ 0 ∷ 0 ∷ 0 ∷ 9 ∷ 0 ∷ 9 ∷ 0 ∷ 9 ∷ 39 ∷ 15  -- 3 3 A A m A 0.9 0.9 0.9 999.9
+    ∷ 0 ∷ 0 ∷ 0 ∷ 0 ∷ 0 ∷ 0 ∷ 0 ∷ 0 ∷ 0 ∷ 0 ∷ 0 ∷ 0 ∷ 0 ∷ 0 ∷ 0 ∷ 0
+    ∷ []
+
 -- C is worse than the B of unit 1, A is not; Substandard is worse than the C with which unit 3
 -- fails, B is not. Standings go by defects alone.
 unfoldable pub prerequisites : List ℕ
@@ -949,6 +971,7 @@ pub record UnitSheets : Type 0 where
   pub tenth-above-limit : Graded buyerB tenthAboveLimit 1 89 tenthAboveLimitResults
   pub below-zero : Graded buyerB belowZero 2 103 belowZeroResults
   pub overshoot-above-two-bytes : Graded buyerB overshootAboveTwoBytes 1 89 overshootAboveTwoBytesResults
+  pub largest-cusums-regraded : Graded largestPlan largestCusumsRegraded 3 117 largestCusumsRegradedResults
   pub prerequisites : Graded buyerB prerequisites 4 131 prerequisitesResults
   pub prerequisite-substandard : Graded buyerB prerequisiteSubstandard 3 117 prerequisiteSubstandardResults
   pub code-met-again : Graded buyerB codeMetAgain 3 117 codeMetAgainResults

@@ -10,11 +10,11 @@ use lib.ListN.{length}
 use borrow.Author.Tests.{ltb-true}
 use Rattle.cusum.specs.declared.Cusum.{Cusum}
 use Rattle.units.specs.Words.{substandard, hasPlan, classes, Table, rowOf, numbersOf, tenthsOf, tenthsIn}
-use Rattle.units.specs.Unit.{starting, classCusum, newCusums, unitFails, defectGrade}
+use Rattle.units.specs.Unit.{starting, unitFails, defectGrade}
 use Rattle.units.specs.declared.SampleUnit.{SampleUnit}
 use Rattle.units.specs.declared.Entry.{Entry}
 use Rattle.units.specs.declared.Entry.the-variants.{UnitRecord, Redesignation, Break}
-use Rattle.units.proofs.Bounds.{class-cusum-le}
+use Rattle.units.proofs.Bounds.{new-cusum-le}
 use Rattle.units.proofs.Classes.{at-class}
 use Rattle.units.proofs.Failing as failing
 use Rattle.units.proofs.Tests.{and-both, and-false}
@@ -47,13 +47,8 @@ module _ (table : Table) (class : ℕ) (known : class < length classes) where
   restarted-within designated phase start-within = omega (arith, starts-at (inForceIn designated phase))
 
   unit-within : (state : State) (unit : SampleUnit) → WithinLimit (inForce state) (graded table state unit .cusums)
-  unfolding graded newCusums
-  unit-within state unit start-within =
-      omega (
-        arith,
-        at-class (classCusum table (inForce state) (state .cusums) (tenthsOf unit)) class known,
-        class-cusum-le table (inForce state) (state .cusums) (tenthsOf unit) class,
-      )
+  unfolding graded
+  unit-within state unit start-within = new-cusum-le table (inForce state) (state .cusums) (tenthsOf unit) class known
 
   next-within : (state : State) (entry : Entry) → Within state → Within (next table state entry)
   unfolding next afterBreak restarted withoutRun

@@ -1,4 +1,5 @@
--- The ranges of an accepted sheet: S, T and L, designated and prerequisite grades, counts, the number of units.
+-- The ranges of an accepted plan, S, T and L and the designated grade; and of an accepted sheet: prerequisite grades, counts, the number of
+-- units.
 -- From the grounds that are not met, one by one; the number of units by induction on the records.
 use Prim.Native.Nat.{ℕ, zero, suc, _+_, _*_, _≤_, _<_}
 use mathlib.Core.Path.{_≡_, _∙_, subst}
@@ -99,13 +100,13 @@ redesignation-passed bytes at designated e =
     let (low, rest2) = ground-passed _ 10 _ (lit< tt) rest in
     ltb-false 2 (byte bytes (at + gradeOffset)) low
 
--- ---- an accepted sheet
+-- ---- an accepted plan, whatever stands behind it
 
-module _ (bytes : List ℕ) (n : ℕ) (facts : Facts bytes n) where
+module _ (bytes : List ℕ) (passes : planRefusal bytes ≡ 0) where
   plan-passed : (byte bytes gradeOffset ≤ 2) × (tableRefusal (planOf bytes) ≡ 0)
   unfolding planRefusal
   plan-passed =
-      let (mark, rest) = ground-passed _ 1 _ (lit< tt) (facts .plan) in
+      let (mark, rest) = ground-passed _ 1 _ (lit< tt) passes in
       let (grade, table) = ground-passed _ 2 _ (lit< tt) rest in
       (ltb-false 2 (byte bytes gradeOffset) grade, table)
 
@@ -113,14 +114,11 @@ module _ (bytes : List ℕ) (n : ℕ) (facts : Facts bytes n) where
   unfolding planOf
   designated-le = plan-passed .0
 
-  pub cell-limit-le : (cell : ℕ) → cell < tableSize → cellOf (planOf bytes) cell .limit ≤ largestPlanNumber
-  cell-limit-le cell inside = cell-passed (planOf bytes) (plan-passed .1) cell inside .0
-
   -- for every grade and class: where there is no plan, L is zero
   pub limit-le : (grade class : ℕ) → numbersOf (tableOf (planOf bytes)) grade class .limit ≤ largestPlanNumber
   limit-le =
       every-numbers (planOf bytes) (λ (numbers : PlanNumbers). numbers .limit ≤ largestPlanNumber) (omega arith)
-      (λ grade class g k. cell-limit-le (length classes * grade + class) (omega arith))
+      (λ grade class g k. cell-passed (planOf bytes) (plan-passed .1) (length classes * grade + class) (omega arith) .0)
 
   pub start-le-limit : (grade class : ℕ) →
       let numbers = numbersOf (tableOf (planOf bytes)) grade class in
@@ -149,6 +147,9 @@ module _ (bytes : List ℕ) (n : ℕ) (facts : Facts bytes n) where
       go (suc (suc (suc better))) (suc (suc zero)) order planned (ab, bc) = absurd (omega arith)
       go better (suc (suc (suc lower))) order planned (ab, bc) = absurd (omega arith)
 
+-- ---- an accepted sheet
+
+module _ (bytes : List ℕ) (n : ℕ) (facts : Facts bytes n) where
   -- the grounds of a record with this mark, none of which is met
   passed-as : (m : Mark) (i : ℕ) → i < n → mark bytes i ≡ m
       → refusalBy bytes (offset bytes i) (unitsBefore bytes i) (designatedBefore bytes i) m ≡ 0

@@ -1,5 +1,5 @@
 -- What acceptance says of a sheet, its answer and its result buffer; and that a refusal keeps the buffer and counts no units.
--- By cases on the verdict, then on the tests of numbers 13 and 14.
+-- By cases on the verdict, then on the test of number 13.
 use Prim.Native.Nat.{ℕ, _*_, _≤_}
 use mathlib.Core.Path.{_≡_, refl, sym, _∙_, ap}
 use mathlib.Core.Bool.{Bool, true, false}
@@ -22,7 +22,7 @@ use Rattle.results.proofs.Written.{length-written}
 use Rattle.recording.specs.Sheet.{sheetOf, resultOf}
 use Rattle.outcome.specs.declared.Answer.{Answer}
 use Rattle.outcome.specs.Outcome.{Outcome, refusal}
-use Rattle.tally.specs.Outcome.{overfullBefore, resultsOf, acceptance, outcomeBy, outcome, recordsOf, recordsIn}
+use Rattle.tally.specs.Outcome.{resultsOf, acceptance, outcomeBy, outcome, recordsOf, recordsIn}
 use Rattle.tally.specs.Accepted.{AcceptedAs, sheetIn}
 
 -- ---- the cases of the outcome
@@ -32,51 +32,36 @@ record AcceptedBy (bytes buffer : List ℕ) (v : Verdict) (given : Outcome) : Ty
   units : ℕ
   passed : v ≡ Accepted (recordsOf v) units
   room : resultSize * units ≤ length buffer
-  none-overfull : overfullBefore (sheetOf bytes (recordsOf v)) (recordsOf v) ≡ false
   is-acceptance : given ≡ acceptance bytes buffer (recordsOf v) units
 
 accepted-by : (bytes buffer : List ℕ) (v : Verdict) → ((number at : ℕ) → v ≡ Refused number at → number ≡ 0 → ⊥)
     → outcomeBy bytes buffer v .answer .number ≡ 0 → AcceptedBy bytes buffer v (outcomeBy bytes buffer v)
 unfolding outcomeBy recordsOf pick
 accepted-by bytes buffer (Refused number at) numbered e = absurd (numbered number at refl e)
-accepted-by bytes buffer (Accepted records units) numbered e =
-    go (ltb (length buffer) (resultSize * units)) refl (overfullBefore (sheetOf bytes records) records) refl e
+accepted-by bytes buffer (Accepted records units) numbered e = go (ltb (length buffer) (resultSize * units)) refl e
   where
-    given : Bool → Bool → Outcome
-    given short full =
-        pick short (refusal 13 (length bytes) buffer) (pick full (refusal 14 (length bytes) buffer) (acceptance bytes buffer records units))
+    given : Bool → Outcome
+    given short = pick short (refusal 13 (length bytes) buffer) (acceptance bytes buffer records units)
 
     go : (short : Bool) → ltb (length buffer) (resultSize * units) ≡ short
-        → (full : Bool) → overfullBefore (sheetOf bytes records) records ≡ full
-        → given short full .answer .number ≡ 0 → AcceptedBy bytes buffer (Accepted records units) (given short full)
-    go true s full o e = absurd (omega arith)
-    go false s true o e = absurd (omega arith)
-    go false s false o e =
-        record {
-          units = units;
-          passed = refl;
-          room = ltb-false (length buffer) (resultSize * units) s;
-          none-overfull = o;
-          is-acceptance = refl;
-        }
+        → given short .answer .number ≡ 0 → AcceptedBy bytes buffer (Accepted records units) (given short)
+    go true s e = absurd (omega arith)
+    go false s e =
+        record { units = units; passed = refl; room = ltb-false (length buffer) (resultSize * units) s; is-acceptance = refl }
 
 -- any outcome with another number keeps the buffer and counts no units
 refused-by : (bytes buffer : List ℕ) (v : Verdict) → (outcomeBy bytes buffer v .answer .number ≡ 0 → ⊥)
     → (outcomeBy bytes buffer v .buffer ≡ buffer) × (outcomeBy bytes buffer v .answer .units ≡ 0)
 unfolding outcomeBy acceptance pick
 refused-by bytes buffer (Refused number at) other = (refl, refl)
-refused-by bytes buffer (Accepted records units) other =
-    go (ltb (length buffer) (resultSize * units)) (overfullBefore (sheetOf bytes records) records) other
+refused-by bytes buffer (Accepted records units) other = go (ltb (length buffer) (resultSize * units)) other
   where
-    given : Bool → Bool → Outcome
-    given short full =
-        pick short (refusal 13 (length bytes) buffer) (pick full (refusal 14 (length bytes) buffer) (acceptance bytes buffer records units))
+    given : Bool → Outcome
+    given short = pick short (refusal 13 (length bytes) buffer) (acceptance bytes buffer records units)
 
-    go : (short full : Bool) → (given short full .answer .number ≡ 0 → ⊥)
-        → (given short full .buffer ≡ buffer) × (given short full .answer .units ≡ 0)
-    go true full other = (refl, refl)
-    go false true other = (refl, refl)
-    go false false other = absurd (other refl)
+    go : (short : Bool) → (given short .answer .number ≡ 0 → ⊥) → (given short .buffer ≡ buffer) × (given short .answer .units ≡ 0)
+    go true other = (refl, refl)
+    go false other = absurd (other refl)
 
 -- the result records of a sheet fill exactly the size of one times the units
 length-results : (bytes : List ℕ) (n : ℕ) → length (resultsOf (sheetOf bytes n)) ≡ resultSize * unitsBefore bytes n
@@ -93,7 +78,6 @@ pub record AcceptedSheet (bytes buffer : List ℕ) (answer : Answer) (results : 
   pub counted : units ≡ unitsBefore bytes (recordsIn bytes)
   pub facts : Facts bytes (recordsIn bytes)
   pub room : resultSize * unitsBefore bytes (recordsIn bytes) ≤ length buffer
-  pub none-overfull : overfullBefore (sheetIn bytes) (recordsIn bytes) ≡ false
   pub answered-units : answer .units ≡ unitsBefore bytes (recordsIn bytes)
   pub answered-offset : answer .offset ≡ length bytes
   pub filled : results ≡ resultsOf (sheetIn bytes) ++ drop (resultSize * unitsBefore bytes (recordsIn bytes)) buffer
@@ -117,7 +101,6 @@ accepted-sheet bytes buffer answer results graded =
       counted = counted;
       facts = passes;
       room = room;
-      none-overfull = by .none-overfull;
       answered-units = ap (λ (given : Outcome). given .answer .units) same ∙ counted;
       answered-offset = ap (λ (given : Outcome). given .answer .offset) same;
       filled = filled;

@@ -1,8 +1,7 @@
--- The outcome of a sheet that passes refusals 1 to 12, case by case as the code takes them: 13, 14, accepted.
+-- The outcome of a sheet that passes refusals 1 to 12, case by case as the code takes them: 13, accepted.
 -- Each case rewrites the outcome with the tests on the way; the accepted buffer comes from the writing pass and the code grading.
 use Prim.Native.Nat.{ℕ, _*_, _≤_, _<_}
 use mathlib.Core.Path.{_≡_, refl, sym, _∙_, ap}
-use mathlib.Core.Bool.{true, true≢false}
 use mathlib.Core.List.{List, _++_}
 use native.Mathlib.Omega.{arith}
 use lib.ListN.{length, drop}
@@ -17,7 +16,7 @@ use Rattle.rules.specs.Sheet.{Sheet, portionGrade, codeGrade}
 use Rattle.layout.specs.Layout.{planSize, planOf, entryAt, unitsBefore}
 use Rattle.layout.proofs.Offsets.{past-entry}
 use Rattle.layout.proofs.Units.{units-among}
-use Rattle.sheet.specs.Refusals.{mostUnits, verdict, anyNumbers}
+use Rattle.sheet.specs.Refusals.{mostUnits, verdict}
 use Rattle.sheet.specs.declared.Verdict.the-variants.{Accepted}
 use Rattle.sheet.proofs.Grounds.{plan-whole}
 use Rattle.sheet.proofs.Accepted.{Facts, facts}
@@ -29,8 +28,7 @@ use Rattle.codes.proofs.Coding.{Gradable, ready-for-codes, codes-done}
 use Rattle.recording.specs.Sheet.{sheetOf, resultWith, resultOf}
 use Rattle.writing.specs.Writable.{Writable}
 use Rattle.outcome.specs.Outcome.{Outcome, refusal}
-use Rattle.tally.specs.Outcome.{resultsOf, acceptance, outcomeBy, limitTooLarge}
-use Rattle.tally.proofs.Overfull.{limits-fit, none-overfull}
+use Rattle.tally.specs.Outcome.{resultsOf, acceptance, outcomeBy}
 use Rattle.tally.proofs.Entries.{code-fits, designated-planned, portion-le}
 
 module _ (bytes buffer : List ℕ) (records units : ℕ) (accepted : verdict bytes ≡ Accepted records units) where
@@ -57,10 +55,6 @@ module _ (bytes buffer : List ℕ) (records units : ℕ) (accepted : verdict byt
   too-short short = rw (lt-ltb (length buffer) (resultSize * units) short)
 
   module _ (room : resultSize * units ≤ length buffer) where
-    -- the code tests every L, and no L is too large
-    pub never-overfull : anyNumbers limitTooLarge (planOf bytes) ≡ true → ⊥
-    never-overfull found = true≢false (sym found ∙ limits-fit bytes records sheet-facts)
-
     -- the writing pass can begin
     pub writable : {table : Table} {designated : ℕ} → table ≡ tableOf (planOf bytes) → designated ≡ planOf bytes .designated
         → Writable bytes records table designated (length buffer)
@@ -103,5 +97,5 @@ module _ (bytes buffer : List ℕ) (records units : ℕ) (accepted : verdict byt
             (outcomeBy bytes buffer (Accepted records units))
         unfolding outcomeBy pick acceptance
         done graded is-graded =
-            rw (le-ltb (length buffer) (resultSize * units) room, none-overfull bytes records sheet-facts records)
+            rw (le-ltb (length buffer) (resultSize * units) room)
             (ap (λ (l : List ℕ). record { answer = record { number = 0; units = units; offset = length bytes }; buffer = l }) (is-graded ∙ graded-is))

@@ -59,10 +59,11 @@ module _ (bytes : List ℕ) (n : ℕ) (facts : Facts bytes n) where
   pub designated-planned : (i : ℕ) → hasPlan (designatedAt (sheetOf bytes n) i) ≡ true
   unfolding hasPlan sheetOf
   designated-planned i =
-      let at-most = designated-at-most (sheetOf bytes n) (designated-le bytes n facts) new-grades i in
+      let at-most = designated-at-most (sheetOf bytes n) (designated-le bytes (facts .plan)) new-grades i in
       lt-ltb (designatedAt (sheetOf bytes n) i) substandard (omega arith)
 
   -- portion grades are grades
   pub portion-le : (i : ℕ) (unit : SampleUnit) → entryAt bytes i ≡ UnitRecord unit → portionGrade (sheetOf bytes n) i unit ≤ substandard
   unfolding sheetOf
-  portion-le i unit is-unit = portion-at-most (sheetOf bytes n) (designated-le bytes n facts) new-grades i unit (prerequisite-le bytes n facts i unit is-unit)
+  portion-le i unit is-unit =
+      portion-at-most (sheetOf bytes n) (designated-le bytes (facts .plan)) new-grades i unit (prerequisite-le bytes n facts i unit is-unit)

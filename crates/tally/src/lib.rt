@@ -1,42 +1,17 @@
-// Grading a whole sheet: the check, refusals 13 and 14, the result records, the code grades.
+// Grading a whole sheet: the check, refusal 13, the result records, the code grades.
 ghost use mathlib.Core.Path.{_≡_};
-ghost use Rattle.sheet.specs.Refusals.{verdict, anyNumbers};
+ghost use Rattle.sheet.specs.Refusals.{verdict};
 ghost use Rattle.sheet.specs.declared.Verdict.the-variants.{Accepted};
 ghost use Rattle.outcome.specs.Outcome.{Outcome};
-ghost use Rattle.tally.specs.Outcome.{limitTooLarge, outcomeBy, outcome};
+ghost use Rattle.tally.specs.Outcome.{outcomeBy, outcome};
 use codes::grade_codes;
-use cusum::Cusum;
-use cusum::PlanNumbers;
 use layout::plan_of;
 use outcome::Answer;
 use outcome::refused_as;
 use results::RESULT_SIZE;
 use sheet::Verdict;
 use sheet::check;
-use units::CELLS;
-use units::Plan;
 use writing::write_records;
-
-// Whether an L is too large for two bytes. A CuSum is at most its L, so that none is too large where no L is (law `none-overfull`).
-fn limit_too_large(numbers: PlanNumbers) -> bool
-    ensures { λ r. ⌜ r ≡ limitTooLarge numbers ⌝ }
-{
-    let limit = numbers.limit as u32;
-    Cusum::LARGEST_TENTHS < limit
-}
-
-pub fn any_limit_too_large(plan: Plan) -> bool
-    ensures { λ r. ⌜ r ≡ anyNumbers limitTooLarge plan ⌝ }
-{
-    let numbers = plan.numbers;
-    let mut found = false;
-    let mut cell: usize = 0;
-    while cell < CELLS {
-        found = found | limit_too_large(numbers[cell]);
-        cell += 1;
-    }
-    found
-}
 
 // Grades a sheet that passes refusals 1 to 12.
 fn grade_accepted(bytes: &[u8], results: &mut [u8], records: usize, units: usize) -> Answer
@@ -47,9 +22,6 @@ fn grade_accepted(bytes: &[u8], results: &mut [u8], records: usize, units: usize
         return refused_as(13, bytes.len());
     }
     let plan = plan_of(bytes);
-    if any_limit_too_large(plan) {
-        return refused_as(14, bytes.len());
-    }
     write_records(bytes, records, plan.table(), plan.designated, results);
     grade_codes(results, units);
     Answer {

@@ -1,19 +1,21 @@
 -- Bounds of what one unit has and gets: a count of a class goes by those of the kinds, a CuSum is at most its L, an overshoot at most
 -- the unit's own defects, and a defect grade at most Substandard. By cases on the tests, and on the class.
-use Prim.Native.Nat.{ℕ, zero, suc, _≤_}
+use Prim.Native.Nat.{ℕ, zero, suc, _≤_, _<_}
 use mathlib.Core.Path.{_≡_, refl}
 use mathlib.Core.Bool.{Bool, true, false, cond, _&&_}
 use mathlib.Core.List.{List}
 use native.Mathlib.Omega.{arith}
 use lib.Dec.{ltb}
+use lib.ListN.{length}
 use Rattle.cusum.specs.declared.Cusum.{Cusum}
 use Rattle.cusum.specs.declared.PlanNumbers.{PlanNumbers}
 use Rattle.cusum.specs.Counts.{defectTenths}
 use Rattle.cusum.specs.Step.{overshoot}
 use Rattle.cusum.proofs.Laws.{new-cusum-le-limit, overshoot-le-tenths}
 use Rattle.units.specs.declared.SampleUnit.{SampleUnit}
-use Rattle.units.specs.Words.{substandard, hasPlan, Table, rowOf, numbersOf, total, tenthsOf, countTenths, tenthsIn}
-use Rattle.units.specs.Unit.{classCusum, classOvershoot, unitFails, admits, bestLower, defectGrade}
+use Rattle.units.specs.Words.{substandard, hasPlan, classes, Table, rowOf, numbersOf, total, tenthsOf, countTenths, tenthsIn}
+use Rattle.units.specs.Unit.{classCusum, newCusums, classOvershoot, unitFails, admits, bestLower, defectGrade}
+use Rattle.units.proofs.Classes.{at-class}
 
 -- what bounds two numbers bounds either of them
 pub choice-le : (b : Bool) (x y n : ℕ) → x ≤ n → y ≤ n → cond b x y ≤ n
@@ -35,6 +37,11 @@ module _ (table : Table) (grade : ℕ) (cusums : List Cusum) (tenths : List ℕ)
   class-cusum-le =
       choice-le (hasPlan grade) _ 0 _
       (new-cusum-le-limit (numbersOf table grade class) (tenthsIn cusums class) (countTenths tenths class)) (omega arith)
+
+  -- and so is that of a class among the new ones
+  pub new-cusum-le : class < length classes → tenthsIn (newCusums table grade cusums tenths) class ≤ numbersOf table grade class .limit
+  unfolding newCusums
+  new-cusum-le known = omega (arith, at-class (classCusum table grade cusums tenths) class known, class-cusum-le)
 
   -- an overshoot at most ten times the count, if the CuSum before the unit is at most L where there is a plan
   pub class-overshoot-le : (hasPlan grade ≡ true → tenthsIn cusums class ≤ numbersOf table grade class .limit)

@@ -1,11 +1,9 @@
--- Numbers 18, 13 and 14 by their tests; else the writing pass and then the code grading, which leave what the outcome says.
+-- Numbers 18 and 13 by their tests; else the writing pass and then the code grading, which leave what the outcome says.
 use mathlib.Core.Path.{sym, _∙_, ap}
 use native.Mathlib.Omega.{arith}
-use Rattle.sheet.specs.Refusals.{anyNumbers}
 use Rattle.outcome.specs.declared.Answer.{Answer}
-use Rattle.tally.specs.Outcome.{limitTooLarge}
 use Rattle.tally.proofs.Cases.{units-few}
-use Rattle.regrade.proofs.Cases.{wrong-plan, plan-here, too-short, never-overfull, regradable, ready, done}
+use Rattle.regrade.proofs.Cases.{wrong-plan, plan-here, too-short, regradable, ready, done}
 use borrow.Author.Needs.{needs}
 use Rattle.regrade.proofs.regrade_accepted.Statement.{statement}
 use Rattle.regrade.proofs.regrade_accepted.Tie as tie
@@ -46,26 +44,9 @@ plan-of-requires c κs =
     let start = tested .before .before .before .before in
     plan-here _ _ (start .args .results .now) _ _ (start .pre) (sym (tested .second-plan-wrong .ensures) ∙ right .if1 .left)
 
-any-limit-too-large-requires : tie.Need-any-limit-too-large-requires
-any-limit-too-large-requires c κs = search needs
-
-refused-as-requires-3 : tie.Need-refused-as-requires-3
-refused-as-requires-3 c κs = search needs
-
-returns-3 : tie.Need-returns-3
-returns-3 c =
-    let large = c .before in
-    let plan = large .before .before in
-    let right = plan .before .before in
-    let tested = right .before in
-    let start = tested .before .before .before .before in
-    absurd
-    (never-overfull _ _ (start .args .results .now) _ _ (start .pre) (sym (tested .second-plan-wrong .ensures) ∙ right .if1 .left)
-    (sym (ap (anyNumbers limitTooLarge) (plan .plan-of .ensures)) ∙ sym (large .before .any-limit-too-large .ensures) ∙ large .if3 .taken))
-
 write-regraded-requires : tie.Need-write-regraded-requires
 write-regraded-requires c κs =
-    let plan = c .before .before .before in
+    let plan = c .before in
     let room = plan .before in
     let right = room .before in
     let tested = right .before in
@@ -76,7 +57,7 @@ write-regraded-requires c κs =
 grade-codes-requires : tie.Need-grade-codes-requires
 grade-codes-requires c κs =
     let written = c .before .before .before in
-    let plan = written .before .before .before .before in
+    let plan = written .before .before in
     let room = plan .before in
     let right = room .before in
     let tested = right .before in
@@ -88,11 +69,11 @@ grade-codes-requires c κs =
 same-length : tie.Need-same-length
 same-length c = search needs
 
-returns-4 : tie.Need-returns-4
-returns-4 c =
+returns-3 : tie.Need-returns-3
+returns-3 c =
     let graded = c .before .before in
     let written = graded .before .before .before .before in
-    let plan = written .before .before .before .before in
+    let plan = written .before .before in
     let room = plan .before in
     let right = room .before in
     let tested = right .before in
@@ -112,10 +93,7 @@ regrade-accepted-spec =
     refused-as-requires-2
     returns-2
     plan-of-requires
-    any-limit-too-large-requires
-    refused-as-requires-3
-    returns-3
     write-regraded-requires
     grade-codes-requires
     same-length
-    returns-4)
+    returns-3)

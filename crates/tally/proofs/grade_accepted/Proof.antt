@@ -1,12 +1,10 @@
--- Numbers 13 and 14 by their tests; else the writing pass and then the code grading, which leave what the outcome says.
-use mathlib.Core.Path.{sym, _∙_, ap}
+-- Number 13 by its test; else the writing pass and then the code grading, which leave what the outcome says.
+use mathlib.Core.Path.{_∙_, ap}
 use native.Mathlib.Omega.{arith}
 use Rattle.units.specs.Words.{tableOf}
 use Rattle.units.specs.declared.Plan.{Plan}
-use Rattle.sheet.specs.Refusals.{anyNumbers}
 use Rattle.outcome.specs.declared.Answer.{Answer}
-use Rattle.tally.specs.Outcome.{limitTooLarge}
-use Rattle.tally.proofs.Cases.{units-few, plan-here, too-short, never-overfull, writable, ready, done}
+use Rattle.tally.proofs.Cases.{units-few, plan-here, too-short, writable, ready, done}
 use borrow.Author.Needs.{needs}
 use Rattle.tally.proofs.grade_accepted.Statement.{statement}
 use Rattle.tally.proofs.grade_accepted.Tie as tie
@@ -29,28 +27,12 @@ plan-of-requires c κs =
     let start = c .before .before .before in
     plan-here _ (start .args .results .now) _ _ (start .pre)
 
-any-limit-too-large-requires : tie.Need-any-limit-too-large-requires
-any-limit-too-large-requires c κs = search needs
-
-refused-as-requires-2 : tie.Need-refused-as-requires-2
-refused-as-requires-2 c κs = search needs
-
-returns-2 : tie.Need-returns-2
-returns-2 c =
-    let tested = c .before in
-    let plan = tested .before .before in
-    let short = plan .before in
-    let start = short .before .before .before in
-    absurd
-    (never-overfull _ (start .args .results .now) _ _ (start .pre) (short .if1 .left)
-    (sym (ap (anyNumbers limitTooLarge) (plan .plan-of .ensures)) ∙ sym (tested .before .any-limit-too-large .ensures) ∙ tested .if2 .taken))
-
 table-requires : tie.Need-table-requires
 table-requires c κs = search needs
 
 write-records-requires : tie.Need-write-records-requires
 write-records-requires c κs =
-    let plan = c .before .before .before .before in
+    let plan = c .before .before in
     let short = plan .before in
     let start = short .before .before .before in
     let same = plan .plan-of .ensures in
@@ -59,7 +41,7 @@ write-records-requires c κs =
 grade-codes-requires : tie.Need-grade-codes-requires
 grade-codes-requires c κs =
     let written = c .before .before .before in
-    let short = written .before .before .before .before .before .before in
+    let short = written .before .before .before .before in
     let known = short .before .before in
     let start = known .before in
     ready _ _ _ _ (start .pre) (short .if1 .left) (λ at. omega (arith, known .shared-slice-known .given at)) _ (written .write-records .ensures)
@@ -67,11 +49,11 @@ grade-codes-requires c κs =
 same-length : tie.Need-same-length
 same-length c = search needs
 
-returns-3 : tie.Need-returns-3
-returns-3 c =
+returns-2 : tie.Need-returns-2
+returns-2 c =
     let graded = c .before .before in
     let written = graded .before .before .before .before in
-    let short = written .before .before .before .before .before .before in
+    let short = written .before .before .before .before in
     let known = short .before .before in
     let start = known .before in
     done _ _ _ _ (start .pre) (short .if1 .left) (λ at. omega (arith, known .shared-slice-known .given at)) _ (written .write-records .ensures) _
@@ -85,11 +67,8 @@ grade-accepted-spec =
     refused-as-requires
     returns
     plan-of-requires
-    any-limit-too-large-requires
-    refused-as-requires-2
-    returns-2
     table-requires
     write-records-requires
     grade-codes-requires
     same-length
-    returns-3)
+    returns-2)

@@ -6,16 +6,17 @@
 
 #[path = "../antt.rs"]
 mod antt;
+#[path = "../plans.rs"]
+mod plans;
 
 use antt::{abbreviations, graded, part_lines, raw, Expected, Given, Part};
-use grader::generate::table;
 use grader::peach::peach;
 use grader::sheet::{Record, Sheet, Unit};
 use grader::{regrade, Answer, RESULT_SIZE};
+use plans::{plan_bytes, plan_lines, Tenths, GRADES};
 
 /// A sheet that is proved by computing has at most so many records.
 const MOST_RECORDS: usize = 9;
-const GRADES: [&str; 4] = ["A", "B", "C", "S"];
 const CRITICAL: usize = 0;
 const SEVERE: usize = 1;
 const MAJOR: usize = 2;
@@ -124,9 +125,6 @@ struct Plan {
     text: String,
 }
 
-/// S/T/L in tenths of critical, severe, major and total at A, B and C.
-type Tenths = [[[i64; 3]; 4]; 3];
-
 /// The buyer's. Each number is another than the one of the peach plan in its place, and than those of
 /// the class at other grades. T+L of total is 9.5, 15.5 and 23.
 const BUYER: Tenths = [
@@ -142,10 +140,6 @@ const MANUAL: Tenths = [
     [[0, 10, 10], [5, 15, 20], [0, 30, 30], [10, 50, 30]],
 ];
 
-fn plan_bytes(designated: u8, tenths: Tenths) -> Vec<u8> {
-    Sheet { designated, table: table(tenths), records: Vec::new() }.bytes()
-}
-
 /// The plan under which the sheets are recorded: the peach plan, designated A.
 fn recorded() -> Vec<u8> {
     peach(Vec::new()).bytes()
@@ -158,6 +152,11 @@ fn buyer(designated: u8) -> Plan {
 
 fn manual() -> Plan {
     Plan { bytes: plan_bytes(B, MANUAL), text: "manualPlan".to_string() }
+}
+
+/// That of the computed sheets.
+fn largest() -> Plan {
+    Plan { bytes: plans::largest(), text: "largestPlan".to_string() }
 }
 
 impl Plan {
@@ -198,27 +197,6 @@ fn in_brackets(text: &str) -> String {
     } else {
         text.to_string()
     }
-}
-
-/// The bytes of a plan by name, a line for each class.
-fn plan_lines(name: &str, bytes: &[u8]) -> String {
-    let mut text = format!("unfoldable pub {name} : List ℕ\n{name} =\n");
-    text += &format!("    0x{:02X} ∷ 0x{:02X} ∷ {}\n", bytes[0], bytes[1], bytes[2]);
-    for (cell, numbers) in bytes[3..].chunks(6).enumerate() {
-        if cell % 4 == 0 {
-            text += &format!("    -- {}\n", GRADES[cell / 4]);
-        }
-        let decimal = |at: usize| {
-            let tenths = u16::from_be_bytes([numbers[at], numbers[at + 1]]);
-            match (tenths / 10, tenths % 10) {
-                (whole, 0) => whole.to_string(),
-                (whole, tenths) => format!("{whole}.{tenths}"),
-            }
-        };
-        let elements = numbers.iter().map(u8::to_string).collect::<Vec<_>>().join(" ∷ ");
-        text += &format!("    ∷ {elements}  -- {}\n", [0, 2, 4].map(decimal).join("/"));
-    }
-    text + "    ∷ []\n"
 }
 
 /// The buyer's plan designated otherwise than A.
@@ -757,6 +735,24 @@ fn units() -> Vec<Regrading> {
             &[(1, CRITICAL, 19_986), (1, SEVERE, 19_958), (1, MAJOR, 19_951), (1, TOTAL, 79_870)],
         ),
         accepted(
+            "the largest cusums regraded",
+            "999.9/999/999.9 in every class. Unit 1 comes to L in critical and total, 999.9+999-999, and\n\
+             meets. Unit 2, with as many defects as there may be, fails in each: the CuSums are L, and no\n\
+             larger.",
+            &[
+                unit(1, [999, 0, 0, 0]),
+                unit(2, [2_000, 2_000, 2_000, 2_000]),
+                unit(3, [0, 0, 0, 999]),
+            ],
+            largest(),
+            &[
+                "AAmA 999.9 0.9 0.9 999.9",
+                "SSfA 999.9 999.9 999.9 999.9",
+                "AAmA 0.9 0.9 0.9 999.9",
+            ],
+            &[(2, CRITICAL, 10_010), (2, SEVERE, 20), (2, MAJOR, 20), (2, TOTAL, 70_010)],
+        ),
+        accepted(
             "prerequisites",
             "C is worse than the B of unit 1, A is not; Substandard is worse than the C with which unit 3\n\
              fails, B is not. Standings go by defects alone.",
@@ -1071,6 +1067,7 @@ use Rattle.results.specs.Record.{resultSize}
 use Rattle.outcome.specs.Outcome.{Outcome}
 use Rattle.outcome.specs.Held.{GradedBy, RefusedBy, WithoutRoomBy}
 use Rattle.regrade.specs.Outcome.{regradeOutcome}
+use Rattle.computed.specs.FurtherSheets.{largestPlan}
 
 module _ (plan : List ℕ) where
   -- what a sheet comes to under this second plan

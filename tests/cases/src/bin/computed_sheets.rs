@@ -6,14 +6,16 @@
 
 #[path = "../antt.rs"]
 mod antt;
+#[path = "../plans.rs"]
+mod plans;
 
 use antt::{abbreviations, elements, graded, part_lines, raw, results, shows, Expected, Part};
 use grader::peach::peach;
 use grader::sheet::{Numbers, Record, Sheet, Unit, MOST_UNITS};
 use grader::{Answer, RESULT_SIZE};
+use plans::{largest, plan_lines, GRADES};
 
-/// Grades and classes by their places.
-const GRADES: [&str; 4] = ["A", "B", "C", "S"];
+/// Classes by their places.
 const CLASSES: [&str; 4] = ["critical", "severe", "major", "total"];
 const CRITICAL: usize = 0;
 const SEVERE: usize = 1;
@@ -576,6 +578,16 @@ fn units() -> Vec<Case> {
             &[unit(1, [0, 0, 0, 6]), unit(2, [0, 0, 0, 40]), unit(3, [0, 0, 0, 7])],
             "AAmA AAmA BBfA",
             &[(3, TOTAL, 6)],
+        ),
+        accepted(
+            "the largest cusums",
+            "999.9/999/999.9 in every class. Unit 1 comes to L in critical and total, 999.9+999-999, and\n\
+             meets. Unit 2, with as many defects as there may be, fails in each: the CuSums are L, and no\n\
+             larger.",
+            largest(),
+            &[unit(1, [999, 0, 0, 0]), unit(2, [2_000; 4]), unit(3, [0, 0, 0, 999])],
+            "AAmA SSfA AAmA",
+            &[(2, CRITICAL, 10_010), (2, SEVERE, 20), (2, MAJOR, 20), (2, TOTAL, 70_010)],
         ),
         accepted(
             "P1 in bytes",
@@ -1198,6 +1210,11 @@ use Rattle.computed.specs.WorkedCases.{peachPlan}
 ";
 
 /// Behind the abbreviations.
+const LARGEST: &str = "
+-- the plan with the largest S and L in every class, designated A: 50 4C, 0; then for A, B, C a line for each class, with its S/T/L
+";
+
+/// Behind that plan.
 const REPEATED: &str = "
 -- a record so many times, and what stands behind them
 unfoldable pub repeated : ℕ → List ℕ → List ℕ → List ℕ
@@ -1225,8 +1242,11 @@ fn overshoots_in(results: &[u8]) -> Vec<Overshoot> {
     all.filter(|(_, _, tenths)| *tenths > 0).collect()
 }
 
-/// The peach plan with the bytes that differ from it.
+/// The plan with the largest numbers, or the peach plan with the bytes that differ from it.
 fn plan_text(bytes: &[u8]) -> String {
+    if bytes == largest() {
+        return "largestPlan".to_string();
+    }
     let peach = plan();
     let kept = if bytes.len() == peach.len() {
         "peachPlan".to_string()
@@ -1242,11 +1262,11 @@ fn plan_text(bytes: &[u8]) -> String {
     others.fold(kept, set)
 }
 
-/// Says what differs in the plan from the peach plan.
+/// Says what differs in the plan from the peach plan, unless it is written out.
 fn plan_comment(bytes: &[u8]) -> String {
     let peach = plan();
     let mut said = Vec::new();
-    if bytes.len() == peach.len() && bytes != peach {
+    if bytes.len() == peach.len() && bytes != peach && bytes != largest() {
         if bytes[..2] != peach[..2] {
             said.push(format!("mark {:02X} {:02X}", bytes[0], bytes[1]));
         }
@@ -1311,7 +1331,9 @@ fn printed(groups: &[Group]) -> String {
 
 fn file(groups: &[Group]) -> String {
     let (text, fields) = antt::sheets(groups);
-    [HEAD, &abbreviations("outcome"), REPEATED, &text, &printed(groups), FOOT, &fields].concat()
+    let largest = plan_lines("largestPlan", &largest());
+    let words = abbreviations("outcome");
+    [HEAD, &words, LARGEST, &largest, REPEATED, &text, &printed(groups), FOOT, &fields].concat()
 }
 
 fn main() {
