@@ -130,7 +130,7 @@ fit =
           omega (
             arith,
             cusums-fit .in-regrading largestCusumsRegraded largestPlan room largestAnswer _ largest-regraded course rules 1 class
-            (record { inside = lit< tt; is-unit = refl }) known,
+                (record { inside = lit< tt; is-unit = refl }) known,
           );
     }
 
