@@ -459,6 +459,23 @@ fn main() {
     println!("    record on, all records are read twice.");
 
     println!();
+    head("plan alone", "ns");
+    // As if of one unit, so that it is done often in a round; nothing is written.
+    let alone = bytes(Vec::new());
+    let graded: [Contender; 3] = [&mut library, &mut grader, &mut tuned];
+    let (graded, answer, _) = times(graded, &alone, 1, 0, rounds);
+    assert_eq!(answer, (0, 0, alone.len()), "plan alone");
+    row("no record, graded", graded);
+    let regraded: [Contender; 3] = [
+        &mut |sheet, results| library_regrade(sheet, &plan, results),
+        &mut |sheet, results| grader_regrade(sheet, &plan, results),
+        &mut |sheet, results| regrader.regrade(sheet, &plan, results),
+    ];
+    let (regraded, answer, _) = times(regraded, &alone, 1, 0, rounds);
+    assert_eq!(answer, (0, 0, alone.len()), "plan alone, regraded");
+    row("no record, regraded", regraded);
+
+    println!();
     head("look-up", "ns");
     // Each with its code and its expected number and offset.
     for (name, results, code, number, offset) in [
