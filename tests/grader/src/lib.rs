@@ -1,14 +1,15 @@
 //! An independent grader of tally sheets and mold sheets, written from paper 01 (`01-scope.md`) and
-//! A.1, A.2, A.4, A.5 and A.6 of paper 02 (`02-change-requests.md`) alone. It is plain on purpose: the
-//! whole sheet is read, then graded, then written. The papers' sentences stand in quotation marks at
-//! the code that follows them; they are those of paper 01 where no paper is named. Mold sheets have a
-//! module of their own, [`mold`]; all else is about tally sheets. These are graded again under a
-//! second plan in [`regrade`], by the same steps and with the same result records and lines. In
-//! finished results of either a code is looked up in [`lookup`].
+//! A.1, A.2, A.4, A.5, A.6 and A.7 of paper 02 (`02-change-requests.md`) alone. It is plain on
+//! purpose: the whole sheet is read, then graded, then written. The papers' sentences stand in
+//! quotation marks at the code that follows them; they are those of paper 01 where no paper is named.
+//! Mold sheets have a module of their own, [`mold`]; all else is about tally sheets. These are graded
+//! again under a second plan in [`regrade`], by the same steps and with the same result records and
+//! lines. In finished results of either a code is looked up in [`lookup`].
 
 pub mod check;
 pub mod failure;
 pub mod generate;
+pub mod generate_largest;
 pub mod generate_lookup;
 pub mod generate_mold;
 pub mod generate_regrade;
@@ -21,6 +22,8 @@ pub mod sheet;
 #[cfg(test)]
 mod tests;
 #[cfg(test)]
+mod tests_largest;
+#[cfg(test)]
 mod tests_lookup;
 #[cfg(test)]
 mod tests_mold;
@@ -29,8 +32,8 @@ mod tests_regrade;
 
 pub use rules::RESULT_SIZE;
 
-/// Number 0 for acceptance, else 1 to 14 as in "Where a sheet is turned away"; of a mold sheet also 16
-/// and 17, of a regrading also 18.
+/// Number 0 for acceptance, else 1 to 13 as in "Where a sheet is turned away"; of a mold sheet also 16
+/// and 17, of a regrading also 18. "Number 14 is not used again" (paper 02, A.7).
 #[derive(Clone, Copy, Debug, PartialEq, Eq)]
 pub struct Answer {
     pub number: u32,
@@ -84,7 +87,7 @@ pub(crate) fn refuse(number: u32, offset: usize) -> (Answer, Option<rules::Grade
     (Answer { number, units: 0, offset }, None)
 }
 
-/// Numbers 13 and 14, and the result records, of a graded sheet of this length.
+/// Number 13, or the result records, of a graded sheet of this length.
 pub(crate) fn write(
     graded: rules::Graded,
     length: usize,
@@ -94,10 +97,6 @@ pub(crate) fn write(
     // "Number 13 counts 32 bytes a unit" (paper 02, A.1).
     if results.len() < RESULT_SIZE * units {
         return refuse(13, length);
-    }
-    // "Result buffer | 14 | a CuSum too large for two bytes": cannot occur, as no CuSum exceeds L.
-    if graded.rows.iter().flat_map(|row| row.cusums).any(|cusum| cusum > 0xFFFF) {
-        return refuse(14, length);
     }
     // "bytes behind the last result record keep theirs."
     for (row, place) in graded.rows.iter().zip(results.chunks_exact_mut(RESULT_SIZE)) {

@@ -57,7 +57,7 @@ impl Row {
     /// "The result is mark 4D 52, 1 for met or 0 (1 byte), CuSum in tenths (2); the overshoot is left
     /// out." Nor is the code there.
     pub fn result(&self) -> [u8; RESULT_SIZE] {
-        let [high, low] = (self.cusum as u16).to_be_bytes();
+        let [high, low] = u16::try_from(self.cusum).expect("a CuSum is at most L").to_be_bytes();
         [0x4D, 0x52, u8::from(self.meets), high, low]
     }
 }
@@ -151,7 +151,7 @@ pub fn grade_traced(sheet: &[u8], results: &mut [u8], check: bool) -> (Answer, O
         cusums_twice(&graded);
     }
     let units = graded.rows.len();
-    // "12 and 13 apply, the last with 5 bytes a unit". There is no 14.
+    // "12 and 13 apply, the last with 5 bytes a unit".
     if results.len() < RESULT_SIZE * units {
         return refuse(13, sheet.len());
     }

@@ -43,8 +43,11 @@ impl Row {
         record[2..4].copy_from_slice(&self.unit.code.to_be_bytes());
         (record[4], record[5]) = (self.portion_grade, self.code_grade);
         (record[6], record[7]) = (self.plan, self.standing);
+        // No CuSum is above its L, and so none is too large for two bytes: "no accepted plan and no
+        // counts lead to it" (paper 02, A.7).
         for (place, cusum) in record[8..16].chunks_exact_mut(2).zip(self.cusums) {
-            place.copy_from_slice(&(cusum as u16).to_be_bytes());
+            let cusum = u16::try_from(cusum).expect("a CuSum is at most L");
+            place.copy_from_slice(&cusum.to_be_bytes());
         }
         for (place, overshoot) in record[16..].chunks_exact_mut(4).zip(self.overshoots) {
             place.copy_from_slice(&(overshoot as u32).to_be_bytes());
