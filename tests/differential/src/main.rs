@@ -3,14 +3,15 @@
 //! sheets, which must be kept; and both halves of demand 3, with what A.1 of paper 02 adds of
 //! overshoots, on the bytes that the library left. For every fourth case also a mold sheet (A.2 of
 //! paper 02), with the first half of demand 3, a regrading and a pair of them (A.5), with both halves,
-//! and a look-up of one code (A.6), which is also made in the results that gradings and regradings
-//! left. At the end every count there is (A.3).
+//! a look-up of one code (A.6), which is also made in the results that gradings and regradings left,
+//! and a sheet and a regrading with the largest CuSums (A.7). At the end every count there is (A.3).
 //!
 //! `differential [CASES [SEED]]`. A sheet on which the two differ is written to a file and named, of a
 //! look-up the results. A run of 10,000 cases or more also fails if one of the things that it counts
 //! never came up.
 
 mod counts;
+mod largest;
 mod lookup;
 mod mold;
 mod regrade;
@@ -293,6 +294,7 @@ fn main() {
     let mut counts = Counts::default();
     let (mut checked, mut pairs, mut graded_pairs, mut molds, mut molds_checked) = (0, 0, 0, 0, 0);
     let (mut regradings, mut regradings_checked, mut regraded_pairs, mut lookups) = (0, 0, 0, 0);
+    let (mut largest, mut largest_checked) = (0, 0);
     for case in 0..cases {
         let seed = seed_of(seed, case);
         let long = case % 500 == 0;
@@ -315,6 +317,9 @@ fn main() {
             regraded_pairs += 1;
             lookup::compare(seed, &mut counts);
             lookups += 1;
+            largest_checked += usize::from(largest::compare(seed, &mut counts));
+            largest_checked += usize::from(largest::compare_regrading(seed, &mut counts));
+            largest += 1;
         }
         // More often than a long sheet, as fewer of them are refused behind the breaks.
         if case % 200 == 0 {
@@ -336,6 +341,10 @@ fn main() {
          overshoots by sums"
     );
     println!("{regraded_pairs:>9}  pairs alike but for fewer counts, regraded, grades compared");
+    println!(
+        "{largest_checked:>9}  sheets and regradings of {largest} each with the largest CuSums, which are \
+         the 'largest of' form, overshoots by sums"
+    );
     println!("{defects:>9}  sheets with every count from 0 to 2,000 in each kind and in all kinds");
     println!("{fields:>9}  mold sheets with every number of fields from 0 to 25 at each level");
     // A short run need not have everything.
@@ -345,7 +354,8 @@ fn main() {
     }
     println!(
         "differential: {cases} sheets, {pairs} pairs, {molds} mold sheets, {regradings} regradings, \
-         {regraded_pairs} pairs of them and {lookups} look-ups agree, seed {seed}, {:.1} s",
+         {regraded_pairs} pairs of them, {lookups} look-ups, {largest} sheets and as many regradings \
+         with the largest CuSums agree, seed {seed}, {:.1} s",
         start.elapsed().as_secs_f64()
     );
 }
