@@ -23,7 +23,7 @@ extern "C" {
  */
 #define HATMUYON_VERSION "0.8.0"
 #define HATMUYON_VERSION_MAJOR 0
-#define HATMUYON_VERSION_MINOR 7
+#define HATMUYON_VERSION_MINOR 8
 #define HATMUYON_VERSION_PATCH 0
 
 /*
@@ -195,7 +195,8 @@ enum hatmuyon_standing {
  *   13    result buffer shorter than 5 times the units
  *
  * 15 is answered by the printing program alone, for an input above 65,536 bytes. 19 is answered by a
- * look-up, whose numbers are apart from these. 14 is not used again.
+ * look-up, whose numbers are apart from these. 14 was a CuSum too large for two bytes, to which no
+ * sheet leads; it is not used again.
  */
 enum hatmuyon_number {
     HATMUYON_ACCEPTED = 0,

@@ -112,7 +112,6 @@ int main(void)
     value("SameGrade", HATMUYON_REFUSED_SAME_GRADE);
     value("TooManyUnits", HATMUYON_REFUSED_TOO_MANY_UNITS);
     value("ResultBufferTooShort", HATMUYON_REFUSED_RESULT_BUFFER_TOO_SHORT);
-    value("CusumTooLarge", HATMUYON_REFUSED_CUSUM_TOO_LARGE);
     value("BadSecondPlan", HATMUYON_REFUSED_BAD_SECOND_PLAN);
 
     value("mold NoOpening", HATMUYON_REFUSED_NO_PLAN);

@@ -62,6 +62,10 @@ module _ (bytes : List ℕ) where
       (first-row rows plan-in-rows _ 5 _ (lit< tt, refl) (tells-as row5 condition5 (tells-5 bytes))
       (inl (refl, λ n behind applies. let before = plan-rows n applies in omega arith))))))
 
+  -- a plan to which no row applies passes the check
+  pub plan-not-refused : ((number : ℕ) → PlanRow bytes number → ⊥) → planRefusal bytes ≡ 0
+  plan-not-refused none = ⊎-elim (λ (passes, others). passes) (λ (applies, first). absurd (none (planRefusal bytes) applies)) plan-first
+
 -- ---- a record
 
 module _ (bytes : List ℕ) (i : ℕ) where

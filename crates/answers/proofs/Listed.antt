@@ -4,7 +4,6 @@ use Prim.Native.Nat.{ℕ}
 use mathlib.Core.Path.{refl, subst⁻¹}
 use mathlib.Core.List.{List}
 use mathlib.Core.Logic.{inl, inr, ⊎-elim}
-use native.Mathlib.Omega.{arith}
 use Rattle.sheet.proofs.Listed.{refusal-listed}
 use Rattle.grounds.proofs.Answered.{stopped, answer-and-buffer}
 use Rattle.outcome.specs.declared.Answer.{Answer}

@@ -24,7 +24,7 @@ use Rattle.anchors.specs.TwoInARow.{failsInForce, failsDesignated, failsLower, 
 use Rattle.anchors.specs.ThreeInARow.{recordQualifies, unitQualifiesAt, thirdInARow}
 use Rattle.anchors.specs.Anchor.{failsAt, tenthsAt, classFailsAt, restartBy, restartAt, tenthsFrom}
 use Rattle.anchors.proofs.Trails.{tenths-of-one}
-use Rattle.rules.proofs.AtUnits.{cusum-graded}
+use Rattle.rules.proofs.GradedClasses.{cusum-graded}
 use Rattle.layout.specs.Layout.{markSize, sampleUnitAt, offset, mark, entryOf, entryAt, unitsBefore}
 use Rattle.layout.specs.declared.Mark.{Mark}
 use Rattle.layout.specs.declared.Mark.the-variants.{UnitMark, RedesignationMark, BreakMark, NoMark}

@@ -31,7 +31,7 @@ use Rattle.rules.specs.declared.Phase.the-variants.{Designated, StepThree}
 use Rattle.anchors.proofs.Trails.{tenths-go-on}
 use Rattle.rules.proofs.FailingUnits.{FailingNeverQualifies, failing-never-qualifies}
 use Rattle.rules.proofs.Grades.{in-force-at-most}
-use Rattle.rules.proofs.AtUnits.{cusum-graded}
+use Rattle.rules.proofs.GradedClasses.{cusum-graded}
 use Rattle.rules.proofs.FinishedRun.{finished-run, in-run, run-in}
 use Rattle.anchors.proofs.TwoFailures.{begins-at-second, lower-is-worse}
 use Rattle.anchors.proofs.ThreeQualify.{qualifies-at, third-ends}

@@ -7,13 +7,13 @@ use mathlib.Core.List.{List}
 use native.Mathlib.Omega.{arith}
 use lib.ListN.{length, drop}
 use Rattle.encoding.specs.Bytes.{byte}
-use Rattle.units.specs.Words.{substandard, classes, tenthsIn, tenthsOf, countTenths}
+use Rattle.units.specs.Words.{substandard, classes, tenthsOf, countTenths}
 use Rattle.units.specs.Unit.{classCusum, classOvershoot}
 use Rattle.units.specs.declared.SampleUnit.{SampleUnit}
 use Rattle.units.proofs.Bounds.{class-cusum-le, class-overshoot-le}
-use Rattle.rules.specs.Sheet.{before, inForceAt, gradedAt, portionGrade, standing, codeGrade}
+use Rattle.rules.specs.Sheet.{before, inForceAt, portionGrade, standing, codeGrade}
 use Rattle.rules.proofs.Grades.{code-grade-at-most}
-use Rattle.rules.proofs.AtUnits.{cusum-graded, overshoot-graded}
+use Rattle.rules.proofs.GradedClasses.{cusum-graded, overshoot-graded}
 use Rattle.rules.proofs.FailingUnits.{within-limit}
 use Rattle.layout.specs.Layout.{sampleUnitAt, offset, unitsBefore}
 use Rattle.layout.proofs.Units.{entry-unit}

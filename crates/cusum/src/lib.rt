@@ -75,11 +75,13 @@ impl Cusum {
     // The largest number of tenths that the two bytes of a CuSum hold in a result record.
     pub const LARGEST_TENTHS: u32 = 65535;
 
-    // The constant, for what is proved of it: no CuSum of an accepted plan is larger (theorem `cusums-fit`), so that nothing tests it.
-    pub fn largest() -> u32
-        ensures { λ r. ⌜ r ≡ largestTenths ⌝ }
+    // The largest CuSum that they hold. No accepted plan leads to a larger one (theorem `cusums-fit`), so that nothing tests for it.
+    pub fn largest() -> Cusum
+        ensures { λ r. ⌜ r .tenths ≡ largestTenths ⌝ }
     {
-        Cusum::LARGEST_TENTHS
+        Cusum {
+            tenths: Cusum::LARGEST_TENTHS,
+        }
     }
 
     // Every CuSum begins at the S of its own class and plan.

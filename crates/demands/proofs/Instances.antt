@@ -7,7 +7,6 @@ use mathlib.Core.List.{List, [], _∷_}
 use native.Mathlib.Omega.{arith}
 use lib.Dec.{lit<, lit≤}
 use lib.ListN.{length, replicate}
-use Rattle.units.specs.declared.Entry.the-variants.{UnitRecord}
 use Rattle.units.proofs.Lists.{in-none}
 use Rattle.anchors.specs.TwoInARow.{secondInARow}
 use Rattle.anchors.specs.Anchor.{classFailsAt, restart, failure, Latest}
@@ -30,7 +29,7 @@ use Rattle.regrade_demands.proofs.RegradeSheets.{regrade-sheets}
 use Rattle.regrade_demands.proofs.RegradeInstances.{fourAccepted, more-accepted}
 use Rattle.computed.specs.WorkedCases.{peachPlan, peachUnits, peach, peachResults}
 use Rattle.computed.specs.FurtherSheets.{breakBetweenFailures, breakBetweenFailuresResults, everyKindOfRecord, everyKindOfRecordResults, everyLowerPlan, everyLowerPlanResults, oneMinorDefectFewer, oneMinorDefectFewerResults, oneSevereDefectFewer, oneSevereDefectFewerResults, rawValueAtLimit, rawValueAtLimitResults, noDefectInPlaceOfOne, noDefectInPlaceOfOneResults, largestPlan, largestCusums, largestCusumsResults}
-use Rattle.demands.specs.Instances.{left, peachLeft, everyKindLeft, lowerPlansLeft, peachStandings, everyKindStandings, peachPlanned, lowerPlansPlanned, everyKindPlanned, standingByte, CourseInstance, LowerPlansInstance, CodeInstance, LargestInstance, LargestNumber, FewerInstance, FewerTwiceInstance, FewerMeetsInstance, manyDefects, FitInstance, LookupInstance, Instances}
+use Rattle.demands.specs.Instances.{left, peachLeft, everyKindLeft, lowerPlansLeft, peachStandings, everyKindStandings, peachPlanned, lowerPlansPlanned, everyKindPlanned, standingByte, CourseInstance, LowerPlansInstance, CodeInstance, LargestInstance, LargestNumber, FewerInstance, FewerTwiceInstance, FewerMeetsInstance, manyDefects, unitsAndBreaks, FitInstance, LookupInstance, Instances}
 use Rattle.demands.proofs.Computing.{computing}
 use Rattle.grounds.specs.Grounds.{of-opening, of-last}
 use Rattle.answers.proofs.Grounds.{demand2-grounds}
@@ -91,46 +90,48 @@ code-met-again buffer holds =
 
 -- ---- CuSums fit in two bytes
 
--- the sheet and the regrading with the largest CuSums, in a buffer that holds their records
+-- the sheet and the regrading with the largest CuSums, in a buffer for their three records
 abbrev largestAnswer : Answer
 largestAnswer = record { number = 0; units = 3; offset = 117 }
 
-abbrev room : List ℕ
-room = replicate (resultSize * 3) 0
+abbrev threeZeros : List ℕ
+threeZeros = replicate (resultSize * 3) 0
 
-largest-graded : AcceptedAs largestCusums room largestAnswer (left largestCusumsResults 3 room)
-largest-graded = record { promise = sym (further-sheets .units .largest-cusums room (lit≤ tt)); accepted = refl }
+largest-graded : AcceptedAs largestCusums threeZeros largestAnswer (left largestCusumsResults 3 threeZeros)
+largest-graded = record { promise = sym (further-sheets .units .largest-cusums threeZeros (lit≤ tt)); accepted = refl }
 
-largest-regraded : RegradedAs largestCusumsRegraded largestPlan room largestAnswer (left largestCusumsRegradedResults 3 room)
-largest-regraded = record { promise = sym (regrade-sheets .units .largest-cusums-regraded room (lit≤ tt)); accepted = refl }
+largest-regraded : RegradedAs largestCusumsRegraded largestPlan threeZeros largestAnswer (left largestCusumsRegradedResults 3 threeZeros)
+largest-regraded = record { promise = sym (regrade-sheets .units .largest-cusums-regraded threeZeros (lit≤ tt)); accepted = refl }
 
 -- they are accepted, so that no ground applies to the plan
 plan-accepted : AcceptedPlan largestCusums
 plan-accepted number applies =
-    demand2-grounds largestCusums room largestAnswer _ (largest-graded .promise) .accepted refl number 0 (of-opening applies)
+    demand2-grounds largestCusums threeZeros largestAnswer _ (largest-graded .promise) .accepted refl number 0 (of-opening applies)
 
 second-plan-accepted : AcceptedPlan largestPlan
 second-plan-accepted number applies =
-    regrade-refusals largestCusumsRegraded largestPlan room largestAnswer _ (largest-regraded .promise) .by-ground .accepted refl
+    regrade-refusals largestCusumsRegraded largestPlan threeZeros largestAnswer _ (largest-regraded .promise) .by-ground .accepted refl
     18 (length largestCusumsRegraded) (of-last (row18 (plan-ground applies)))
 
 fit : FitInstance
 unfolding computing largestPlan largestCusums largestCusumsRegraded recordedPlan
 fit =
     record {
-      before-record = λ i class known. omega (arith, cusums-fit .before-record largestCusums plan-accepted (λ j. UnitRecord manyDefects) 2000 i class known);
-      of-unit = λ i class known. omega (arith, cusums-fit .of-unit manyDefects largestCusums plan-accepted (λ j. UnitRecord manyDefects) 2000 i class known);
+      before-record = λ i class known. omega (arith, cusums-fit .before-record largestCusums plan-accepted unitsAndBreaks 4000 i class known);
+      of-unit = λ i class known. omega (arith, cusums-fit .of-unit manyDefects largestCusums plan-accepted unitsAndBreaks 4000 i class known);
       before-record-regraded = λ i class known.
-          omega (arith, cusums-fit .before-record-regraded largestPlan second-plan-accepted (λ j. UnitRecord manyDefects) 2000 i class known);
+          omega (arith, cusums-fit .before-record-regraded largestPlan second-plan-accepted unitsAndBreaks 4000 i class known);
       of-unit-regraded = λ i class known.
-          omega (arith, cusums-fit .of-unit-regraded manyDefects largestPlan second-plan-accepted (λ j. UnitRecord manyDefects) 2000 i class known);
+          omega (arith, cusums-fit .of-unit-regraded manyDefects largestPlan second-plan-accepted unitsAndBreaks 4000 i class known);
       in-grading = λ course rules class known.
-          omega (arith, cusums-fit .in-grading largestCusums room largestAnswer _ largest-graded course rules 1 class (record { inside = lit< tt; is-unit = refl }) known);
+          let fits = cusums-fit .in-grading largestCusums threeZeros largestAnswer _ largest-graded course rules in (
+            omega (arith, fits .of-unit 1 class (record { inside = lit< tt; is-unit = refl }) known),
+            λ planned. omega (arith, fits .before-record 2 class (lit≤ tt) planned known),
+          );
       in-regrading = λ course rules class known.
-          omega (
-            arith,
-            cusums-fit .in-regrading largestCusumsRegraded largestPlan room largestAnswer _ largest-regraded course rules 1 class
-                (record { inside = lit< tt; is-unit = refl }) known,
+          let fits = cusums-fit .in-regrading largestCusumsRegraded largestPlan threeZeros largestAnswer _ largest-regraded course rules in (
+            omega (arith, fits .of-regraded-unit 1 class (record { inside = lit< tt; is-unit = refl }) known),
+            omega (arith, fits .before-record 2 class (lit≤ tt) known),
           );
     }
 

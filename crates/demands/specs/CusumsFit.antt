@@ -8,12 +8,13 @@ use lib.ListN.{length}
 use Rattle.cusum.specs.Step.{largestTenths}
 use Rattle.cusum.specs.declared.Cusum.{Cusum}
 use Rattle.cusum.proofs.Cusum.largest.Statement as largest
-use Rattle.units.specs.Words.{classes, tableOf, tenthsIn}
+use Rattle.units.specs.Words.{substandard, classes, tableOf, tenthsIn}
 use Rattle.units.specs.declared.SampleUnit.{SampleUnit}
 use Rattle.units.specs.declared.Entry.{Entry}
 use Rattle.rules.specs.Sheet.{Sheet, before, gradedAt}
 use Rattle.layout.specs.Layout.{planOf}
 use Rattle.outcome.specs.declared.Answer.{Answer}
+use Rattle.tally.specs.Outcome.{recordsIn}
 use Rattle.tally.specs.Accepted.{AcceptedAs, UnitAt}
 use Rattle.regrade.specs.Regrading.{cusumsBefore, regradedAt}
 use Rattle.answers.specs.Grounds.{PlanRow}
@@ -21,11 +22,14 @@ use Rattle.courses.specs.Course.{Course, Rules}
 use Rattle.regrade_demands.specs.RegradeAccepted.{RegradedAs}
 use Rattle.regrade_demands.specs.RegradeRecords.{RegradeCourse, RegradeRules}
 
--- an accepted plan: none of the grounds 1 to 5 applies to the bytes that it opens, or that it is alone
-abbrev pub AcceptedPlan : List ℕ → Type 0
-AcceptedPlan plan = (number : ℕ) → PlanRow plan number → ⊥
+-- ---- behind an accepted plan
 
--- behind it any records, in any order: units with any counts, redesignations to any grade, breaks
+-- an accepted plan: none of the grounds 1 to 5 applies. It is read from the start of the bytes, which may be a sheet or a second plan
+abbrev pub AcceptedPlan : List ℕ → Type 0
+AcceptedPlan bytes = (number : ℕ) → PlanRow bytes number → ⊥
+
+-- behind it any records, in any order: units with any counts, redesignations to any grade, breaks. (A CuSum does not go by how many there
+-- are in all.)
 abbrev pub sheetBehind : List ℕ → (ℕ → Entry) → ℕ → Sheet
 sheetBehind plan entry size = record { table = tableOf (planOf plan); designated = planOf plan .designated; entry = entry; size = size }
 
@@ -37,24 +41,37 @@ AllFit cusums = (class : ℕ) → class < length classes → tenthsIn cusums cla
 abbrev pub FitBehindPlan : (Sheet → ℕ → List Cusum) → Type 0
 FitBehindPlan cusums = (plan : List ℕ) → AcceptedPlan plan → (entry : ℕ → Entry) (size i : ℕ) → AllFit (cusums (sheetBehind plan entry size) i)
 
--- at every unit of an accepted sheet, told by place: by whatever course follows the rules
+-- ---- of a grading and of a regrading, told by place
+
+-- the CuSums of a course: before every record and behind the last, where a plan is in force, and of every unit
+pub record FitInCourse (bytes : List ℕ) (course : Course) : Type 0 where
+  pub before-record : (i class : ℕ) → i ≤ recordsIn bytes → course .planGrade i < substandard → class < length classes
+      → course .cusum i class ≤ largestTenths
+  pub of-unit : (i class : ℕ) → UnitAt bytes i → class < length classes → course .newCusum i class ≤ largestTenths
+
+-- by whatever course follows the rules of an accepted sheet
 abbrev pub FitInGrading : Type 0
 FitInGrading =
     (bytes buffer : List ℕ) (answer : Answer) (results : List ℕ) → AcceptedAs bytes buffer answer results
-    → (course : Course) → Rules bytes course → (i class : ℕ) → UnitAt bytes i → class < length classes → course .newCusum i class ≤ largestTenths
+    → (course : Course) → Rules bytes course → FitInCourse bytes course
 
--- and of an accepted regrading
+-- the same of a regrading, where a plan always is in force
+pub record FitInRegradeCourse (bytes : List ℕ) (course : RegradeCourse) : Type 0 where
+  pub before-record : (i class : ℕ) → i ≤ recordsIn bytes → class < length classes → course .cusum i class ≤ largestTenths
+  pub of-regraded-unit : (i class : ℕ) → UnitAt bytes i → class < length classes → course .newCusum i class ≤ largestTenths
+
 abbrev pub FitInRegrading : Type 0
 FitInRegrading =
     (bytes plan buffer : List ℕ) (answer : Answer) (results : List ℕ) → RegradedAs bytes plan buffer answer results
-    → (course : RegradeCourse) → RegradeRules bytes plan course → (i class : ℕ) → UnitAt bytes i → class < length classes
-    → course .newCusum i class ≤ largestTenths
+    → (course : RegradeCourse) → RegradeRules bytes plan course → FitInRegradeCourse bytes course
+
+-- ---- together
 
 pub record CusumsFit : Type 2 where
   -- the most tenths that two bytes hold, in the code `Cusum::LARGEST_TENTHS`
   pub two-bytes : largestTenths + 1 ≡ 256 * 256
   pub promise-of-largest : {M : Type 1} → largest.statement M
-  -- as sheets are graded: before every record, and of the unit that it is, whatever its counts
+  -- as sheets are graded: before every record, and of whatever unit stands there, whatever its counts
   pub before-record : FitBehindPlan (λ sheet i. before sheet i .cusums)
   pub of-unit : (unit : SampleUnit) → FitBehindPlan (λ sheet i. gradedAt sheet i unit .cusums)
   -- as they are regraded, where the plan is the second one

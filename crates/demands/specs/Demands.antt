@@ -8,8 +8,9 @@
 -- same with `moldPrinting` and `moldPrinted`, and of `regrade_lines::print_regrading_into` with `regradePrinting` and `regradePrinted`.
 -- Demands 1 to 3, P9 and P10, the further sheets and the instances speak of `outcome`; the lines of P10 and the printed text of `printed`;
 -- the layout of the bytes alone, P1 to P8 of the rules alone, `mold` of mold sheets, `regradings` of recorded sheets that are graded again
--- under a second plan, `lookups` of `lookup`, `handed` and `recordsRead`, and `lookups-graded`, with three of the instances, of look-ups in
--- the results of `outcome` and `regradeOutcome`.
+-- under a second plan, `lookups` of `lookup`, `handed` and `recordsRead`, `lookups-graded`, with three of the instances, of look-ups in
+-- the results of `outcome` and `regradeOutcome`, and `cusums-fit`, with one of the instances, of the rules behind any accepted plan and of
+-- sheets accepted by `outcome` and `regradeOutcome`; it has the promise of `Cusum::largest`, too.
 use Rattle.tally.proofs.grade.Statement as grade
 use Rattle.hatmuyon.proofs.hatmuyon_grade.Statement as hatmuyon_grade
 use Rattle.mold.proofs.grade_mold.Statement as grade_mold

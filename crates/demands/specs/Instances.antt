@@ -1,6 +1,6 @@
 -- Each demand once more on concrete sheets of several units and in every class, written out here and proved from the demand's own
 -- theorem: a demand stated for fewer sheets, records, units or classes, or without one of the parts used here, would no longer give these.
-use Prim.Native.Nat.{ℕ, suc, _+_, _*_, _<_, _≤_}
+use Prim.Native.Nat.{ℕ, zero, suc, _+_, _*_, _<_, _≤_}
 use mathlib.Core.Path.{_≡_}
 use mathlib.Core.Bool.{Bool, true, false}
 use mathlib.Core.List.{List, [], _∷_, _++_}
@@ -10,7 +10,8 @@ use lib.IntN.{pos}
 use Rattle.cusum.specs.LargestForm.{largestForm, anchorValue}
 use Rattle.units.specs.Words.{substandard, classes, worse, tenthsIn}
 use Rattle.units.specs.declared.SampleUnit.{SampleUnit}
-use Rattle.units.specs.declared.Entry.the-variants.{UnitRecord}
+use Rattle.units.specs.declared.Entry.{Entry}
+use Rattle.units.specs.declared.Entry.the-variants.{UnitRecord, Break}
 use Rattle.rules.specs.Sheet.{Sheet, before, gradedAt}
 use Rattle.anchors.specs.TwoInARow.{secondInARow}
 use Rattle.anchors.specs.Anchor.{classFailsAt, tenthsFrom, Anchor, Latest}
@@ -239,20 +240,27 @@ manyDefects =
       recoverable = false;
     }
 
--- behind a plan nothing but such units, more than a sheet may have
-abbrev pub manyUnits : List ℕ → Sheet
-manyUnits plan = sheetBehind plan (λ i. UnitRecord manyDefects) 2000
+-- such units, a break behind each, so that step 3 never begins and the designated plan stays in force
+unfoldable pub unitsAndBreaks : ℕ → Entry
+unitsAndBreaks zero = UnitRecord manyDefects
+unitsAndBreaks (suc zero) = Break
+unitsAndBreaks (suc (suc i)) = unitsAndBreaks i
 
--- the plan with the largest numbers, which opens the sheet with the largest CuSums, and as a second plan: no CuSum of any class is above two
--- bytes, before any of these units and behind it, nor at unit 2 of that sheet, by any course that follows the rules
+-- behind the plan with the largest S and L, more of them than a sheet may have
+abbrev pub manyUnits : List ℕ → Sheet
+manyUnits plan = sheetBehind plan unitsAndBreaks 4000
+
+-- that plan as it opens a sheet, and as a second plan: no CuSum of any class is above two bytes, before any of these records and of such a unit.
+-- Nor is one in the sheet and in the regrading of three units under it, by any course that follows the rules
 pub record FitInstance : Type 0 where
   pub before-record : (i class : ℕ) → class < length classes → tenthsIn (before (manyUnits largestCusums) i .cusums) class < 65536
   pub of-unit : (i class : ℕ) → class < length classes → tenthsIn (gradedAt (manyUnits largestCusums) i manyDefects .cusums) class < 65536
   pub before-record-regraded : (i class : ℕ) → class < length classes → tenthsIn (cusumsBefore (manyUnits largestPlan) i) class < 65536
   pub of-unit-regraded : (i class : ℕ) → class < length classes → tenthsIn (regradedAt (manyUnits largestPlan) i manyDefects .cusums) class < 65536
-  pub in-grading : (course : Course) → Rules largestCusums course → (class : ℕ) → class < length classes → course .newCusum 1 class < 65536
-  pub in-regrading : (course : RegradeCourse) → RegradeRules largestCusumsRegraded largestPlan course
-      → (class : ℕ) → class < length classes → course .newCusum 1 class < 65536
+  pub in-grading : (course : Course) → Rules largestCusums course → (class : ℕ) → class < length classes
+      → (course .newCusum 1 class < 65536) × (course .planGrade 2 < substandard → course .cusum 2 class < 65536)
+  pub in-regrading : (course : RegradeCourse) → RegradeRules largestCusumsRegraded largestPlan course → (class : ℕ) → class < length classes
+      → (course .newCusum 1 class < 65536) × (course .cusum 2 class < 65536)
 
 -- ---- look-ups
 

@@ -92,7 +92,7 @@ one-best bytes plan course other i grade grade' one two = go (ltb grade grade') 
 
 -- ---- the course of the definitions
 
-abbrev regradedCourse : List ℕ → List ℕ → RegradeCourse
+abbrev pub regradedCourse : List ℕ → List ℕ → RegradeCourse
 regradedCourse bytes plan =
     let sheet = regradedSheet bytes plan in
     record {
@@ -284,7 +284,7 @@ module _ (bytes plan : List ℕ) (facts : Facts bytes (recordsIn bytes)) (second
         (subst⁻¹ (λ (old : ℕ). RuleTwoBy (old + tenTimesCount bytes i class) (toleranceIn plan its-grade class) (limitIn plan its-grade class)
         (other .newCusum i class) (other .overshoot i class)) (same class known) (others .rule-two i class at known))
 
-    same-before : (i : ℕ) → i ≤ recordsIn bytes → SameBefore i
+    pub same-before : (i : ℕ) → i ≤ recordsIn bytes → SameBefore i
     same-before zero inside class known = rules .opening class known ∙ sym (others .opening class known)
     same-before (suc i) inside class known = go (words.kind bytes facts i (omega (arith, inside))) (same-before i (omega arith))
       where
@@ -311,7 +311,7 @@ module _ (bytes plan : List ℕ) (facts : Facts bytes (recordsIn bytes)) (second
         (λ none. rule-three i .meets none ∙ sym (others .rule-three i at .meets (λ here. none (fails-first i same here))))
         (settled (tells-unit i))
 
-    only-course : (i : ℕ) → UnitAt bytes i → SameRegradedAt course other i
+    pub only-course : (i : ℕ) → UnitAt bytes i → SameRegradedAt course other i
     only-course i at =
         let same = same-before i (omega (arith, at .inside)) in
         record {

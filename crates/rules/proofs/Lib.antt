@@ -2,5 +2,5 @@ pub mod Steps
 pub mod FailingUnits
 pub mod FinishedRun
 pub mod Grades
-pub mod AtUnits
+pub mod GradedClasses
 pub mod Computing

@@ -1242,7 +1242,7 @@ fn overshoots_in(results: &[u8]) -> Vec<Overshoot> {
     all.filter(|(_, _, tenths)| *tenths > 0).collect()
 }
 
-/// The plan with the largest numbers, or the peach plan with the bytes that differ from it.
+/// The plan with the largest S and L, or the peach plan with the bytes that differ from it.
 fn plan_text(bytes: &[u8]) -> String {
     if bytes == largest() {
         return "largestPlan".to_string();
