@@ -75,7 +75,7 @@ impl Cusum {
     // The largest number of tenths that the two bytes of a CuSum hold in a result record.
     pub const LARGEST_TENTHS: u32 = 65535;
 
-    // The largest CuSum that they hold. No accepted plan leads to a larger one (theorem `cusums-fit`), so that nothing tests for it.
+    // The largest CuSum that two bytes hold. No accepted plan leads to a larger one (theorem `cusums-fit`), so that nothing tests for it.
     pub fn largest() -> Cusum
         ensures { λ r. ⌜ r .tenths ≡ largestTenths ⌝ }
     {

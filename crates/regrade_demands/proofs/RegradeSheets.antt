@@ -108,7 +108,8 @@ second-plan-sheets =
 
 unit-sheets : UnitSheets
 unfolding computing recordedPlan buyerA buyerB rawValueAtLimit rawValueAtLimitResults tenthAboveLimit tenthAboveLimitResults belowZero
-    belowZeroResults overshootAboveTwoBytes overshootAboveTwoBytesResults largestPlan largestCusumsRegraded largestCusumsRegradedResults prerequisites prerequisitesResults prerequisiteSubstandard
+    belowZeroResults overshootAboveTwoBytes overshootAboveTwoBytesResults largestPlan largestCusumsRegraded largestCusumsRegradedResults
+    prerequisites prerequisitesResults prerequisiteSubstandard
     prerequisiteSubstandardResults codeMetAgain codeMetAgainResults codeMetAgainLater codeMetAgainLaterResults codesAlikeInOneByte
     codesAlikeInOneByteResults noUnit noUnitResults noUnitButRecords noUnitButRecordsResults
     codesAcrossBreakAndRedesignation codesAcrossBreakAndRedesignationResults

@@ -27,6 +27,10 @@ use Rattle.tally.specs.Accepted.{AcceptedAs, sheetIn}
 
 -- ---- the cases of the outcome
 
+-- by the test behind the sheet's check
+abbrev given : List ℕ → List ℕ → ℕ → ℕ → Bool → Outcome
+given bytes buffer records units short = pick short (refusal 13 (length bytes) buffer) (acceptance bytes buffer records units)
+
 -- an outcome by a verdict whose number is 0
 record AcceptedBy (bytes buffer : List ℕ) (v : Verdict) (given : Outcome) : Type 0 where
   units : ℕ
@@ -40,11 +44,9 @@ unfolding outcomeBy recordsOf pick
 accepted-by bytes buffer (Refused number at) numbered e = absurd (numbered number at refl e)
 accepted-by bytes buffer (Accepted records units) numbered e = go (ltb (length buffer) (resultSize * units)) refl e
   where
-    given : Bool → Outcome
-    given short = pick short (refusal 13 (length bytes) buffer) (acceptance bytes buffer records units)
-
     go : (short : Bool) → ltb (length buffer) (resultSize * units) ≡ short
-        → given short .answer .number ≡ 0 → AcceptedBy bytes buffer (Accepted records units) (given short)
+        → given bytes buffer records units short .answer .number ≡ 0
+        → AcceptedBy bytes buffer (Accepted records units) (given bytes buffer records units short)
     go true s e = absurd (omega arith)
     go false s e =
         record { units = units; passed = refl; room = ltb-false (length buffer) (resultSize * units) s; is-acceptance = refl }
@@ -56,10 +58,8 @@ unfolding outcomeBy acceptance pick
 refused-by bytes buffer (Refused number at) other = (refl, refl)
 refused-by bytes buffer (Accepted records units) other = go (ltb (length buffer) (resultSize * units)) other
   where
-    given : Bool → Outcome
-    given short = pick short (refusal 13 (length bytes) buffer) (acceptance bytes buffer records units)
-
-    go : (short : Bool) → (given short .answer .number ≡ 0 → ⊥) → (given short .buffer ≡ buffer) × (given short .answer .units ≡ 0)
+    go : (short : Bool) → (given bytes buffer records units short .answer .number ≡ 0 → ⊥)
+        → (given bytes buffer records units short .buffer ≡ buffer) × (given bytes buffer records units short .answer .units ≡ 0)
     go true other = (refl, refl)
     go false other = absurd (other refl)
 
