@@ -1,12 +1,11 @@
 -- A table of grounds, for sheets of every kind, and which of its rows is returned: a row is told by what stands in the bytes, and the
 -- first row met by its place. Nothing here computes a refusal.
-use Prim.Native.Nat.{ℕ, suc, _<_}
+use Prim.Native.Nat.{ℕ, _<_}
 use mathlib.Core.Path.{_≡_}
-use mathlib.Core.Bool.{cond}
-use mathlib.Core.List.{List, [], _∷_}
+use mathlib.Core.List.{List}
 use mathlib.Core.Logic.{_⊎_}
-use lib.Dec.{eqb}
 use Rattle.outcome.specs.declared.Answer.{Answer}
+use Rattle.units.specs.Conditions.{placeOf}
 
 -- ---- the table
 
@@ -33,8 +32,8 @@ pub data Ground (grounds : Grounds) : ℕ → ℕ → Type 0 where
 
 -- how many rows stand above that of a number
 unfoldable pub rowsAbove : List ℕ → ℕ → ℕ
-rowsAbove [] number = 0
-rowsAbove (first ∷ others) number = cond (eqb first number) 0 (suc (rowsAbove others number))
+unfolding placeOf
+rowsAbove rows number = placeOf rows number
 
 -- "records are checked left to right, each wholly before the next": the earlier of two grounds has the smaller offset, or at the same
 -- place the upper row. The opening comes before the records, and the last rows behind them

@@ -29,7 +29,7 @@ use units::SampleUnit;
 // The largest S, T, L and count, and the most units, of a sheet.
 const LARGEST_PLAN_NUMBER: u16 = 9999;
 
-const LARGEST_COUNT: u16 = 2000;
+pub const LARGEST_COUNT: u16 = 2000;
 
 pub const MOST_UNITS: usize = 1000;
 

@@ -1,6 +1,8 @@
--- Conditions: of some or all members of a list, and one of two things by a condition.
-use mathlib.Core.Bool.{Bool, true, false, _&&_, _||_}
+-- Conditions: of some or all members of a list, one of two things by a condition, and where a number stands in a list.
+use Prim.Native.Nat.{ℕ, suc}
+use mathlib.Core.Bool.{Bool, true, false, cond, _&&_, _||_}
 use mathlib.Core.List.{List, [], _∷_}
+use lib.Dec.{eqb}
 
 -- a condition holds of a member of a list
 unfoldable pub any {ℓ} : {A : Type ℓ} → (A → Bool) → List A → Bool
@@ -17,3 +19,8 @@ all condition (member ∷ members) = condition member && all condition members
 unfoldable pub pick {ℓ} : {A : Type ℓ} → Bool → A → A → A
 pick true first other = first
 pick false first other = other
+
+-- how many members of a list stand before the first that is this number; all of them if none is
+unfoldable pub placeOf : List ℕ → ℕ → ℕ
+placeOf [] number = 0
+placeOf (first ∷ others) number = cond (eqb first number) 0 (suc (placeOf others number))

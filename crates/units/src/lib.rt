@@ -14,7 +14,7 @@ use cusum::PlanNumbers;
 pub const CLASSES: usize = 4;
 
 // Grades A, B and C, coded 0 to 2, have a plan; Substandard, coded 3, has none.
-const GRADES: usize = 3;
+pub const GRADES: usize = 3;
 
 pub const SUBSTANDARD: u8 = 3;
 

@@ -1,0 +1,5 @@
+pub mod Layout
+pub mod Acceptance
+pub mod Refusals
+pub mod Grading
+pub mod Answer
