@@ -126,20 +126,19 @@ fn put(lot: &mut [u8], at: usize, number: u16) {
 
 /// A lot without a defect; its AQLs are listed and do not fall, often with a generous total.
 fn draft(dice: &mut Dice) -> Lot {
-    let mut aqls = [[0; 4]; 3];
-    for class in 0..4 {
+    let by_class = [0, 1, 2, 3].map(|class| {
         let listed = if class == 3 && dice.chance(60) { &AQLS[4..] } else { &AQLS };
-        let mut of_class = [0; 3];
-        of_class.fill_with(|| dice.pick(listed));
+        let mut aqls = [0; 3];
+        aqls.fill_with(|| dice.pick(listed));
         if dice.chance(15) {
-            of_class = [of_class[0]; 3];
+            aqls = [aqls[0]; 3];
         }
-        of_class.sort_unstable();
-        for (grade, aql) in of_class.into_iter().enumerate() {
-            aqls[grade][class] = aql;
-        }
-    }
-    let prerequisite = dice.below(4) as Grade;
+        aqls.sort_unstable();
+        aqls
+    });
+    let aqls = [0, 1, 2].map(|grade| by_class.map(|aqls| aqls[grade]));
+    // Often the best, which lets every defect grade be seen.
+    let prerequisite = dice.pick(&[0, 0, 0, 0, 1, 2, 3]);
     Lot { sample_units: dice.pick(&SAMPLE_UNITS), aqls, counts: [0; 4], prerequisite }
 }
 
@@ -167,7 +166,11 @@ fn of_defect_grade(dice: &mut Dice, grade: Grade) -> Lot {
         }
         let any = dice.between(least.into(), most.into()) as u16;
         let [few, many] = if grade > 0 { [least, most] } else { [most, least] };
-        let count = dice.pick(&[few, few, few, (few + 1).min(most), any, many]);
+        let mut count = dice.pick(&[few, few, few, (few + 1).min(most), any, many]);
+        if grade == 3 && dice.chance(20) {
+            // Few, or none, in its low byte.
+            count = 256 * dice.between(1, 7) as u16 + up_to(dice, least);
+        }
         // What the others are to be within. For Substandard it may be anything.
         let anything = grade == 3 && dice.chance(30);
         let limits = if anything { [MOST_DEFECTS; 4] } else { numbers[grade.min(2)] };
@@ -178,21 +181,25 @@ fn of_defect_grade(dice: &mut Dice, grade: Grade) -> Lot {
         }
         let mut left = left.unwrap_or(0);
         let percent = dice.pick(&[0, 40, 100]);
+        let some_of_each = dice.chance(40);
         for other in (0..4).filter(|&other| other != class) {
             // Minor has no limit of its own.
             let limit = if other == 3 { left } else { limits[other].min(left) };
             if dice.chance(percent) {
-                lot.counts[other] = up_to(dice, limit);
+                let few = if some_of_each { 1 } else { up_to(dice, limit) };
+                lot.counts[other] = few.min(limit);
                 left -= lot.counts[other];
             }
         }
         // Minor makes up the total.
         lot.counts[class] = if class == 3 { left } else { count };
-        // A lot that is Substandard stays so with more defects.
+        // So many are above every acceptance number.
         if grade == 3 && dice.chance(15) {
+            let percent = dice.pick(&[50, 50, 100]);
             for place in 0..4 {
-                if dice.chance(50) {
-                    lot.counts[place] = dice.pick(&[MOST_DEFECTS, MOST_DEFECTS, 1_999]);
+                if dice.chance(percent) {
+                    lot.counts[place] =
+                        dice.pick(&[MOST_DEFECTS, MOST_DEFECTS, MOST_DEFECTS, 1_999]);
                 }
             }
         }
@@ -209,8 +216,8 @@ fn accepted(dice: &mut Dice) -> LotCase {
     LotCase { lot: lot.bytes(), expected, made: Made::Accepted }
 }
 
-/// Gives a lot of a right length this ground of refusal. An earlier one may come with it: number 7 with
-/// fewer than 2 bytes does not. Number 6 is to be given last, and 7 just before it.
+/// Gives an accepted lot this ground of refusal, and no earlier one; number 6 may come with 7. Of several
+/// the last is to be given first.
 fn damage(dice: &mut Dice, lot: &mut Vec<u8>, number: u32) {
     match number {
         6 => match dice.below(12) {
@@ -283,9 +290,9 @@ fn damage(dice: &mut Dice, lot: &mut Vec<u8>, number: u32) {
 /// A lot with these grounds; expected is the first of them in the order of [`NUMBERS`].
 fn damaged(dice: &mut Dice, numbers: &[u32], made: Made) -> LotCase {
     let mut lot = accepted(dice).lot;
-    // An AQL that is not listed may take away a fall, and a length any other ground, but then they are
-    // before it.
-    for number in [9, 8, 22, 21, 20, 7, 6] {
+    // An AQL that is not listed may take away a fall, and a wrong length any later ground; the first
+    // ground stays.
+    for number in NUMBERS.into_iter().rev() {
         if numbers.contains(&number) {
             damage(dice, &mut lot, number);
         }
@@ -732,12 +739,23 @@ impl LotCounts {
         self.note("total decides by one, by all four", some_of_all && one_above == Some(3));
         let no_minor = lot.is_some_and(|lot| lot.counts[3] == 0);
         self.note("total decides by one, without minor", no_minor && one_above == Some(3));
-        // More than one grade better than this is passed over, and each for another class.
-        let minors = lot.is_some_and(|lot| {
-            let number = lot.numbers().get(worst).map_or(0, |numbers| numbers[0].max(numbers[1]));
-            worst < 3 && lot.counts[3] > number
-        });
-        self.note("minor above the numbers of critical and severe", minors);
+        // Substandard by one place, and not so by its low byte.
+        for (place, name) in PLACES.into_iter().enumerate() {
+            let by_high_byte = |mut lot: Lot| {
+                let [high, low] = lot.counts[place].to_be_bytes();
+                lot.counts[place] = low.into();
+                high > 0 && worst == 3 && lot.prerequisite < 3 && defect_grade(&lot) < 3
+            };
+            let name = format!("grade S by the high byte of {name}");
+            self.note(&name, lot.is_some_and(by_high_byte));
+        }
+        // Minor is no class, and has no acceptance number of its own.
+        let many_minor = |lot: Lot| {
+            let numbers = lot.numbers().get(worst).copied();
+            numbers.is_some_and(|numbers| (0..3).all(|class| lot.counts[3] > numbers[class]))
+        };
+        let many_minor = lot.is_some_and(many_minor);
+        self.note("minor above the numbers of critical, severe and major", many_minor);
     }
 
     /// Takes in a pair and the answers of both.
