@@ -1,7 +1,7 @@
-//! Seeded random warehouse lots (A.8 of paper 02): accepted ones of every defect grade and prerequisite,
-//! with counts at the acceptance numbers and one above; ones with each ground of refusal alone and with
-//! several at once; changed ones and ones of any bytes; the cells of the table one by one; pairs for
-//! demand 3; and counts of what happened in them.
+//! Seeded random warehouse lots (A.8 of paper 02): accepted ones of every defect grade and
+//! prerequisite, with counts at the acceptance numbers and one above; ones with each ground of
+//! refusal alone and with several at once; changed ones and ones of any bytes; the cells of the
+//! table one by one; pairs for demand 3; and counts of what happened in them.
 
 use crate::generate::{Counts, Dice};
 use crate::lot::{check_lot, defect_grade, grade_lot, grounds, read};
@@ -31,7 +31,8 @@ pub struct LotCase {
     pub made: Made,
 }
 
-/// "two accepted lots alike except that no count in the first exceeds its fellow in the second" (A.8).
+/// "two accepted lots alike except that no count in the first exceeds its fellow in the second"
+/// (A.8).
 #[derive(Clone, Debug)]
 pub struct LotPair {
     pub first: Vec<u8>,
@@ -47,7 +48,8 @@ impl Lot {
         bytes
     }
 
-    /// The acceptance numbers of grades A, B, C, within each of the four classes. The lot is listed.
+    /// The acceptance numbers of grades A, B, C, within each of the four classes. The lot is
+    /// listed.
     fn numbers(&self) -> [[u16; 4]; 3] {
         let (_, column) = TABLE_XV.iter().find(|(units, _)| *units == self.sample_units).unwrap();
         self.aqls.map(|grade| grade.map(|aql| column.iter().find(|cell| cell.0 == aql).unwrap().1))
@@ -75,9 +77,9 @@ const EXCHANGED: [u8; 2] = [0x54, 0x4C];
 /// Sample units that are not one of the four, each counted by itself.
 const OTHER_UNITS: [u8; 13] = [0, 1, 3, 5, 7, 12, 14, 20, 22, 28, 30, 128, 255];
 
-/// AQLs in tenths that are not listed, each counted by itself: those next to a listed one; its bytes
-/// exchanged; ten times it; a tenth of it; with another high byte; AQLs of document 003 that are not in
-/// the table; the least and the greatest.
+/// AQLs in tenths that are not listed, each counted by itself: those next to a listed one; its
+/// bytes exchanged; ten times it; a tenth of it; with another high byte; AQLs of document 003 that
+/// are not in the table; the least and the greatest.
 #[rustfmt::skip]
 const UNLISTED: [u16; 44] = [
     9, 11, 14, 16, 24, 26, 39, 41, 49, 51, 124, 126,
@@ -150,8 +152,8 @@ fn up_to(dice: &mut Dice, most: u16) -> u16 {
 
 /// A lot of this defect grade. It is known so: every class is within its acceptance number at this
 /// grade, unless it is Substandard; and one class is above its acceptance number at the next better
-/// grade, if there is one, and so at all better ones, as no AQL falls and no larger AQL has a smaller
-/// acceptance number.
+/// grade, if there is one, and so at all better ones, as no AQL falls and no larger AQL has a
+/// smaller acceptance number.
 fn of_defect_grade(dice: &mut Dice, grade: Grade) -> Lot {
     let grade = usize::from(grade);
     loop {
@@ -216,8 +218,8 @@ fn accepted(dice: &mut Dice) -> LotCase {
     LotCase { lot: lot.bytes(), expected, made: Made::Accepted }
 }
 
-/// Gives an accepted lot this ground of refusal, and no earlier one; number 6 may come with 7. Of several
-/// the last is to be given first.
+/// Gives an accepted lot this ground of refusal, and no earlier one; number 6 may come with 7. Of
+/// several the last is to be given first.
 fn damage(dice: &mut Dice, lot: &mut Vec<u8>, number: u32) {
     match number {
         6 => match dice.below(12) {
@@ -290,8 +292,8 @@ fn damage(dice: &mut Dice, lot: &mut Vec<u8>, number: u32) {
 /// A lot with these grounds; expected is the first of them in the order of [`NUMBERS`].
 fn damaged(dice: &mut Dice, numbers: &[u32], made: Made) -> LotCase {
     let mut lot = accepted(dice).lot;
-    // An AQL that is not listed may take away a fall, and a wrong length any later ground; the first
-    // ground stays.
+    // An AQL that is not listed may take away a fall, and a wrong length any later ground; the
+    // first ground stays.
     for number in NUMBERS.into_iter().rev() {
         if numbers.contains(&number) {
             damage(dice, &mut lot, number);
@@ -382,8 +384,8 @@ fn any_bytes(dice: &mut Dice) -> LotCase {
     LotCase { lot, expected: None, made: Made::AnyBytes }
 }
 
-/// The lot of this seed: more than four in ten accepted, four in a hundred with each ground by itself.
-/// Panics if its answer is another in a second way.
+/// The lot of this seed: more than four in ten accepted, four in a hundred with each ground by
+/// itself. Panics if its answer is another in a second way.
 pub fn lot_case(seed: u64) -> LotCase {
     let dice = &mut Dice(seed);
     let case = match dice.below(100) {
@@ -400,8 +402,8 @@ pub fn lot_case(seed: u64) -> LotCase {
     case
 }
 
-/// Two lots of this seed: of one lot the first gets fewer defects or the second more, at one place or
-/// several. Often one count alone goes across an acceptance number.
+/// Two lots of this seed: of one lot the first gets fewer defects or the second more, at one place
+/// or several. Often one count alone goes across an acceptance number.
 pub fn lot_pair(seed: u64) -> LotPair {
     let dice = &mut Dice(seed);
     let grade = dice.below(4) as Grade;
@@ -434,27 +436,27 @@ pub fn lot_pair(seed: u64) -> LotPair {
     pair
 }
 
-/// The AQLs of one class at A, B and C around that of a cell, and the grades that answer a count at its
-/// acceptance number and one above.
+/// The AQLs of one class at A, B and C around that of a cell, and the grades that answer a count at
+/// its acceptance number and one above.
 struct Around {
     aqls: [u16; 3],
     at: Grade,
     above: Grade,
 }
 
-/// For each cell of the table and each class, lots in which no other class decides: one with a count at
-/// the acceptance number, and one with a count one above, each in four ways. All other AQLs are 12.5,
-/// the largest there is, and all other counts zero; for total the defects are minor ones. Total is then
-/// as large as the count, and is within the acceptance number of 12.5 exactly if the class would be
-/// with 12.5. So the count alone decides, and the grade is known:
+/// For each cell of the table and each class, lots in which no other class decides: one with a
+/// count at the acceptance number, and one with a count one above, each in four ways. All other
+/// AQLs are 12.5, the largest there is, and all other counts zero; for total the defects are minor
+/// ones. Total is then as large as the count, and is within the acceptance number of 12.5 exactly
+/// if the class would be with 12.5. So the count alone decides, and the grade is known:
 ///
 /// - The cell at A, B and C. At the number: A. One above: no grade admits it.
-/// - The cell at A, 12.5 at B and C. At the number: A. One above: B, as every other number in the column
-///   is smaller than that of 12.5 by two or more; for 12.5 itself, no grade.
-/// - 1.0 at A, the cell at B, 12.5 at C. At the number: B, or A if the number of 1.0 is the same. One
-///   above: C; for 12.5 itself, no grade.
-/// - 1.0 at A and B, the cell at C. At the number: C, or A if the number of 1.0 is the same. One above: no
-///   grade.
+/// - The cell at A, 12.5 at B and C. At the number: A. One above: B, as every other number in the
+///   column is smaller than that of 12.5 by two or more; for 12.5 itself, no grade.
+/// - 1.0 at A, the cell at B, 12.5 at C. At the number: B, or A if the number of 1.0 is the same.
+///   One above: C; for 12.5 itself, no grade.
+/// - 1.0 at A and B, the cell at C. At the number: C, or A if the number of 1.0 is the same. One
+///   above: no grade.
 ///
 /// The prerequisite is A.
 pub fn table_cases() -> Vec<LotCase> {
@@ -493,7 +495,8 @@ const LETTERS: [char; 4] = ['A', 'B', 'C', 'S'];
 const CLASSES: [&str; 4] = ["critical", "severe", "major", "total"];
 const PLACES: [&str; 4] = ["critical", "severe", "major", "minor"];
 
-/// How often each thing happened in lots; every name is there from the first note on, also with zero.
+/// How often each thing happened in lots; every name is there from the first note on, also with
+/// zero.
 #[derive(Default)]
 pub struct LotCounts(pub Counts);
 
@@ -683,9 +686,10 @@ impl LotCounts {
             |lot: Lot| (0..4).any(|class| lot.aqls.iter().all(|g| g[class] == lot.aqls[0][class]));
         self.note("accepted, a class with one AQL", lot.is_some_and(is_even));
 
-        // Classes at the acceptance number of the defect grade: with one less there, the grade would be
-        // worse. A class alone above that of the next better grade: if the count is one above, with one
-        // more there the grade would be better. Each as far as the prerequisite lets it be seen.
+        // Classes at the acceptance number of the defect grade: with one less there, the grade
+        // would be worse. A class alone above that of the next better grade: if the count is one
+        // above, with one more there the grade would be better. Each as far as the prerequisite
+        // lets it be seen.
         let mut at: Vec<usize> = Vec::new();
         let mut above: Vec<usize> = Vec::new();
         let mut one_above = None;

@@ -1,8 +1,8 @@
-//! "Warehouse lots", A.8 of paper 02: the lot in bytes, where it is turned away, its grading, its line,
-//! and both its refusal and its grade a second time. The sentences in quotation marks are those of A.8
-//! where no paper is named; document 003 is the source document "LOT SINGLE SAMPLING PLAN
-//! (ATTRIBUTES)". A lot has one sample, no CuSum and no result record: its counts are compared as they
-//! are, and not in tenths.
+//! "Warehouse lots", A.8 of paper 02: the lot in bytes, where it is turned away, its grading, its
+//! line, and both its refusal and its grade a second time. The sentences in quotation marks are
+//! those of A.8 where no paper is named; document 003 is the source document "LOT SINGLE SAMPLING
+//! PLAN (ATTRIBUTES)". A lot has one sample, no CuSum and no result record: its counts are compared
+//! as they are, and not in tenths.
 
 use crate::sheet::{Grade, SUBSTANDARD};
 
@@ -13,9 +13,9 @@ pub const MARK: [u8; 2] = [0x4C, 0x54];
 /// "a count from 0 to 2,000" (paper 01).
 pub const MOST_DEFECTS: u16 = 2_000;
 
-/// "Acceptance numbers at 6, 13, 21, 29 units are, for AQL 1.0: 1 2 3 4; 1.5: 1 3 4 5; 2.5: 3 4 6 8;
-/// 4.0: 4 6 9 11; 5.0: 4 7 11 14; 12.5: 8 15 22 29." A row for each AQL, a column for each number of
-/// sample units; AQLs "in tenths".
+/// "Acceptance numbers at 6, 13, 21, 29 units are, for AQL 1.0: 1 2 3 4; 1.5: 1 3 4 5; 2.5: 3 4 6
+/// 8; 4.0: 4 6 9 11; 5.0: 4 7 11 14; 12.5: 8 15 22 29." A row for each AQL, a column for each
+/// number of sample units; AQLs "in tenths".
 pub const SAMPLE_UNITS: [u8; 4] = [6, 13, 21, 29];
 pub const AQLS: [u16; 6] = [10, 15, 25, 40, 50, 125];
 #[rustfmt::skip]
@@ -28,13 +28,13 @@ const ACCEPTANCE_NUMBERS: [[u16; 4]; 6] = [
     [8, 15, 22, 29],
 ];
 
-/// The refusals of a lot, first to last: 20, 21 and 22 "come in that order after 6 (under 2 bytes or a
-/// wrong mark) and 7 (length not 36), and before 8 and 9 (prerequisite)". 8 stands before 9 as in the
-/// table of paper 01.
+/// The refusals of a lot, first to last: 20, 21 and 22 "come in that order after 6 (under 2 bytes
+/// or a wrong mark) and 7 (length not 36), and before 8 and 9 (prerequisite)". 8 stands before 9 as
+/// in the table of paper 01.
 pub const NUMBERS: [u32; 7] = [6, 7, 20, 21, 22, 8, 9];
 
-/// "Acceptance returns 0 and the lot grade, a refusal its number and 3"; "every offset here is 0". Of an
-/// acceptance no offset is told; it is 0 here too.
+/// "Acceptance returns 0 and the lot grade, a refusal its number and 3"; "every offset here is 0".
+/// Of an acceptance no offset is told; it is 0 here too.
 #[derive(Clone, Copy, Debug, PartialEq, Eq)]
 pub struct LotAnswer {
     pub number: u32,
@@ -90,9 +90,9 @@ pub(crate) fn read(bytes: &[u8]) -> Result<Lot, u32> {
     }
     // "Numbers of two bytes have the high byte first." (paper 01)
     let two = |at: usize| u16::from_be_bytes([bytes[at], bytes[at + 1]]);
-    // "mark 4C 54, sample units (1), AQL in tenths for grades A, B, C by four classes (2 each), the four
-    // counts, prerequisite grade (1)": the counts have two bytes each, as in a unit of paper 01 and as
-    // the 36 bytes leave them.
+    // "mark 4C 54, sample units (1), AQL in tenths for grades A, B, C by four classes (2 each), the
+    // four counts, prerequisite grade (1)": the counts have two bytes each, as in a unit of paper
+    // 01 and as the 36 bytes leave them.
     Ok(Lot {
         sample_units: bytes[2],
         aqls: [0, 1, 2].map(|grade| [0, 1, 2, 3].map(|class| two(3 + 8 * grade + 2 * class))),
@@ -150,8 +150,9 @@ pub fn grade_lot(lot: &[u8]) -> LotAnswer {
     }
 }
 
-/// One line. The papers do not say how a lot is printed: "lot" and the grade (A, B, C, S); or "refused",
-/// number and offset, as for a sheet. Number 15 is about sheets: a lot that long is refused with 6 or 7.
+/// One line. The papers do not say how a lot is printed: "lot" and the grade (A, B, C, S); or
+/// "refused", number and offset, as for a sheet. Number 15 is about sheets: a lot that long is
+/// refused with 6 or 7.
 pub fn print(lot: &[u8]) -> String {
     let LotAnswer { number, grade, offset } = grade_lot(lot);
     if number != 0 {
@@ -160,8 +161,8 @@ pub fn print(lot: &[u8]) -> String {
     format!("lot {}\n", ['A', 'B', 'C', 'S'][usize::from(grade)])
 }
 
-/// "TABLE XV", "STANDARD SAMPLE UNIT SIZE = 6", of document 003 (example 18) by columns: the number of
-/// sample units, then each AQL in tenths with its acceptance number.
+/// "TABLE XV", "STANDARD SAMPLE UNIT SIZE = 6", of document 003 (example 18) by columns: the number
+/// of sample units, then each AQL in tenths with its acceptance number.
 pub(crate) const TABLE_XV: [(u8, [(u16, u16); 6]); 4] = [
     (6, [(10, 1), (15, 1), (25, 3), (40, 4), (50, 4), (125, 8)]),
     (13, [(10, 2), (15, 3), (25, 4), (40, 6), (50, 7), (125, 15)]),
@@ -182,8 +183,8 @@ fn aqls_of(lot: &[u8], class: usize) -> [Option<usize>; 3] {
     [3, 11, 19].map(|grade| number_at(lot, grade + 2 * class))
 }
 
-/// All grounds on which a lot may be refused, first to last, each looked for by itself; in a lot of a
-/// wrong length in the fields that are there whole. The first is the one returned.
+/// All grounds on which a lot may be refused, first to last, each looked for by itself; in a lot of
+/// a wrong length in the fields that are there whole. The first is the one returned.
 pub fn grounds(lot: &[u8]) -> Vec<u32> {
     let listed = |aql: usize| TABLE_XV[0].1.iter().any(|&(known, _)| usize::from(known) == aql);
     let falls = |aqls: [Option<usize>; 3]| {
@@ -201,11 +202,11 @@ pub fn grounds(lot: &[u8]) -> Vec<u32> {
     NUMBERS.into_iter().filter(|&number| applies(number)).collect()
 }
 
-/// The best grade that admits a class taken by itself, for each class of a lot without a ground. First
-/// the smallest AQL in the column whose acceptance number is not below the count; none if the count is
-/// above all. As "at the same sample units a larger AQL never has a smaller acceptance number", a grade
-/// admits the class exactly if its AQL is not smaller than that. As no AQL falls, the grades that do not
-/// admit it are the first ones, and their number is the grade.
+/// The best grade that admits a class taken by itself, for each class of a lot without a ground.
+/// First the smallest AQL in the column whose acceptance number is not below the count; none if the
+/// count is above all. As "at the same sample units a larger AQL never has a smaller acceptance
+/// number", a grade admits the class exactly if its AQL is not smaller than that. As no AQL falls,
+/// the grades that do not admit it are the first ones, and their number is the grade.
 pub fn class_grades(lot: &[u8]) -> [Grade; 4] {
     let (_, column) = TABLE_XV.iter().find(|(units, _)| *units == lot[2]).expect("listed");
     let [critical, severe, major, minor] =
@@ -219,11 +220,11 @@ pub fn class_grades(lot: &[u8]) -> [Grade; 4] {
     })
 }
 
-/// As [`grade_lot`], in a second way: the refusal is the first of all grounds; the grade is the worst of
-/// the four class grades and the prerequisite. "Determine the grade for each classification"; "Determine
-/// the grade of the lot from the lowest grade given to any prerequisite or classification of defects"
-/// (document 003). It is the same: a grade admits all classes exactly if it is not better than the best
-/// for any of them.
+/// As [`grade_lot`], in a second way: the refusal is the first of all grounds; the grade is the
+/// worst of the four class grades and the prerequisite. "Determine the grade for each
+/// classification"; "Determine the grade of the lot from the lowest grade given to any prerequisite
+/// or classification of defects" (document 003). It is the same: a grade admits all classes exactly
+/// if it is not better than the best for any of them.
 pub fn grade_lot_by_class(lot: &[u8]) -> LotAnswer {
     match grounds(lot).first() {
         Some(&number) => LotAnswer::refused(number),

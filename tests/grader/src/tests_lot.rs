@@ -1,6 +1,6 @@
-//! Warehouse lots (A.8 of paper 02): the table by hand, the examples of document 003, every refusal and
-//! which of two is returned, the grades, wrong programs, the cells of the table, and random lots and
-//! pairs in two ways.
+//! Warehouse lots (A.8 of paper 02): the table by hand, the examples of document 003, every refusal
+//! and which of two is returned, the grades, wrong programs, the cells of the table, and random
+//! lots and pairs in two ways.
 
 use crate::generate_lot::{lot_case, lot_counts, lot_pair, table_cases, LotCounts, Made};
 use crate::lot::{acceptance_number, check_lot, class_grades, grade_lot, grade_lot_by_class};
@@ -8,8 +8,9 @@ use crate::lot::{grounds, print, read, Lot, LotAnswer, AQLS, LOT_SIZE, NUMBERS, 
 use crate::sheet::Grade;
 use std::collections::BTreeMap;
 
-/// A lot by hand: sample units; AQLs of A, B, C (critical, severe, major, total), or those of A alone,
-/// which then are those of B and C too; counts of critical, severe, major, minor; prerequisite.
+/// A lot by hand: sample units; AQLs of A, B, C (critical, severe, major, total), or those of A
+/// alone, which then are those of B and C too; counts of critical, severe, major, minor;
+/// prerequisite.
 fn lot(script: &str) -> Vec<u8> {
     let fields: Vec<&str> = script.split(';').map(str::trim).collect();
     let numbers = |field: &str| -> [u16; 4] {
@@ -27,8 +28,8 @@ fn lot(script: &str) -> Vec<u8> {
     lot.bytes()
 }
 
-/// The letter of the grade, or else the number. Both ways to grade have the same answer, and so has the
-/// line.
+/// The letter of the grade, or else the number. Both ways to grade have the same answer, and so has
+/// the line.
 fn graded(lot: &[u8]) -> Result<char, u32> {
     let LotAnswer { number, grade, offset } = check_lot(lot);
     // "every offset here is 0"
@@ -97,8 +98,8 @@ fn bytes_of_a_lot() {
 
 #[test]
 fn acceptance_numbers() {
-    // "Acceptance numbers at 6, 13, 21, 29 units are, for AQL 1.0: 1 2 3 4; 1.5: 1 3 4 5; 2.5: 3 4 6 8;
-    // 4.0: 4 6 9 11; 5.0: 4 7 11 14; 12.5: 8 15 22 29."
+    // "Acceptance numbers at 6, 13, 21, 29 units are, for AQL 1.0: 1 2 3 4; 1.5: 1 3 4 5; 2.5: 3 4
+    // 6 8; 4.0: 4 6 9 11; 5.0: 4 7 11 14; 12.5: 8 15 22 29."
     let rows = [
         (10, [1, 2, 3, 4]),
         (15, [1, 3, 4, 5]),
@@ -112,8 +113,8 @@ fn acceptance_numbers() {
         assert_eq!(found, numbers, "AQL {aql}");
     }
     assert_eq!(AQLS.to_vec(), rows.map(|(aql, _)| aql));
-    // The table at the end of document 003, by numbers of units of product: its columns are 36, 78, 126,
-    // 150, 169, 174, ...; 6 times the sample units are the first three and the sixth.
+    // The table at the end of document 003, by numbers of units of product: its columns are 36, 78,
+    // 126, 150, 169, 174, ...; 6 times the sample units are the first three and the sixth.
     let end_of_document = [
         (10, [1, 2, 3, 4, 4, 4]),
         (15, [1, 3, 4, 5, 5, 5]),
@@ -146,8 +147,8 @@ fn acceptance_numbers() {
 
 #[test]
 fn examples_of_document_003() {
-    // Example 17: "12.5 4.0 1.5 1.0", "20.0 6.5 4.0 1.5", "25.0 10.0 6.5 2.5" for total, major, severe,
-    // critical. 6.5, 10.0, 20.0 and 25.0 are not listed in A.8.
+    // Example 17: "12.5 4.0 1.5 1.0", "20.0 6.5 4.0 1.5", "25.0 10.0 6.5 2.5" for total, major,
+    // severe, critical. 6.5, 10.0, 20.0 and 25.0 are not listed in A.8.
     let example_17 = "1.0 1.5 4.0 12.5 / 1.5 4.0 6.5 20.0 / 2.5 6.5 10.0 25.0";
     for units in SAMPLE_UNITS {
         assert_eq!(answer(&format!("{units}; {example_17}; 0 0 0 0; A")), Err(21));
@@ -162,9 +163,10 @@ fn examples_of_document_003() {
     for (aql, number) in example_18 {
         assert_eq!(acceptance_number(6, aql), Some(number));
     }
-    // Example 19: "Total Critical 1 1", "Total Severe 1 1", "Total Major 3 4", "Total Minor 2", "Total
-    // All Classes 7 8", all prerequisites A, "Final Grade A". Only the AQLs of grade A are listed there;
-    // those of B and C are filled in as the same, so that what fails A is Substandard.
+    // Example 19: "Total Critical 1 1", "Total Severe 1 1", "Total Major 3 4", "Total Minor 2",
+    // "Total All Classes 7 8", all prerequisites A, "Final Grade A". Only the AQLs of grade A are
+    // listed there; those of B and C are filled in as the same, so that what fails A is
+    // Substandard.
     let example_19 = |counts: &str, prerequisite: char| {
         answer(&format!("6; 1.0 1.5 4.0 12.5; {counts}; {prerequisite}"))
     };
@@ -187,8 +189,8 @@ fn examples_of_document_003() {
     assert_eq!(example_19("1 1 3 2", 'B'), Ok('B'));
     assert_eq!(example_19("1 1 3 2", 'C'), Ok('C'));
     assert_eq!(example_19("0 0 0 0", 'S'), Ok('S'));
-    // Examples 8 to 12: 1 critical, 2 severe, 3 major, 4 minor, 10 in all. 13 units admit it at these
-    // AQLs, 6 do not for severe and total.
+    // Examples 8 to 12: 1 critical, 2 severe, 3 major, 4 minor, 10 in all. 13 units admit it at
+    // these AQLs, 6 do not for severe and total.
     assert_eq!(example_19("1 2 3 4", 'A'), Ok('S'));
     assert_eq!(answer("13; 1.0 1.5 4.0 12.5; 1 2 3 4; A"), Ok('A'));
     assert_eq!(answer("13; 1.0 1.5 4.0 12.5; 1 2 3 4; B"), Ok('B'));
@@ -260,8 +262,8 @@ fn fields_that_are_refused() {
             }
         }
     }
-    // By hand: A to B alone, with C as A; B to C alone, with C as A; equal ones do not fall. Falling from
-    // class to class is nothing.
+    // By hand: A to B alone, with C as A; B to C alone, with C as A; equal ones do not fall.
+    // Falling from class to class is nothing.
     assert_eq!(
         answer("6; 4.0 1.0 1.0 1.0 / 2.5 1.0 1.0 1.0 / 4.0 1.0 1.0 1.0; 0 0 0 0; A"),
         Err(22)
@@ -307,8 +309,8 @@ fn damaged(mut lot: Vec<u8>, number: u32) -> Vec<u8> {
 
 #[test]
 fn order_of_refusals() {
-    // "they come in that order after 6 [...] and 7 [...], and before 8 and 9": every set of grounds gives
-    // the first.
+    // "they come in that order after 6 [...] and 7 [...], and before 8 and 9": every set of grounds
+    // gives the first.
     let order = [6, 7, 20, 21, 22, 8, 9];
     assert_eq!(NUMBERS, order);
     for set in 0..128 {
@@ -357,8 +359,8 @@ fn order_of_refusals() {
 
 #[test]
 fn grades() {
-    // "The defect grade is the best that admits all classes, and Substandard exactly if none does". The
-    // numbers of RISING at 6 units are 1 1 4 8 at A, 3 4 4 8 at B, 4 4 8 8 at C.
+    // "The defect grade is the best that admits all classes, and Substandard exactly if none does".
+    // The numbers of RISING at 6 units are 1 1 4 8 at A, 3 4 4 8 at B, 4 4 8 8 at C.
     let grade = |counts: &str| answer(&format!("6; {RISING}; {counts}; A")).unwrap();
     for (counts, expected) in [
         ("0 0 0 0", 'A'),
@@ -413,8 +415,8 @@ fn grades() {
 
 #[test]
 fn every_count_of_a_class() {
-    // All AQLs of a class that do not fall, all sample units, counts up to one above the largest number,
-    // with a generous total: in two ways, and no fewer defects grade lower.
+    // All AQLs of a class that do not fall, all sample units, counts up to one above the largest
+    // number, with a generous total: in two ways, and no fewer defects grade lower.
     for sample_units in SAMPLE_UNITS {
         for (a, b, c) in
             AQLS.iter().flat_map(|&a| AQLS.iter().map(move |&b| (a, b))).flat_map(|(a, b)| {
@@ -479,8 +481,8 @@ fn cells_of_the_table() {
     }
 }
 
-/// The defect grade of a lot by other numbers, counts or comparisons: the best of these grades whose
-/// number, by sample units and AQL, admits each count of these classes.
+/// The defect grade of a lot by other numbers, counts or comparisons: the best of these grades
+/// whose number, by sample units and AQL, admits each count of these classes.
 fn best(
     lot: &Lot,
     counts: [u32; 4],
@@ -586,8 +588,8 @@ fn wrong_grades(lot: &Lot) -> Vec<(String, Grade)> {
     programs
 }
 
-/// The programs that refuse wrong, and the number that each gives a lot of any bytes. What they grade is
-/// not looked at: it is 0 where they find no ground.
+/// The programs that refuse wrong, and the number that each gives a lot of any bytes. What they
+/// grade is not looked at: it is 0 where they find no ground.
 fn wrong_numbers(lot: &[u8]) -> Vec<(String, u32)> {
     let all = grounds(lot);
     let right = all.first().copied().unwrap_or(0);
@@ -752,7 +754,8 @@ fn random_pairs() {
     for seed in 0..20_000 {
         let pair = lot_pair(seed);
         let [first, second] = [&pair.first, &pair.second].map(|lot| read(lot).unwrap());
-        // "two accepted lots alike except that no count in the first exceeds its fellow in the second"
+        // "two accepted lots alike except that no count in the first exceeds its fellow in the
+        // second"
         assert_eq!(Lot { counts: second.counts, ..first }, second, "seed {seed}");
         assert!((0..4).all(|place| first.counts[place] <= second.counts[place]), "seed {seed}");
         let [first, second] = [&pair.first, &pair.second].map(|lot| check_lot(lot));
