@@ -1,19 +1,22 @@
-//! An independent grader of tally sheets and mold sheets, written from paper 01 (`01-scope.md`) and
-//! A.1, A.2, A.4, A.5, A.6 and A.7 of paper 02 (`02-change-requests.md`) alone. It is plain on
-//! purpose: the whole sheet is read, then graded, then written. The papers' sentences stand in
-//! quotation marks at the code that follows them; they are those of paper 01 where no paper is named.
-//! Mold sheets have a module of their own, [`mold`]; all else is about tally sheets. These are graded
-//! again under a second plan in [`regrade`], by the same steps and with the same result records and
-//! lines. In finished results of either a code is looked up in [`lookup`].
+//! An independent grader of tally sheets, mold sheets and warehouse lots, written from paper 01
+//! (`01-scope.md`) and A.1, A.2, A.4, A.5, A.6, A.7 and A.8 of paper 02 (`02-change-requests.md`)
+//! alone. It is plain on purpose: the whole sheet is read, then graded, then written. The papers'
+//! sentences stand in quotation marks at the code that follows them; they are those of paper 01 where
+//! no paper is named. Mold sheets have a module of their own, [`mold`], and so have lots, [`lot`]; all
+//! else is about tally sheets. These are graded again under a second plan in [`regrade`], by the same
+//! steps and with the same result records and lines. In finished results of either a code is looked up
+//! in [`lookup`].
 
 pub mod check;
 pub mod failure;
 pub mod generate;
 pub mod generate_largest;
 pub mod generate_lookup;
+pub mod generate_lot;
 pub mod generate_mold;
 pub mod generate_regrade;
 pub mod lookup;
+pub mod lot;
 pub mod mold;
 pub mod peach;
 pub mod regrade;
@@ -25,6 +28,8 @@ mod tests;
 mod tests_largest;
 #[cfg(test)]
 mod tests_lookup;
+#[cfg(test)]
+mod tests_lot;
 #[cfg(test)]
 mod tests_mold;
 #[cfg(test)]

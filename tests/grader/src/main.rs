@@ -3,7 +3,8 @@
 //! plan by the failures in a row, and panics if one differs. `grader --mold` takes a mold sheet, and
 //! `grader --regrade PLANFILE` regrades the sheet under the plan record in that file; both also with
 //! `--check`. `grader --find CODE`, the code in decimal, reads results from standard input and prints
-//! what became of it.
+//! what became of it. `grader --lot` reads a warehouse lot from standard input and prints its line;
+//! with `--check` its answer is found in two ways.
 
 use std::io::{Read, Write};
 
@@ -19,6 +20,11 @@ fn main() -> std::io::Result<()> {
     } else if let Some(place) = place("--regrade") {
         let file = arguments.get(place + 1).expect("--regrade needs the file of a plan");
         grader::regrade::print_checked(&sheet, &std::fs::read(file)?, check)
+    } else if place("--lot").is_some() {
+        if check {
+            grader::lot::check_lot(&sheet);
+        }
+        grader::lot::print(&sheet)
     } else if place("--mold").is_some() {
         grader::mold::print_checked(&sheet, check)
     } else {
