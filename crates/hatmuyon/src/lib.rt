@@ -5,7 +5,9 @@ ghost use Rattle.mold.specs.Outcome.{moldOutcome};
 ghost use Rattle.tally.specs.Outcome.{outcome};
 ghost use Rattle.regrade.specs.Outcome.{regradeOutcome};
 ghost use Rattle.lookup.specs.Lookup.{lookup};
+ghost use Rattle.lots.specs.Answer.{lotAnswer};
 use lookup::Part;
+use lots::LotAnswer;
 use outcome::Answer;
 
 // Grades a tally sheet into a result buffer; see tally::grade. A slice passes as a pointer and then a length.
@@ -38,4 +40,12 @@ pub extern "C" fn hatmuyon_find_code(results: &[u8], code: u16) -> Part
     ensures { λ r. ⌜ r ≡ lookup (now (results .entry)) code ⌝ }
 {
     lookup::find_place(results, code)
+}
+
+// Grades a warehouse lot; see lots::grade_lot.
+#[no_mangle]
+pub extern "C" fn hatmuyon_grade_lot(lot: &[u8]) -> LotAnswer
+    ensures { λ r. ⌜ r ≡ lotAnswer (now (lot .entry)) ⌝ }
+{
+    lots::grade_lot(lot)
 }
