@@ -5,3 +5,6 @@ pub mod LotGrounds
 pub mod Best
 pub mod LotGrades
 pub mod LotFewerDefects
+pub mod ComputedLots
+pub mod LotInstances
+pub mod LotDemands

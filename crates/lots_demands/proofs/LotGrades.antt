@@ -26,7 +26,7 @@ use Rattle.lots_demands.specs.LotGrades.{Admits, AdmitsAll, BestWith, De
 use Rattle.lots_demands.proofs.LotFields.{aql-is, class-count-is}
 use Rattle.lots_demands.proofs.LotTable.{lot-table}
 use Rattle.lots_demands.proofs.LotGrounds.{lot-refusals}
-use Rattle.lots_demands.proofs.Best.{first-is-best, best-bound, best-first, one-best}
+use Rattle.lots_demands.proofs.Best.{firstOf, first-is-best, best-bound, best-first, one-best}
 
 -- ---- the tests of the definitions
 
@@ -42,14 +42,16 @@ module _ (lot : List ℕ) where
   unfolding admits
   tells-grade grade = tells-all 4 _ _ (λ class inside. tells-class grade class inside)
 
-  defect-grade-is : DefectGrade lot (defectGrade lot)
+  pub defect-grade-is : DefectGrade lot (defectGrade lot)
   unfolding defectGrade
   defect-grade-is = first-is-best (AdmitsAll lot) (admits lot 0) (admits lot 1) (admits lot 2) (tells-grade 0) (tells-grade 1) (tells-grade 2)
 
-  class-grade-is : (class : ℕ) → class < 4 → (graded : ℕ) × ClassGrade lot class graded
+  pub class-grade-is : (class : ℕ) → class < 4
+      → ClassGrade lot class (firstOf (admitsClass lot 0 class) (admitsClass lot 1 class) (admitsClass lot 2 class))
   class-grade-is class inside =
       let tells : (grade : ℕ) → Tells (admitsClass lot grade class) (Admits lot grade class) = λ grade. tells-class grade class inside in
-      (_, first-is-best (λ grade. Admits lot grade class) (admitsClass lot 0 class) (admitsClass lot 1 class) (admitsClass lot 2 class) (tells 0) (tells 1) (tells 2))
+      first-is-best (λ grade. Admits lot grade class) (admitsClass lot 0 class) (admitsClass lot 1 class) (admitsClass lot 2 class)
+      (tells 0) (tells 1) (tells 2)
 
 -- ---- a lot that no row refuses
 
@@ -181,7 +183,7 @@ module _ (lot : List ℕ) (none : (number : ℕ) → LotRow lot number → ⊥) 
         worse-of = λ defect is-defect.
             subst (λ (own : ℕ). WorseOf own (prerequisiteAt lot) (max (defectGrade lot) (prerequisiteAt lot)))
             (one-best (AdmitsAll lot) (defectGrade lot) defect (defect-grade-is lot) is-defect) (worse-is (defectGrade lot) (prerequisiteAt lot));
-        has-class-grades = class-grade-is lot;
+        has-class-grades = λ class inside. (_, class-grade-is lot class inside);
         lowest-of = λ classGrade is-class.
             let own = lowest (defectGrade lot) (defect-grade-is lot) classGrade is-class in
             record {

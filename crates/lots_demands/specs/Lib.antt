@@ -4,3 +4,6 @@ pub mod LotGrounds
 pub mod LotGrades
 pub mod LotFewerDefects
 pub mod HeldLots
+pub mod ComputedLots
+pub mod LotInstances
+pub mod LotDemands

@@ -4,7 +4,7 @@ use Rattle.lots_demands.specs.LotTable.{LotTable}
 use Rattle.lots_demands.specs.LotGrounds.{LotRefusals}
 use Rattle.lots_demands.specs.LotGrades.{LotGrades}
 use Rattle.lots_demands.specs.LotFewerDefects.{LotFewerDefects}
-use Rattle.lots_demands.specs.LotSheets.{LotSheets}
+use Rattle.lots_demands.specs.ComputedLots.{ComputedLots}
 use Rattle.lots_demands.specs.LotInstances.{LotInstances}
 
 pub record LotDemands : Type 0 where
@@ -17,6 +17,6 @@ pub record LotDemands : Type 0 where
   -- demand 3: fewer defects never grade lower
   pub fewer-defects : LotFewerDefects
   -- lots in bytes, with the answers of the independent grader
-  pub sheets : LotSheets
+  pub computed : ComputedLots
   -- each of them on a few of these lots, as its theorem gives it
   pub instances : LotInstances

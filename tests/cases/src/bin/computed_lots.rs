@@ -1,4 +1,4 @@
-//! Prints `crates/lots_demands/specs/LotSheets.antt`: warehouse lots in bytes (A.8 of paper 02), with
+//! Prints `crates/lots_demands/specs/ComputedLots.antt`: warehouse lots in bytes (A.8 of paper 02), with
 //! the numbers and grades that the independent grader gives for them, to be proved of the definitions
 //! by computation. What stands with each by hand, from the papers, holds the grader to what the lot is
 //! to show: its grade, or every ground on which it is refused.
@@ -634,7 +634,7 @@ use Rattle.lots_demands.specs.HeldLots.{GradedLot, RefusedLot}
 
 const FOOT: &str = "
 -- all of them: of an accepted lot the grade, of a refused one the number
-pub record LotSheets : Type 0 where
+pub record ComputedLots : Type 0 where
 ";
 
 fn main() {

@@ -1525,7 +1525,7 @@ allGrounds =
     ∷ []
 
 -- all of them: of an accepted lot the grade, of a refused one the number
-pub record LotSheets : Type 0 where
+pub record ComputedLots : Type 0 where
   pub example-17 : RefusedLot example17 21
   pub example-19 : GradedLot example19 0
   pub at-number-at-6-units-aql-10 : GradedLot atNumberAt6UnitsAQL10 0
