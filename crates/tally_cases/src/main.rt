@@ -152,8 +152,10 @@ fn print_lot(lot: &[u8]) {
         print_refused(answer.number);
         return;
     }
-    let line = [b'l', b'o', b't', b' ', letter_of(b"ABC", b'S', answer.grade), b'\n'];
-    io::write_all(libc::STDOUT_FILENO, &line);
+    let letter = [letter_of(b"ABC", b'S', answer.grade)];
+    io::write_all(libc::STDOUT_FILENO, b"lot ");
+    io::write_all(libc::STDOUT_FILENO, &letter);
+    io::write_all(libc::STDOUT_FILENO, b"\n");
 }
 
 fn print_sheet(kind: u8, sheet: &[u8]) -> bool {
