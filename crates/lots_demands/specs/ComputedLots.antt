@@ -7,7 +7,7 @@ use Rattle.lots_demands.specs.HeldLots.{GradedLot, RefusedLot}
 
 -- AQLs of critical, severe, major and total stand behind the bytes of each grade; in the names of lots they are in tenths.
 
--- 21: document 003, example 17, whose AQLs 6.5, 10.0, 20.0 and 25.0 are not listed. Counts are filled in.
+-- 21: document 003, example 17, whose AQLs 6.5, 10.0, 20.0 and 25.0 are not listed. The rest is filled in.
 unfoldable pub example17 : List ℕ
 example17 =
     0x4C ∷ 0x54 ∷ 6  -- 6 sample units

@@ -134,7 +134,7 @@ fn examples() -> Vec<Case> {
         refused(
             &[21],
             "example 17",
-            "document 003, example 17, whose AQLs 6.5, 10.0, 20.0 and 25.0 are not listed. Counts are filled in.",
+            "document 003, example 17, whose AQLs 6.5, 10.0, 20.0 and 25.0 are not listed. The rest is filled in.",
             Lot {
                 sample_units: 6,
                 aqls: [[10, 15, 40, 125], [15, 40, 65, 200], [25, 65, 100, 250]],
