@@ -286,9 +286,9 @@ struct hatmuyon_part {
 
 /*
  * Each function needs at most 2 KiB of stack, its return address among them. This is measured and
- * not proved: hatmuyon_grade and hatmuyon_regrade take some 900 bytes, in frames of fixed size and
- * without recursion, hatmuyon_find_code and hatmuyon_grade_lot hardly any, and a test of bindings/rust
- * fails if one takes more than this of a painted stack.
+ * not proved: hatmuyon_grade and hatmuyon_regrade take some 900 bytes and hatmuyon_grade_lot some 300,
+ * in frames of fixed size and without recursion, hatmuyon_find_code hardly any, and a test of
+ * bindings/rust fails if one takes more than this of a painted stack.
  */
 #define HATMUYON_STACK_SIZE 2048
 
