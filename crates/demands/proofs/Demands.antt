@@ -9,6 +9,8 @@ use Rattle.lookup.proofs.find.Met as find
 use Rattle.lookup.proofs.find_place.Met as find_place
 use Rattle.lookup.proofs.read_records.Met as read_records
 use Rattle.hatmuyon.proofs.hatmuyon_find_code.Met as hatmuyon_find_code
+use Rattle.lots.proofs.grade_lot.Met as grade_lot
+use Rattle.hatmuyon.proofs.hatmuyon_grade_lot.Met as hatmuyon_grade_lot
 use Rattle.lines.proofs.print_into.Met as print_into
 use Rattle.mold_lines.proofs.print_mold_into.Met as print_mold_into
 use Rattle.regrade_lines.proofs.print_regrading_into.Met as print_regrading_into
@@ -20,6 +22,7 @@ use Rattle.mold_demands.proofs.MoldDemands.{mold-demands}
 use Rattle.courses.proofs.Graded.{demand2-records}
 use Rattle.regrade_demands.proofs.RegradeDemands.{regrade-demands}
 use Rattle.lookup_demands.proofs.LookupDemands.{lookup-demands}
+use Rattle.lots_demands.proofs.LotDemands.{lot-demands}
 use Rattle.demands.proofs.CusumsFit.{cusums-fit}
 use Rattle.demands.proofs.LookupGraded.{lookup-graded}
 use Rattle.demands.proofs.LargestOf.{demand3-largest-form}
@@ -42,6 +45,8 @@ demands =
       promise-of-find-place = find_place.met;
       promise-of-read-records = read_records.met;
       promise-of-hatmuyon-find-code = hatmuyon_find_code.met;
+      promise-of-grade-lot = grade_lot.met;
+      promise-of-hatmuyon-grade-lot = hatmuyon_grade_lot.met;
       promise-of-print-into = print_into.met;
       promise-of-print-mold-into = print_mold_into.met;
       promise-of-print-regrading-into = print_regrading_into.met;
@@ -60,4 +65,5 @@ demands =
       regradings = regrade-demands;
       lookups = lookup-demands;
       lookups-graded = lookup-graded;
+      lots = lot-demands;
     }

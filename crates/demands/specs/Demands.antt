@@ -4,13 +4,14 @@
 -- `regrade::regrade` and `hatmuyon_regrade` the same with `regradeOutcome`, which looks at a second plan, too; of `lookup::find` that the
 -- number and the part of the lent results are those of `handed`, of `lookup::find_place` and `hatmuyon_find_code` that number and place are
 -- those of `lookup`, and of `lookup::read_records`, which reads for them, that what it finds and how many records it reads are `readingOf`;
--- of `lines::print_into` that the text is that of `printing`, with `printed` of the input in front, of `mold_lines::print_mold_into` the
--- same with `moldPrinting` and `moldPrinted`, and of `regrade_lines::print_regrading_into` with `regradePrinting` and `regradePrinted`.
+-- of `lots::grade_lot` and `hatmuyon_grade_lot` that the answer is the `lotAnswer` of the lot; of `lines::print_into` that the text is that
+-- of `printing`, with `printed` of the input in front, of `mold_lines::print_mold_into` the same with `moldPrinting` and `moldPrinted`, and
+-- of `regrade_lines::print_regrading_into` with `regradePrinting` and `regradePrinted`.
 -- Demands 1 to 3, P9 and P10, the further sheets and the instances speak of `outcome`; the lines of P10 and the printed text of `printed`;
 -- the layout of the bytes alone, P1 to P8 of the rules alone, `mold` of mold sheets, `regradings` of recorded sheets that are graded again
 -- under a second plan, `lookups` of `lookup`, `handed` and `recordsRead`, `lookups-graded`, with three of the instances, of look-ups in
--- the results of `outcome` and `regradeOutcome`, and `cusums-fit`, with one of the instances, of the rules behind any accepted plan and of
--- sheets accepted by `outcome` and `regradeOutcome`; it has the promise of `Cusum::largest`, too.
+-- the results of `outcome` and `regradeOutcome`, `lots` of `lotAnswer`, and `cusums-fit`, with one of the instances, of the rules behind any
+-- accepted plan and of sheets accepted by `outcome` and `regradeOutcome`; it has the promise of `Cusum::largest`, too.
 use Rattle.tally.proofs.grade.Statement as grade
 use Rattle.hatmuyon.proofs.hatmuyon_grade.Statement as hatmuyon_grade
 use Rattle.mold.proofs.grade_mold.Statement as grade_mold
@@ -21,6 +22,8 @@ use Rattle.lookup.proofs.find.Statement as find
 use Rattle.lookup.proofs.find_place.Statement as find_place
 use Rattle.lookup.proofs.read_records.Statement as read_records
 use Rattle.hatmuyon.proofs.hatmuyon_find_code.Statement as hatmuyon_find_code
+use Rattle.lots.proofs.grade_lot.Statement as grade_lot
+use Rattle.hatmuyon.proofs.hatmuyon_grade_lot.Statement as hatmuyon_grade_lot
 use Rattle.lines.proofs.print_into.Statement as print_into
 use Rattle.mold_lines.proofs.print_mold_into.Statement as print_mold_into
 use Rattle.regrade_lines.proofs.print_regrading_into.Statement as print_regrading_into
@@ -31,6 +34,7 @@ use Rattle.mold_demands.specs.MoldDemands.{MoldDemands}
 use Rattle.courses.specs.Demand2.{Demand2Records}
 use Rattle.regrade_demands.specs.RegradeDemands.{RegradeDemands}
 use Rattle.lookup_demands.specs.LookupDemands.{LookupDemands}
+use Rattle.lots_demands.specs.LotDemands.{LotDemands}
 use Rattle.demands.specs.CusumsFit.{CusumsFit}
 use Rattle.demands.specs.LookupGraded.{LookupGraded}
 use Rattle.demands.specs.Demand3.{Demand3LargestForm, Demand3FewerDefects}
@@ -51,6 +55,8 @@ pub record Demands : Type 2 where
   pub promise-of-find-place : {M : Type 1} → find_place.statement M
   pub promise-of-read-records : {M : Type 1} → read_records.statement M
   pub promise-of-hatmuyon-find-code : {M : Type 1} → hatmuyon_find_code.statement M
+  pub promise-of-grade-lot : {M : Type 1} → grade_lot.statement M
+  pub promise-of-hatmuyon-grade-lot : {M : Type 1} → hatmuyon_grade_lot.statement M
   pub promise-of-print-into : {M : Type 1} → print_into.statement M
   pub promise-of-print-mold-into : {M : Type 1} → print_mold_into.statement M
   pub promise-of-print-regrading-into : {M : Type 1} → print_regrading_into.statement M
@@ -85,3 +91,5 @@ pub record Demands : Type 2 where
   pub lookups : LookupDemands
   -- and in the results of an accepted sheet or regrading: the unit that is found shows the code grade
   pub lookups-graded : LookupGraded
+  -- warehouse lots: the table of acceptance numbers, grounds, grades, demand 3 for fewer defects, computed lots
+  pub lots : LotDemands

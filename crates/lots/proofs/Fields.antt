@@ -8,9 +8,9 @@ use lib.Dec.{ltb, eqb}
 use lib.ListN.{length, getD, List·getD-eq-default, List·getD-map}
 use borrow.Author.Tests.{ne-eqb, lt-leb, le-leb}
 use Rattle.cusum.specs.declared.Defects.{Defects}
-use Rattle.lots.specs.Layout.{classes, sampleUnits, aqlIn, aqlOf, countOf, countsOf, countIn}
+use Rattle.lots.specs.Layout.{classes, sampleUnits, aqlOfCell, aqlOf, countOfKind, countsOf, countOfClass}
 use Rattle.lots.specs.Acceptance.{acceptanceNumbers, acceptanceNumber}
-use Rattle.lots.specs.Refusals.{fallsInClass}
+use Rattle.lots.specs.Refusals.{aqlFallsInClass}
 use Rattle.lots.specs.Grading.{admitsClass}
 
 -- ---- places in a list, and in the table
@@ -40,32 +40,32 @@ behind-row row column behind = ap (λ (numbers : List ℕ). getD numbers column 
 
 module _ (lot : List ℕ) (class : ℕ) where
   -- the AQLs of a class for A, B and C
-  pub falls-at : (a b c : ℕ) → a ≡ aqlIn lot class → b ≡ aqlIn lot (length classes + class) → c ≡ aqlIn lot (2 * length classes + class)
-      → (ltb b a || ltb c b) ≡ fallsInClass lot class
-  unfolding fallsInClass
-  falls-at a b c for-a for-b for-c =
-      rw (at-cell 0 a class for-a (omega arith), at-cell 1 b _ for-b (omega arith), at-cell 2 c _ for-c (omega arith))
+  pub falls-at : (aql-a aql-b aql-c : ℕ) → aql-a ≡ aqlOfCell lot class → aql-b ≡ aqlOfCell lot (length classes + class) → aql-c ≡ aqlOfCell lot (2 * length classes + class)
+      → (ltb aql-b aql-a || ltb aql-c aql-b) ≡ aqlFallsInClass lot class
+  unfolding aqlFallsInClass
+  falls-at aql-a aql-b aql-c for-a for-b for-c =
+      rw (at-cell 0 aql-a class for-a (omega arith), at-cell 1 aql-b _ for-b (omega arith), at-cell 2 aql-c _ for-c (omega arith))
     where
-      at-cell : (grade aql cell : ℕ) → aql ≡ aqlIn lot cell → cell ≡ length classes * grade + class → aql ≡ aqlOf lot grade class
-      at-cell grade aql cell read same = read ∙ ap (aqlIn lot) same
+      at-cell : (grade aql cell : ℕ) → aql ≡ aqlOfCell lot cell → cell ≡ length classes * grade + class → aql ≡ aqlOf lot grade class
+      at-cell grade aql cell read same = read ∙ ap (aqlOfCell lot) same
 
   -- the counts by class
   pub count-at : (critical severe major minor : Defects)
-      → critical ≡ countOf lot 0 → severe ≡ countOf lot 1 → major ≡ countOf lot 2 → minor ≡ countOf lot 3
-      → getD (critical .0 ∷ severe .0 ∷ major .0 ∷ (critical .0 + severe .0 + major .0 + minor .0) ∷ []) class 0 ≡ countIn lot class .0
-  count-at critical severe major minor e0 e1 e2 e3 =
-      rw (e0, e1, e2, e3) (List·getD-map (λ (defects : Defects). defects .0) (countsOf lot) class (record { 0 = 0 }))
+      → critical ≡ countOfKind lot 0 → severe ≡ countOfKind lot 1 → major ≡ countOfKind lot 2 → minor ≡ countOfKind lot 3
+      → getD (critical .0 ∷ severe .0 ∷ major .0 ∷ (critical .0 + severe .0 + major .0 + minor .0) ∷ []) class 0 ≡ countOfClass lot class .0
+  count-at critical severe major minor is-critical is-severe is-major is-minor =
+      rw (is-critical, is-severe, is-major, is-minor) (List·getD-map (λ (defects : Defects). defects .0) (countsOf lot) class (record { 0 = 0 }))
 
   -- a class that a grade admits, and one that it does not
-  module _ (grade aql bound count : ℕ) (for-grade : aql ≡ aqlIn lot (length classes * grade + class))
-      (in-table : bound ≡ acceptanceNumber (sampleUnits lot) aql) (in-class : count ≡ countIn lot class .0) where
+  module _ (grade aql bound count : ℕ) (for-grade : aql ≡ aqlOfCell lot (length classes * grade + class))
+      (in-table : bound ≡ acceptanceNumber (sampleUnits lot) aql) (in-class : count ≡ countOfClass lot class .0) where
     its-bound : bound ≡ acceptanceNumber (sampleUnits lot) (aqlOf lot grade class)
     its-bound = in-table ∙ ap (acceptanceNumber (sampleUnits lot)) for-grade
 
     pub admitted : count ≤ bound → admitsClass lot grade class ≡ true
     unfolding admitsClass
-    admitted within = le-leb (countIn lot class .0) (acceptanceNumber (sampleUnits lot) (aqlOf lot grade class)) (omega (arith, its-bound))
+    admitted within = le-leb (countOfClass lot class .0) (acceptanceNumber (sampleUnits lot) (aqlOf lot grade class)) (omega (arith, its-bound))
 
     pub above-bound : bound < count → admitsClass lot grade class ≡ false
     unfolding admitsClass
-    above-bound above = lt-leb (countIn lot class .0) (acceptanceNumber (sampleUnits lot) (aqlOf lot grade class)) (omega (arith, its-bound))
+    above-bound above = lt-leb (countOfClass lot class .0) (acceptanceNumber (sampleUnits lot) (aqlOf lot grade class)) (omega (arith, its-bound))

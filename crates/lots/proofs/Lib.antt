@@ -1,2 +1,3 @@
+pub mod Computing
 pub mod Fields
 pub mod Whole

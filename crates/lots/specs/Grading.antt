@@ -5,13 +5,13 @@ use mathlib.Core.List.{List}
 use lib.Dec.{leb}
 use Rattle.units.specs.Conditions.{all}
 use Rattle.units.specs.Words.{substandard, worse}
-use Rattle.lots.specs.Layout.{classes, sampleUnits, aqlOf, countIn, prerequisite}
+use Rattle.lots.specs.Layout.{classes, sampleUnits, aqlOf, countOfClass, prerequisite}
 use Rattle.lots.specs.Acceptance.{acceptanceNumber}
 
 module _ (lot : List ℕ) where
   -- "A grade admits a class whose count is not above its acceptance number."
   unfoldable pub admitsClass : ℕ → ℕ → Bool
-  admitsClass grade class = leb (countIn lot class .0) (acceptanceNumber (sampleUnits lot) (aqlOf lot grade class))
+  admitsClass grade class = leb (countOfClass lot class .0) (acceptanceNumber (sampleUnits lot) (aqlOf lot grade class))
 
   unfoldable pub admits : ℕ → Bool
   admits grade = all (admitsClass grade) classes

@@ -16,7 +16,7 @@ classes = 0 ∷ 1 ∷ 2 ∷ 3 ∷ []
 abbrev pub kinds : List ℕ
 kinds = 0 ∷ 1 ∷ 2 ∷ 3 ∷ []
 
--- the AQLs: a class of a grade each, grade by grade and in each class by class
+-- one AQL for each class of each grade, grade by grade and in each class by class
 abbrev pub cells : List ℕ
 cells = upFrom 0 (length plannedGrades * length classes)
 
@@ -43,29 +43,29 @@ abbrev pub sampleUnits : List ℕ → ℕ
 sampleUnits lot = byte lot sampleUnitsOffset
 
 -- the AQL of a cell, in tenths
-abbrev pub aqlIn : List ℕ → ℕ → ℕ
-aqlIn lot cell = number lot (aqlsOffset + numberSize * cell)
+abbrev pub aqlOfCell : List ℕ → ℕ → ℕ
+aqlOfCell lot cell = number lot (aqlsOffset + numberSize * cell)
 
 -- the AQL of a class in a grade
 abbrev pub aqlOf : List ℕ → ℕ → ℕ → ℕ
-aqlOf lot grade class = aqlIn lot (length classes * grade + class)
+aqlOf lot grade class = aqlOfCell lot (length classes * grade + class)
 
 -- the count of a kind
-abbrev pub countOf : List ℕ → ℕ → Defects
-countOf lot kind = defectsAt lot (countsOffset + numberSize * kind)
+abbrev pub countOfKind : List ℕ → ℕ → Defects
+countOfKind lot kind = defectsAt lot (countsOffset + numberSize * kind)
 
 abbrev pub prerequisite : List ℕ → ℕ
 prerequisite lot = byte lot prerequisiteOffset
 
 -- ---- counts by class
 
--- total is the sum of critical, severe, major and minor
+-- total is the sum of critical, severe, major and minor (here a count has no largest; the code sums four bytes wide)
 abbrev pub total : List ℕ → Defects
-total lot = record { 0 = countOf lot 0 .0 + countOf lot 1 .0 + countOf lot 2 .0 + countOf lot 3 .0 }
+total lot = record { 0 = countOfKind lot 0 .0 + countOfKind lot 1 .0 + countOfKind lot 2 .0 + countOfKind lot 3 .0 }
 
 abbrev pub countsOf : List ℕ → List Defects
-countsOf lot = countOf lot 0 ∷ countOf lot 1 ∷ countOf lot 2 ∷ total lot ∷ []
+countsOf lot = countOfKind lot 0 ∷ countOfKind lot 1 ∷ countOfKind lot 2 ∷ total lot ∷ []
 
 -- the count of a class
-abbrev pub countIn : List ℕ → ℕ → Defects
-countIn lot class = getD (countsOf lot) class (record { 0 = 0 })
+abbrev pub countOfClass : List ℕ → ℕ → Defects
+countOfClass lot class = getD (countsOf lot) class (record { 0 = 0 })

@@ -9,7 +9,7 @@ use Rattle.units.specs.Conditions.{any, placeOf}
 use Rattle.units.specs.Words.{substandard}
 use Rattle.layout.specs.Layout.{markSize}
 use Rattle.sheet.specs.Refusals.{refusedIf, largestCount}
-use Rattle.lots.specs.Layout.{classes, kinds, cells, lotSize, sampleUnits, aqlIn, aqlOf, countOf, prerequisite}
+use Rattle.lots.specs.Layout.{classes, kinds, cells, lotSize, sampleUnits, aqlOfCell, aqlOf, countOfKind, prerequisite}
 use Rattle.lots.specs.Acceptance.{listedSampleUnits, listedAqls}
 
 -- 6: "under 2 bytes or a wrong mark"
@@ -22,22 +22,22 @@ notAmong listed value = eqb (placeOf listed value) (length listed)
 
 -- 21: "an AQL not listed"
 unfoldable pub isUnlisted : List ℕ → ℕ → Bool
-isUnlisted lot cell = notAmong listedAqls (aqlIn lot cell)
+isUnlisted lot cell = notAmong listedAqls (aqlOfCell lot cell)
 
 -- 22: "an AQL falling from A to B or B to C"
-unfoldable pub fallsInClass : List ℕ → ℕ → Bool
-fallsInClass lot class = ltb (aqlOf lot 1 class) (aqlOf lot 0 class) || ltb (aqlOf lot 2 class) (aqlOf lot 1 class)
+unfoldable pub aqlFallsInClass : List ℕ → ℕ → Bool
+aqlFallsInClass lot class = ltb (aqlOf lot 1 class) (aqlOf lot 0 class) || ltb (aqlOf lot 2 class) (aqlOf lot 1 class)
 
 -- 8: a count above 2,000
 unfoldable pub countTooLarge : List ℕ → ℕ → Bool
-countTooLarge lot kind = ltb largestCount (countOf lot kind .0)
+countTooLarge lot kind = ltb largestCount (countOfKind lot kind .0)
 
 -- the fields of a lot that is whole. 20: "sample units not one of the four"; 9: prerequisite above 3
 unfoldable pub fieldRefusal : List ℕ → ℕ
 fieldRefusal lot =
     refusedIf (notAmong listedSampleUnits (sampleUnits lot)) 20
     (refusedIf (any (isUnlisted lot) cells) 21
-    (refusedIf (any (fallsInClass lot) classes) 22
+    (refusedIf (any (aqlFallsInClass lot) classes) 22
     (refusedIf (any (countTooLarge lot) kinds) 8
     (refusedIf (ltb substandard (prerequisite lot)) 9
     0))))

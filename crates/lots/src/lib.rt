@@ -4,9 +4,9 @@ ghost use Prim.Native.Nat.{_≤_, _<_};
 ghost use lib.ListN.{length};
 ghost use Rattle.units.specs.Conditions.{any, placeOf};
 ghost use Rattle.units.specs.Words.{plannedGrades};
-ghost use Rattle.lots.specs.Layout.{classes, cells, kinds, lotSize, aqlIn, countOf, countIn};
+ghost use Rattle.lots.specs.Layout.{classes, cells, kinds, lotSize, aqlOfCell, countOfKind, countOfClass};
 ghost use Rattle.lots.specs.Acceptance.{listedSampleUnits, listedAqls, acceptanceNumber};
-ghost use Rattle.lots.specs.Refusals.{isUnlisted, fallsInClass, countTooLarge, fieldRefusal, lotRefusal};
+ghost use Rattle.lots.specs.Refusals.{isUnlisted, aqlFallsInClass, countTooLarge, fieldRefusal, lotRefusal};
 ghost use Rattle.lots.specs.Grading.{admits, defectGrade};
 ghost use Rattle.lots.specs.Answer.{lotAnswer};
 use cusum::Defects;
@@ -21,7 +21,7 @@ use units::worse_of;
 // Classes are critical, severe, major and total. Lots have these four, whatever classes a sheet has.
 const CLASSES: usize = 4;
 
-// The AQLs of a lot: for a class of a grade each.
+// One AQL for each class of each grade.
 const CELLS: usize = GRADES * CLASSES;
 
 // Counts are of critical, severe, major and minor defects.
@@ -53,7 +53,10 @@ const PREREQUISITE_OFFSET: usize = COUNTS_OFFSET + NUMBER_SIZE * KINDS;
 
 pub const LOT_SIZE: usize = PREREQUISITE_OFFSET + 1;
 
-// Acceptance: 0 and the lot grade. A refusal: its number and Substandard. The offset is 0 in both.
+// What a refusal has in the place of a grade.
+const NO_GRADE: u8 = 3;
+
+// Acceptance: 0 and the lot grade. A refusal: its number and 3, which is no grade then. The offset is 0 in both.
 #[repr(C)]
 pub struct LotAnswer {
     pub number: u32,
@@ -74,7 +77,7 @@ fn place_of_sample_units(units: u8) -> usize
     }
 }
 
-// Where an AQL, in tenths, stands among those that are listed; behind the last if it does not.
+// Where an AQL, in tenths, stands among those that are listed; behind the last if it is not.
 fn place_of_aql(aql: u16) -> usize
     ensures { λ r. ⌜ r ≡ placeOf listedAqls aql ⌝ }
 {
@@ -89,7 +92,7 @@ fn place_of_aql(aql: u16) -> usize
     }
 }
 
-// The acceptance number at so many sample units for an AQL; none where either is not listed.
+// The acceptance number at so many sample units for an AQL; 0 where either is not listed, but such a lot is refused before.
 fn acceptance_number(units: u8, aql: u16) -> u16
     ensures { λ r. ⌜ r ≡ acceptanceNumber units aql ⌝ }
 {
@@ -105,30 +108,30 @@ fn acceptance_number(units: u8, aql: u16) -> u16
 }
 
 // The AQL of a cell, grade by grade and in each class by class.
-fn aql_in(lot: &[u8], cell: usize) -> u16
+fn aql_of_cell(lot: &[u8], cell: usize) -> u16
     requires { ⌜ (lotSize ≤ length (now lot)) × (cell < length cells) ⌝ }
-    ensures { λ r. ⌜ r ≡ aqlIn (now (lot .entry)) cell ⌝ }
+    ensures { λ r. ⌜ r ≡ aqlOfCell (now (lot .entry)) cell ⌝ }
 {
     number_at(lot, AQLS_OFFSET + NUMBER_SIZE * cell)
 }
 
 // The count of a kind.
-fn count_of(lot: &[u8], kind: usize) -> Defects
+fn count_of_kind(lot: &[u8], kind: usize) -> Defects
     requires { ⌜ (lotSize ≤ length (now lot)) × (kind < length kinds) ⌝ }
-    ensures { λ r. ⌜ r ≡ countOf (now (lot .entry)) kind ⌝ }
+    ensures { λ r. ⌜ r ≡ countOfKind (now (lot .entry)) kind ⌝ }
 {
     Defects(number_at(lot, COUNTS_OFFSET + NUMBER_SIZE * kind))
 }
 
-// The count of a class; total is the sum of all four.
-fn count_in(lot: &[u8], class: usize) -> u32
+// The count of a class; total is the sum of all four, which may pass two bytes: a count is looked at before it is known to be small.
+fn count_of_class(lot: &[u8], class: usize) -> u32
     requires { ⌜ (lotSize ≤ length (now lot)) × (class < length classes) ⌝ }
-    ensures { λ r. ⌜ r ≡ countIn (now (lot .entry)) class .0 ⌝ }
+    ensures { λ r. ⌜ r ≡ countOfClass (now (lot .entry)) class .0 ⌝ }
 {
-    let critical = count_of(lot, 0).0 as u32;
-    let severe = count_of(lot, 1).0 as u32;
-    let major = count_of(lot, 2).0 as u32;
-    let minor = count_of(lot, 3).0 as u32;
+    let critical = count_of_kind(lot, 0).0 as u32;
+    let severe = count_of_kind(lot, 1).0 as u32;
+    let major = count_of_kind(lot, 2).0 as u32;
+    let minor = count_of_kind(lot, 3).0 as u32;
     let counts = [critical, severe, major, critical + severe + major + minor];
     counts[class]
 }
@@ -141,31 +144,31 @@ fn any_unlisted(lot: &[u8]) -> bool
     let mut found = false;
     let mut cell: usize = 0;
     while cell < CELLS {
-        found = found | (place_of_aql(aql_in(lot, cell)) == AQLS_LISTED);
+        found = found | (place_of_aql(aql_of_cell(lot, cell)) == AQLS_LISTED);
         cell += 1;
     }
     found
 }
 
 // Whether the AQL of a class falls from A to B, or from B to C.
-fn falls_in_class(lot: &[u8], class: usize) -> bool
+fn aql_falls_in_class(lot: &[u8], class: usize) -> bool
     requires { ⌜ (lotSize ≤ length (now lot)) × (class < length classes) ⌝ }
-    ensures { λ r. ⌜ r ≡ fallsInClass (now (lot .entry)) class ⌝ }
+    ensures { λ r. ⌜ r ≡ aqlFallsInClass (now (lot .entry)) class ⌝ }
 {
-    let a = aql_in(lot, class);
-    let b = aql_in(lot, CLASSES + class);
-    let c = aql_in(lot, 2 * CLASSES + class);
-    (b < a) | (c < b)
+    let for_a = aql_of_cell(lot, class);
+    let for_b = aql_of_cell(lot, CLASSES + class);
+    let for_c = aql_of_cell(lot, 2 * CLASSES + class);
+    (for_b < for_a) | (for_c < for_b)
 }
 
 fn any_falling(lot: &[u8]) -> bool
     requires { ⌜ lotSize ≤ length (now lot) ⌝ }
-    ensures { λ r. ⌜ r ≡ any (fallsInClass (now (lot .entry))) classes ⌝ }
+    ensures { λ r. ⌜ r ≡ any (aqlFallsInClass (now (lot .entry))) classes ⌝ }
 {
     let mut found = false;
     let mut class: usize = 0;
     while class < CLASSES {
-        found = found | falls_in_class(lot, class);
+        found = found | aql_falls_in_class(lot, class);
         class += 1;
     }
     found
@@ -179,7 +182,7 @@ fn any_count_too_large(lot: &[u8]) -> bool
     let mut found = false;
     let mut kind: usize = 0;
     while kind < KINDS {
-        found = found | (LARGEST_COUNT < count_of(lot, kind).0);
+        found = found | (LARGEST_COUNT < count_of_kind(lot, kind).0);
         kind += 1;
     }
     found
@@ -231,8 +234,8 @@ fn admits_all(lot: &[u8], grade: usize) -> bool
 {
     let mut class: usize = 0;
     while class < CLASSES {
-        let aql = aql_in(lot, CLASSES * grade + class);
-        if (acceptance_number(lot[SAMPLE_UNITS_OFFSET], aql) as u32) < count_in(lot, class) {
+        let aql = aql_of_cell(lot, CLASSES * grade + class);
+        if (acceptance_number(lot[SAMPLE_UNITS_OFFSET], aql) as u32) < count_of_class(lot, class) {
             return false;
         }
         class += 1;
@@ -265,7 +268,7 @@ pub fn grade_lot(lot: &[u8]) -> LotAnswer
     if number != 0 {
         return LotAnswer {
             number: number,
-            grade: SUBSTANDARD,
+            grade: NO_GRADE,
             offset: 0,
         };
     }

@@ -1,19 +1,20 @@
 // Prints many cases of every kind. Standard input has the cases one after the other: the kind (a byte), the length of the sheet (four
 // bytes, the high byte first), then the sheet. For each a line `case NUMBER`, then what is printed for a case of this kind: 0 a tally
 // sheet, as the printing program prints it; 1 a mold sheet; 2 a tally sheet graded again under a second plan, which stands behind the sheet,
-// its length (four bytes) before it; 3 a look-up: finished results in place of a sheet, and behind them the code (two bytes). A sheet, a
-// second plan and results have any length up to one byte more than is taken for a sheet. A case of another kind or with more bytes ends the
-// program.
+// its length (four bytes) before it; 3 a look-up: finished results in place of a sheet, and behind them the code (two bytes); 4 a warehouse
+// lot in place of a sheet. A sheet, a second plan, results and a lot have any length up to one byte more than is taken for a sheet. A case of
+// another kind or with more bytes ends the program.
 use encoding::number_at;
 use layout::NUMBER_SIZE;
 use lines::TEXT_SIZE;
 use mold_lines::MOLD_TEXT_SIZE;
 use text::LARGEST_INPUT;
+use text::letter_of;
 
 // No test has more cases.
 const MOST_CASES: u64 = 10000;
 
-// Room for a sheet, a plan or results: one byte more than is taken for a sheet; and what stands for no such bytes.
+// Room for a sheet, a plan, results or a lot: one byte more than is taken for a sheet; and what stands for no such bytes.
 const ROOM: usize = LARGEST_INPUT + 1;
 
 const NO_BYTES: usize = ROOM + 1;
@@ -26,6 +27,8 @@ const MOLD: u8 = 1;
 const REGRADING: u8 = 2;
 
 const LOOKUP: u8 = 3;
+
+const LOT: u8 = 4;
 
 const NO_CASE: u8 = 255;
 
@@ -109,15 +112,20 @@ fn print_found(offset: usize, part: &[u8]) {
     io::write_all(libc::STDOUT_FILENO, b"\n");
 }
 
+// A refusal of results or of a lot: the offset is 0.
+fn print_refused(number: u32) {
+    io::write_all(libc::STDOUT_FILENO, b"refused ");
+    io::print_decimal(libc::STDOUT_FILENO, number as u64);
+    io::write_all(libc::STDOUT_FILENO, b" 0\n");
+}
+
 // The number says that nothing is found: the code is not there, or the results are refused.
 fn print_not_found(number: u32) {
     if number == 1 {
         io::write_all(libc::STDOUT_FILENO, b"not on this sheet\n");
         return;
     }
-    io::write_all(libc::STDOUT_FILENO, b"refused ");
-    io::print_decimal(libc::STDOUT_FILENO, number as u64);
-    io::write_all(libc::STDOUT_FILENO, b" 0\n");
+    print_refused(number);
 }
 
 // Reads the code, and prints the look-up; false where there is no code.
@@ -138,6 +146,18 @@ fn print_lookup(results: &[u8]) -> bool {
     true
 }
 
+fn print_lot(lot: &[u8]) {
+    let answer = lots::grade_lot(lot);
+    if answer.number != 0 {
+        print_refused(answer.number);
+        return;
+    }
+    let letter = [letter_of(b"ABC", b'S', answer.grade)];
+    io::write_all(libc::STDOUT_FILENO, b"lot ");
+    io::write_all(libc::STDOUT_FILENO, &letter);
+    io::write_all(libc::STDOUT_FILENO, b"\n");
+}
+
 fn print_sheet(kind: u8, sheet: &[u8]) -> bool {
     if kind == TALLY {
         print_tally(sheet);
@@ -150,13 +170,17 @@ fn print_sheet(kind: u8, sheet: &[u8]) -> bool {
     if kind == REGRADING {
         return print_regrading(sheet);
     }
-    print_lookup(sheet)
+    if kind == LOOKUP {
+        return print_lookup(sheet);
+    }
+    print_lot(sheet);
+    true
 }
 
 // Prints one case; false where none is left, or it is none of these.
 fn print_case(number: u64) -> bool {
     let kind = read_kind();
-    if LOOKUP < kind {
+    if LOT < kind {
         return false;
     }
     let mut sheet = [0u8; ROOM];

@@ -4,11 +4,12 @@
 //! `cases FOLDER` writes FOLDER/stdin (each sheet behind its kind in one byte and its length in four,
 //! high byte first; of a regrading the second plan stands behind the sheet, its length before it) and
 //! FOLDER/stdout (for each a line "case NUMBER" and then what is printed). Of a look-up the results
-//! stand in place of a sheet, and the code behind them, in two bytes. `cases --sheet NUMBER` writes one
-//! sheet to standard output and says on standard error which it is, `cases --plan NUMBER` its second
-//! plan; `cases --code NUMBER` prints the code of a look-up.
+//! stand in place of a sheet, and the code behind them, in two bytes; a lot stands there alone.
+//! `cases --sheet NUMBER` writes one sheet to standard output and says on standard error which it is,
+//! `cases --plan NUMBER` its second plan; `cases --code NUMBER` prints the code of a look-up.
 
 mod lookup;
+mod lot;
 mod lower_plans;
 mod manual;
 mod mold;
@@ -19,6 +20,7 @@ mod text;
 
 use grader::generate::{self, Counts, MOST_ROOM};
 use grader::generate_lookup::{lookup_case, LookupCase, Made};
+use grader::generate_lot::{self, lot_case, LotCase, LotCounts};
 use grader::generate_mold;
 use grader::generate_regrade::{self, RegradeCase};
 use std::io::Write;
@@ -30,6 +32,7 @@ const RANDOM_LOWER_PLANS: u64 = 40;
 const RANDOM_MOLD: u64 = 60;
 const RANDOM_REGRADINGS: u64 = 60;
 const RANDOM_LOOKUPS: usize = 60;
+const RANDOM_LOTS: usize = 100;
 /// The program has room for one byte more than is taken for a sheet.
 const ROOM: usize = 65_537;
 /// The bytes of all cases stay below this.
@@ -44,6 +47,8 @@ pub enum Kind {
     Regrading,
     /// Results, in place of a sheet, in which this code is looked up.
     Lookup(u16),
+    /// A warehouse lot, in place of a sheet.
+    Lot,
 }
 
 impl Kind {
@@ -54,6 +59,7 @@ impl Kind {
             Kind::Mold => 1,
             Kind::Regrading => 2,
             Kind::Lookup(_) => 3,
+            Kind::Lot => 4,
         }
     }
 
@@ -64,6 +70,10 @@ impl Kind {
             Kind::Mold => grader::mold::print_checked(sheet, true),
             Kind::Regrading => grader::regrade::print_checked(sheet, plan, true),
             Kind::Lookup(code) => grader::lookup::print(sheet, code),
+            Kind::Lot => {
+                grader::lot::check_lot(sheet);
+                grader::lot::print(sheet)
+            }
         }
     }
 
@@ -95,6 +105,14 @@ impl Kind {
                 let made = generate::Case { sheet: results, room: 0, expected };
                 (Kind::Lookup(code), made, Vec::new())
             }
+            Kind::Lot => {
+                let LotCase { lot, expected, .. } = lot_case(seed);
+                if let Some(answer) = expected {
+                    assert_eq!(grader::lot::grade_lot(&lot), answer, "lot, seed {seed}");
+                }
+                let expected = expected.map(|answer| (answer.number, answer.offset));
+                (self, generate::Case { sheet: lot, room: 0, expected }, Vec::new())
+            }
         }
     }
 
@@ -121,6 +139,13 @@ impl Kind {
                 let part = grader::lookup::part(sheet, code);
                 let (results, made) = (sheet.to_vec(), Made::MadeUp);
                 counts.note_lookup(&LookupCase { results, code, expected: None, made }, part);
+            }
+            Kind::Lot => {
+                let (lot, made) = (sheet.to_vec(), generate_lot::Made::Table);
+                let answer = grader::lot::grade_lot(sheet);
+                let mut lots = LotCounts(std::mem::take(counts));
+                lots.add(&LotCase { lot, expected: None, made }, answer);
+                *counts = lots.0;
             }
         }
     }
@@ -155,6 +180,10 @@ impl Kind {
                     "random look-ups, not there or refused",
                     "random look-ups, messy",
                 ],
+            ),
+            Kind::Lot => (
+                "random lot",
+                ["random lots, accepted", "random lots, refused", "random lots, messy"],
             ),
         }
     }
@@ -296,8 +325,28 @@ fn all() -> (Cases, Vec<(&'static str, usize)>) {
         let group = cases.random(seed);
         count(group, &cases);
     }
+    cases.kind = Kind::Lot;
+    lot::add(&mut cases);
+    count("lots by hand", &cases);
+    lot::add_table(&mut cases);
+    count("lots of the table", &cases);
+    lot::add_refusals(&mut cases);
+    count("refusals of lots by hand", &cases);
+    let fits = |seed: &u64| lot_case(*seed).lot.len() <= ROOM;
+    for seed in (FIRST_SEED..).filter(fits).take(RANDOM_LOTS) {
+        let group = cases.random(seed);
+        count(group, &cases);
+    }
     (cases, groups)
 }
+
+/// What is counted of how a lot is made.
+const MADE: [&str; 4] = [
+    "lot: accepted lot,",
+    "lot: lot with several grounds,",
+    "lot: changed lot,",
+    "lot: lot of any bytes,",
+];
 
 /// What happens in the cases; panics if something never does.
 fn covered(cases: &Cases) -> Counts {
@@ -306,16 +355,18 @@ fn covered(cases: &Cases) -> Counts {
         kind.note(sheet, plan, &mut counts);
     }
     // Number 13 and other lengths of the result buffer, which printing does not have, overshoots, which
-    // are not printed, and results of a look-up that are too large for the program are left to the
-    // differential test. So is where results come from, which is not noted here.
+    // are not printed, and results of a look-up and lots that are too large for the program are left to
+    // the differential test. So is where results and lots come from, which is not noted here.
     let elsewhere = |name: &str| {
         name.ends_with("number 13")
             || name.contains("buffer")
             || name == "lookup: more than 65,536 bytes"
             || name.starts_with("lookup:") && name.contains("results")
+            || name.starts_with("lot:") && name.ends_with("65572 bytes")
+            || MADE.iter().any(|made| name.starts_with(made))
     };
-    let missing = counts.missing().find(|name| !elsewhere(name));
-    assert_eq!(missing, None, "no case has this");
+    let missing: Vec<&str> = counts.missing().filter(|name| !elsewhere(name)).collect();
+    assert!(missing.is_empty(), "no case has this: {missing:#?}");
     counts
 }
 
@@ -350,7 +401,7 @@ fn main() {
                 stdin.extend((sheet.len() as u32).to_be_bytes());
                 stdin.extend(sheet);
                 match kind {
-                    Kind::Tally | Kind::Mold => {}
+                    Kind::Tally | Kind::Mold | Kind::Lot => {}
                     Kind::Regrading => {
                         stdin.extend((plan.len() as u32).to_be_bytes());
                         stdin.extend(plan);
@@ -370,7 +421,8 @@ fn main() {
             }
             let accepted = |kind: &str| counts.0[&format!("{kind}number 00")];
             let found = accepted("lookup: ");
-            let accepted = accepted("") + accepted("mold: ") + accepted("regrading: ");
+            let accepted = ["", "mold: ", "regrading: ", "lot: "].map(accepted);
+            let accepted: usize = accepted.iter().sum();
             eprintln!(
                 "cases: {} cases, {accepted} accepted, {found} found, {} bytes of sheets, {} lines \
                  expected",

@@ -22,14 +22,14 @@ loop-holds : tie.Need-loop-holds Inv-loop μ-loop
 unfolding admits
 loop-holds c = (search needs, refl)
 
-mul-aql-in : tie.Need-mul-aql-in Inv-loop μ-loop
-mul-aql-in c = search needs
+mul-aql-of-cell : tie.Need-mul-aql-of-cell Inv-loop μ-loop
+mul-aql-of-cell c = search needs
 
-add-aql-in : tie.Need-add-aql-in Inv-loop μ-loop
-add-aql-in c = search needs
+add-aql-of-cell : tie.Need-add-aql-of-cell Inv-loop μ-loop
+add-aql-of-cell c = search needs
 
-aql-in-requires : tie.Need-aql-in-requires Inv-loop μ-loop
-aql-in-requires c κs = search needs
+aql-of-cell-requires : tie.Need-aql-of-cell-requires Inv-loop μ-loop
+aql-of-cell-requires c κs = search needs
 
 shared-slice-read-acceptance-number : tie.Need-shared-slice-read-acceptance-number Inv-loop μ-loop
 shared-slice-read-acceptance-number c = search needs
@@ -40,8 +40,8 @@ acceptance-number-requires c κs = search needs
 cast-if1 : tie.Need-cast-if1 Inv-loop μ-loop
 cast-if1 c = search needs
 
-count-in-requires : tie.Need-count-in-requires Inv-loop μ-loop
-count-in-requires c κs = search needs
+count-of-class-requires : tie.Need-count-of-class-requires Inv-loop μ-loop
+count-of-class-requires c κs = search needs
 
 returns : tie.Need-returns Inv-loop μ-loop
 returns c =
@@ -52,7 +52,7 @@ returns c =
     sym
     (loop .inv .1
     ∙ all-miss (length classes) _ (loop .class) (omega arith)
-    (above-bound _ (loop .class) _ _ _ _ (aql .aql-in .ensures) (number .acceptance-number .ensures) (count .count-in .ensures) (c .if1 .taken)))
+    (above-bound _ (loop .class) _ _ _ _ (aql .aql-of-cell .ensures) (number .acceptance-number .ensures) (count .count-of-class .ensures) (c .if1 .taken)))
 
 add-class : tie.Need-add-class Inv-loop μ-loop
 add-class c = search needs
@@ -69,7 +69,7 @@ loop-again c =
       search needs,
       loop .inv .1
           ∙ all-hit (length classes) _ (loop .class) (omega arith)
-          (admitted _ (loop .class) _ _ _ _ (aql .aql-in .ensures) (number .acceptance-number .ensures) (count .count-in .ensures) (c .if1 .left)),
+          (admitted _ (loop .class) _ _ _ _ (aql .aql-of-cell .ensures) (number .acceptance-number .ensures) (count .count-of-class .ensures) (c .if1 .left)),
     )
 
 returns-2 : tie.Need-returns-2 Inv-loop μ-loop
@@ -84,13 +84,13 @@ admits-all-spec =
     Inv-loop
     μ-loop
     loop-holds
-    mul-aql-in
-    add-aql-in
-    aql-in-requires
+    mul-aql-of-cell
+    add-aql-of-cell
+    aql-of-cell-requires
     shared-slice-read-acceptance-number
     acceptance-number-requires
     cast-if1
-    count-in-requires
+    count-of-class-requires
     returns
     add-class
     loop-less

@@ -22,8 +22,8 @@ abbrev μ-loop : tie.MeasureT-loop
 loop-holds : tie.Need-loop-holds Inv-loop μ-loop
 loop-holds c = tested-first
 
-count-of-requires : tie.Need-count-of-requires Inv-loop μ-loop
-count-of-requires c κs = search needs
+count-of-kind-requires : tie.Need-count-of-kind-requires Inv-loop μ-loop
+count-of-kind-requires c κs = search needs
 
 add-kind : tie.Need-add-kind Inv-loop μ-loop
 add-kind c = search needs
@@ -35,11 +35,11 @@ loop-again : tie.Need-loop-again Inv-loop μ-loop
 unfolding countTooLarge
 loop-again c =
     tested-next (c .before .before .before .loop .inv) (omega arith)
-    (ap (λ (defects : Defects). ltb largestCount (defects .0)) (c .before .count-of .ensures))
+    (ap (λ (defects : Defects). ltb largestCount (defects .0)) (c .before .count-of-kind .ensures))
 
 returns : tie.Need-returns Inv-loop μ-loop
 returns c = tested-last (c .before .loop .inv) (omega arith)
 
 pub any-count-too-large-spec : {M : Type 1} → statement M
 any-count-too-large-spec =
-    tie.close (tie.spec Inv-loop μ-loop loop-holds count-of-requires add-kind loop-less loop-again returns)
+    tie.close (tie.spec Inv-loop μ-loop loop-holds count-of-kind-requires add-kind loop-less loop-again returns)

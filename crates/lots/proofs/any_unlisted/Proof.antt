@@ -22,8 +22,8 @@ abbrev μ-loop : tie.MeasureT-loop
 loop-holds : tie.Need-loop-holds Inv-loop μ-loop
 loop-holds c = tested-first
 
-aql-in-requires : tie.Need-aql-in-requires Inv-loop μ-loop
-aql-in-requires c κs = search needs
+aql-of-cell-requires : tie.Need-aql-of-cell-requires Inv-loop μ-loop
+aql-of-cell-requires c κs = search needs
 
 place-of-aql-requires : tie.Need-place-of-aql-requires Inv-loop μ-loop
 place-of-aql-requires c κs = search needs
@@ -38,7 +38,7 @@ loop-again : tie.Need-loop-again Inv-loop μ-loop
 unfolding isUnlisted notAmong
 loop-again c =
     tested-next (c .before .before .before .loop .inv) (omega arith)
-    (ap (λ (place : ℕ). eqb place (length listedAqls)) (c .place-of-aql .ensures ∙ ap (placeOf listedAqls) (c .before .aql-in .ensures)))
+    (ap (λ (place : ℕ). eqb place (length listedAqls)) (c .place-of-aql .ensures ∙ ap (placeOf listedAqls) (c .before .aql-of-cell .ensures)))
 
 returns : tie.Need-returns Inv-loop μ-loop
 returns c = tested-last (c .before .loop .inv) (omega arith)
@@ -46,4 +46,4 @@ returns c = tested-last (c .before .loop .inv) (omega arith)
 pub any-unlisted-spec : {M : Type 1} → statement M
 any-unlisted-spec =
     tie.close
-    (tie.spec Inv-loop μ-loop loop-holds aql-in-requires place-of-aql-requires add-cell loop-less loop-again returns)
+    (tie.spec Inv-loop μ-loop loop-holds aql-of-cell-requires place-of-aql-requires add-cell loop-less loop-again returns)

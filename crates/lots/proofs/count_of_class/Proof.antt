@@ -1,29 +1,29 @@
--- `count_in` is `countIn`: the counts by class are those of the definition.
+-- `count_of_class` is `countOfClass`: the counts by class are those of the definition.
 use Rattle.lots.proofs.Fields.{count-at}
 use borrow.Author.Needs.{needs}
-use Rattle.lots.proofs.count_in.Statement.{statement}
-use Rattle.lots.proofs.count_in.Tie as tie
+use Rattle.lots.proofs.count_of_class.Statement.{statement}
+use Rattle.lots.proofs.count_of_class.Tie as tie
 
-count-of-requires : tie.Need-count-of-requires
-count-of-requires c κs = search needs
+count-of-kind-requires : tie.Need-count-of-kind-requires
+count-of-kind-requires c κs = search needs
 
 cast-critical : tie.Need-cast-critical
 cast-critical c = search needs
 
-count-of-requires-2 : tie.Need-count-of-requires-2
-count-of-requires-2 c κs = search needs
+count-of-kind-requires-2 : tie.Need-count-of-kind-requires-2
+count-of-kind-requires-2 c κs = search needs
 
 cast-severe : tie.Need-cast-severe
 cast-severe c = search needs
 
-count-of-requires-3 : tie.Need-count-of-requires-3
-count-of-requires-3 c κs = search needs
+count-of-kind-requires-3 : tie.Need-count-of-kind-requires-3
+count-of-kind-requires-3 c κs = search needs
 
 cast-major : tie.Need-cast-major
 cast-major c = search needs
 
-count-of-requires-4 : tie.Need-count-of-requires-4
-count-of-requires-4 c κs = search needs
+count-of-kind-requires-4 : tie.Need-count-of-kind-requires-4
+count-of-kind-requires-4 c κs = search needs
 
 cast-minor : tie.Need-cast-minor
 cast-minor c = search needs
@@ -50,20 +50,20 @@ returns c =
     let severe = major .before .before in
     let critical = severe .before .before in
     let args = critical .before .before .args in
-    count-at (args .lot .now) (args .class) _ _ _ _ (critical .count-of .ensures)
-    (severe .count-of2 .ensures) (major .count-of3 .ensures) (minor .count-of4 .ensures)
+    count-at (args .lot .now) (args .class) _ _ _ _ (critical .count-of-kind .ensures)
+    (severe .count-of-kind2 .ensures) (major .count-of-kind3 .ensures) (minor .count-of-kind4 .ensures)
 
-pub count-in-spec : {M : Type 1} → statement M
-count-in-spec =
+pub count-of-class-spec : {M : Type 1} → statement M
+count-of-class-spec =
     tie.close
     (tie.spec
-    count-of-requires
+    count-of-kind-requires
     cast-critical
-    count-of-requires-2
+    count-of-kind-requires-2
     cast-severe
-    count-of-requires-3
+    count-of-kind-requires-3
     cast-major
-    count-of-requires-4
+    count-of-kind-requires-4
     cast-minor
     add-t9
     add-t10

@@ -1,0 +1,10 @@
+pub mod LotFields
+pub mod LotTable
+pub mod LotRows
+pub mod LotGrounds
+pub mod Best
+pub mod LotGrades
+pub mod LotFewerDefects
+pub mod ComputedLots
+pub mod LotInstances
+pub mod LotDemands

@@ -1,0 +1,9 @@
+pub mod LotFields
+pub mod LotTable
+pub mod LotGrounds
+pub mod LotGrades
+pub mod LotFewerDefects
+pub mod HeldLots
+pub mod ComputedLots
+pub mod LotInstances
+pub mod LotDemands
