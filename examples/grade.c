@@ -1,18 +1,21 @@
 /*
  * Grades a tally sheet, a recorded one again under the plan of a new buyer, or a mold sheet, and
- * prints the answer and the result records; or grades a tally sheet and prints what became of a code.
+ * prints the answer and the result records; or grades a tally sheet and prints what became of a code;
+ * or grades a warehouse lot and prints the answer.
  *
  *   grade [FILE]                      reads standard input if no file is named
  *   grade -regrade PLANFILE [FILE]    the buyer's plan is in PLANFILE, one plan record
  *   grade -mold [FILE]
  *   grade -find CODE [FILE]           the code in decimal, 0 to 65535
+ *   grade -lot [FILE]
  *
  * The first line has number, units and offset; then comes a line for each result record, its fields
  * in hexadecimal. With -find come the offset in the results at which the code is found and the line
- * of that record, or 'not on this sheet'; of a refused sheet the first line as above.
+ * of that record, or 'not on this sheet'; of a refused sheet the first line as above. With -lot the
+ * only line has number, grade and offset.
  *
- * The exit status is 0 for an accepted sheet, 2 for a refused one, 3 for a code that is not on this
- * sheet, and 1 if the input cannot be read or the output cannot be written.
+ * The exit status is 0 for an accepted sheet or lot, 2 for a refused one, 3 for a code that is not on
+ * this sheet, and 1 if the input cannot be read or the output cannot be written.
  */
 #include <errno.h>
 #include <stdint.h>
@@ -132,22 +135,59 @@ static int print_code(const uint8_t *results, size_t results_length, uint16_t co
     }
 }
 
-int main(int argc, char **argv)
+/* Grades a lot, prints the answer, and tells the exit status. */
+static int print_lot(const uint8_t *lot, size_t lot_length)
+{
+    struct hatmuyon_lot_answer answer = hatmuyon_grade_lot(lot, lot_length);
+
+    printf("number %lu, grade %u, offset %zu\n", (unsigned long)answer.number, answer.grade,
+           answer.offset);
+    return answer.number == HATMUYON_ACCEPTED ? 0 : 2;
+}
+
+/* Grades a sheet, under the plan of a new buyer if there is one, prints the answer and the result
+ * records, or what became of a code unless it is -1, and tells the exit status. */
+static int print_sheet(const uint8_t *sheet, size_t sheet_length, int mold, const uint8_t *plan,
+                       size_t plan_length, long code)
 {
     /* Of a mold sheet the result records are smaller. */
     static uint8_t results[HATMUYON_RESULT_SIZE * HATMUYON_MOST_UNITS];
+    struct hatmuyon_answer answer;
+
+    if (mold)
+        answer = hatmuyon_grade_mold(sheet, sheet_length, results, sizeof results);
+    else if (plan != NULL)
+        answer = hatmuyon_regrade(sheet, sheet_length, plan, plan_length, results, sizeof results);
+    else
+        answer = hatmuyon_grade(sheet, sheet_length, results, sizeof results);
+
+    if (code >= 0 && answer.number == HATMUYON_ACCEPTED)
+        return print_code(results, HATMUYON_RESULT_SIZE * answer.units, (uint16_t)code);
+    printf("number %lu, units %zu, offset %zu\n", (unsigned long)answer.number, answer.units,
+           answer.offset);
+    for (size_t unit = 0; unit < answer.units; unit++)
+        if (mold)
+            print_mold_record(results + HATMUYON_MOLD_RESULT_SIZE * unit);
+        else
+            print_record(results + HATMUYON_RESULT_SIZE * unit);
+    return answer.number == HATMUYON_ACCEPTED ? 0 : 2;
+}
+
+int main(int argc, char **argv)
+{
     int mold = argc > 1 && strcmp(argv[1], "-mold") == 0;
     int regrade = argc > 1 && strcmp(argv[1], "-regrade") == 0;
     int find = argc > 1 && strcmp(argv[1], "-find") == 0;
-    /* The arguments before the name of the sheet, that of the program among them. */
-    int before = mold ? 2 : regrade || find ? 3 : 1;
+    int lot = argc > 1 && strcmp(argv[1], "-lot") == 0;
+    /* The arguments before the name of the sheet or lot, that of the program among them. */
+    int before = mold || lot ? 2 : regrade || find ? 3 : 1;
 
     if (argc < before || argc > before + 1) {
-        fprintf(stderr, "usage: grade [-mold | -regrade PLANFILE | -find CODE] [FILE]\n");
+        fprintf(stderr, "usage: grade [-mold | -regrade PLANFILE | -find CODE | -lot] [FILE]\n");
         return 1;
     }
-    long code = find ? code_of(argv[2]) : 0;
-    if (code < 0) {
+    long code = find ? code_of(argv[2]) : -1;
+    if (find && code < 0) {
         fprintf(stderr, "grade: '%s' is not a code from 0 to 65535\n", argv[2]);
         return 1;
     }
@@ -155,28 +195,10 @@ int main(int argc, char **argv)
     uint8_t *plan = regrade ? read_all(argv[2], &plan_length) : NULL;
     uint8_t *sheet = read_all(argc > before ? argv[before] : NULL, &sheet_length);
 
-    struct hatmuyon_answer answer;
-    if (mold)
-        answer = hatmuyon_grade_mold(sheet, sheet_length, results, sizeof results);
-    else if (regrade)
-        answer = hatmuyon_regrade(sheet, sheet_length, plan, plan_length, results, sizeof results);
-    else
-        answer = hatmuyon_grade(sheet, sheet_length, results, sizeof results);
+    int status = lot ? print_lot(sheet, sheet_length)
+                     : print_sheet(sheet, sheet_length, mold, plan, plan_length, code);
     free(sheet);
     free(plan);
-
-    int status = answer.number == HATMUYON_ACCEPTED ? 0 : 2;
-    if (find && status == 0) {
-        status = print_code(results, HATMUYON_RESULT_SIZE * answer.units, (uint16_t)code);
-    } else {
-        printf("number %lu, units %zu, offset %zu\n", (unsigned long)answer.number, answer.units,
-               answer.offset);
-        for (size_t unit = 0; unit < answer.units; unit++)
-            if (mold)
-                print_mold_record(results + HATMUYON_MOLD_RESULT_SIZE * unit);
-            else
-                print_record(results + HATMUYON_RESULT_SIZE * unit);
-    }
 
     if (fflush(stdout) != 0 || ferror(stdout)) {
         fprintf(stderr, "grade: cannot write: %s\n", strerror(errno));

@@ -1,7 +1,8 @@
 /*
  * hatmuyon: grades the tally sheet of an on-line inspection, and the mold sheet of a tomato line,
  * under the USDA cumulative sum plan, File Code 120 A-6 of August 1978; and a recorded tally sheet
- * again, under a second plan. In finished results it looks up what became of a code.
+ * again, under a second plan. In finished results it looks up what became of a code. A warehouse lot
+ * it grades under the lot single sampling plan, from one sample.
  *
  * Link with libhatmuyon.a, which `rt staticlib hatmuyon` writes to target/staticlib (x86-64).
  * The archive needs no other library. The header is C99 and C++11.
@@ -21,9 +22,9 @@ extern "C" {
  * and of the functions and types in C or Rust. A program, the header and the archive of one version
  * belong together. The archive does not carry its version, so that nothing notices another one.
  */
-#define HATMUYON_VERSION "0.8.0"
+#define HATMUYON_VERSION "0.9.0"
 #define HATMUYON_VERSION_MAJOR 0
-#define HATMUYON_VERSION_MINOR 8
+#define HATMUYON_VERSION_MINOR 9
 #define HATMUYON_VERSION_PATCH 0
 
 /*
@@ -58,7 +59,7 @@ extern "C" {
 /* The most units, and the largest count, S, T and L, of a tally sheet. A result buffer for any tally
  * sheet has HATMUYON_RESULT_SIZE * HATMUYON_MOST_UNITS bytes. */
 #define HATMUYON_MOST_UNITS 1000
-#define HATMUYON_LARGEST_COUNT 2000
+#define HATMUYON_LARGEST_COUNT 2000       /* of a lot, too */
 #define HATMUYON_LARGEST_PLAN_NUMBER 9999 /* of S, T and L, in tenths */
 
 /* Offsets of the fields of a result record, which opens with the mark 47 52. Numbers of four bytes
@@ -174,9 +175,36 @@ enum hatmuyon_standing {
 #define HATMUYON_MOLD_RESULT_CUSUM 3 /* 2 bytes: the CuSum in tenths of a field */
 
 /*
- * The number of an answer: 0, or the ground on which the sheet is refused. The place is 0 for 1 to 5,
- * 16 and 18, the offset of the record's mark for 6 to 12 and 17, and the sheet's length for 13. The
- * first ground met is the answer.
+ * A warehouse lot is one record, with mark and numbers as on a tally sheet. It is graded by the lot
+ * single sampling plan for a standard sample unit size of 6.
+ *
+ *   lot            4C 54, sample units (1), then for grades A, B, C, within each for the classes
+ *                  critical, severe, major, total: the AQL (2 each, tenths); counts of critical,
+ *                  severe, major, minor (2 each), prerequisite grade (1)
+ *
+ * Sample units and AQLs are those listed here, with the acceptance number of each pair:
+ *
+ *   sample units              6   13   21   29
+ *   AQL  1.0                  1    2    3    4
+ *   AQL  1.5                  1    3    4    5
+ *   AQL  2.5                  3    4    6    8
+ *   AQL  4.0                  4    6    9   11
+ *   AQL  5.0                  4    7   11   14
+ *   AQL 12.5                  8   15   22   29
+ *
+ * A grade admits a class whose count is not above the acceptance number of its AQL; the count of total
+ * is the sum of all four. The defect grade is the best that admits all classes, and Substandard exactly
+ * if none does. The lot grade is the worse of it and the prerequisite grade. There is no CuSum, no
+ * tenths of a count and no result record.
+ */
+
+#define HATMUYON_LOT_MARK 0x4C54
+#define HATMUYON_LOT_SIZE 36
+
+/*
+ * The number of an answer: 0, or the ground on which the sheet or the lot is refused. Of a sheet the
+ * place is 0 for 1 to 5, 16 and 18, the offset of the record's mark for 6 to 12 and 17, and the sheet's
+ * length for 13. Of a lot it is 0 for every ground. The first ground met is the answer.
  *
  * A tally sheet is refused by 1 to 13. The plan is checked first, for 1 to 5 in turn; then the
  * records from left to right, each wholly before the next, for 6, 7, 12, 8, 9, 10, 11 in this order;
@@ -193,6 +221,13 @@ enum hatmuyon_standing {
  *   1     shorter than 3 bytes, or first mark not 4D 44
  *   6     one byte left, or a mark not 4D 55
  *   13    result buffer shorter than 5 times the units
+ *
+ * A lot is refused by 6, 7, 20, 21, 22, 8 and 9, in this order, each looked for in the whole lot before
+ * the next. Of a lot these read otherwise:
+ *
+ *   6     shorter than 2 bytes, or mark not 4C 54
+ *   7     length not 36 bytes
+ *   9     prerequisite above 3
  *
  * 15 is answered by the printing program alone, for an input above 65,536 bytes. 19 is answered by a
  * look-up, whose numbers are apart from these. 14 was a CuSum too large for two bytes, to which no
@@ -215,14 +250,24 @@ enum hatmuyon_number {
     HATMUYON_REFUSED_RESULT_BUFFER_TOO_SHORT = 13,  /* result buffer shorter than 32 times the units */
     HATMUYON_REFUSED_BAD_LEVEL_ROW = 16,            /* level row above 5 */
     HATMUYON_REFUSED_TOO_MANY_POSITIVE_FIELDS = 17, /* positive fields above 25 */
-    HATMUYON_REFUSED_BAD_SECOND_PLAN = 18           /* second plan not exactly one plan record free of 2 to 5 */
+    HATMUYON_REFUSED_BAD_SECOND_PLAN = 18,          /* second plan not exactly one plan record free of 2 to 5 */
+    HATMUYON_REFUSED_BAD_SAMPLE_UNITS = 20,         /* sample units not 6, 13, 21 or 29 */
+    HATMUYON_REFUSED_UNLISTED_AQL = 21,             /* an AQL not listed */
+    HATMUYON_REFUSED_FALLING_AQL = 22               /* in a class, an AQL smaller at B than at A, or at C than at B */
 };
 
-/* What a grading or a regrading answers. */
+/* What a grading or a regrading of a sheet answers. */
 struct hatmuyon_answer {
     uint32_t number; /* an enum hatmuyon_number */
     size_t units;    /* accepted: the sample units, which is the number of result records; refused: 0 */
     size_t offset;   /* accepted: the sheet's length; refused: the place, see above */
+};
+
+/* What the grading of a lot answers. */
+struct hatmuyon_lot_answer {
+    uint32_t number; /* an enum hatmuyon_number */
+    uint8_t grade;   /* accepted: the lot grade, an enum hatmuyon_grade_code; refused: HATMUYON_GRADE_SUBSTANDARD */
+    size_t offset;   /* 0; refused: the place, see above */
 };
 
 /* The number of a look-up, apart from those above: 1 is no refusal here. 19 comes before reading. */
@@ -241,9 +286,9 @@ struct hatmuyon_part {
 
 /*
  * Each function needs at most 2 KiB of stack, its return address among them. This is measured and
- * not proved: hatmuyon_grade and hatmuyon_regrade take some 900 bytes, in frames of fixed size and
- * without recursion, hatmuyon_find_code hardly any, and a test of bindings/rust fails if one takes
- * more than this of a painted stack.
+ * not proved: hatmuyon_grade and hatmuyon_regrade take some 900 bytes and hatmuyon_grade_lot some 300,
+ * in frames of fixed size and without recursion, hatmuyon_find_code hardly any, and a test of
+ * bindings/rust fails if one takes more than this of a painted stack.
  */
 #define HATMUYON_STACK_SIZE 2048
 
@@ -303,14 +348,32 @@ struct hatmuyon_part hatmuyon_find_code(const uint8_t *results, size_t results_l
                                         uint16_t code);
 
 /*
- * The same four, but where a length is 0 nothing is owed of its pointer: it may be null, as that of
+ * hatmuyon_grade_lot grades a warehouse lot.
+ *
+ * The caller owes:
+ *   - `lot` may be read for `lot_length` bytes, and is not null, also where the length is 0;
+ *   - during the call no other thread writes to the lot.
+ * Nothing is owed of the bytes: any lot may be passed, of any length.
+ *
+ * It promises:
+ *   - it accepts the lot with its grade, or refuses it by one of the numbers for a lot with
+ *     HATMUYON_GRADE_SUBSTANDARD, and refuses none to which no ground applies;
+ *   - no byte of the lot is changed, no other memory is touched but the stack, nothing is allocated,
+ *     and nothing is kept from one call to the next;
+ *   - it always returns.
+ */
+struct hatmuyon_lot_answer hatmuyon_grade_lot(const uint8_t *lot, size_t lot_length);
+
+/*
+ * The same five, but where a length is 0 nothing is owed of its pointer: it may be null, as that of
  * an empty vector in C++ may be. The address of a local byte is passed on in its place.
  *
  * Where a length is not 0, all is owed that is asked above: the pointer is not null and valid for
  * its length, the results of a grading overlap no other buffer, and other threads keep away as said
  * there. The promises are the same: a sheet of length 0 is refused by number 1, a second plan of
  * length 0 by 18 if the sheet is not refused by 1 to 12, a result buffer of length 0 is long enough
- * for a sheet without a unit, and in results of length 0 no code is found.
+ * for a sheet without a unit, in results of length 0 no code is found, and a lot of length 0 is refused
+ * by 6.
  */
 static inline struct hatmuyon_answer hatmuyon_grade_nullable(const uint8_t *sheet,
                                                              size_t sheet_length, uint8_t *results,
@@ -354,6 +417,14 @@ static inline struct hatmuyon_part hatmuyon_find_code_nullable(const uint8_t *re
     uint8_t no_byte = 0;
 
     return hatmuyon_find_code(results_length == 0 ? &no_byte : results, results_length, code);
+}
+
+static inline struct hatmuyon_lot_answer hatmuyon_grade_lot_nullable(const uint8_t *lot,
+                                                                     size_t lot_length)
+{
+    uint8_t no_byte = 0;
+
+    return hatmuyon_grade_lot(lot_length == 0 ? &no_byte : lot, lot_length);
 }
 
 #ifdef __cplusplus

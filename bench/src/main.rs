@@ -6,16 +6,18 @@
 //! table has the median over the rounds and, as other work on the machine slows some of them, the
 //! least. Before a sheet is timed the contenders must agree on it; before any is, the library and
 //! the tuned grader must agree on seeded random sheets, refused ones among them. So it is with mold
-//! sheets, with regradings and with look-ups of one code in results, for each of which every contender
-//! has a function of its own.
+//! sheets, with regradings, with look-ups of one code in results and with lots, for each of which every
+//! contender has a function of its own.
 
 use grader::generate::{self, table, Dice, PEACH};
 use grader::generate_lookup::lookup_case;
+use grader::generate_lot::lot_case;
 use grader::generate_regrade::regrade_case;
+use grader::lot::Lot;
 use grader::sheet::{Record, Sheet, Unit};
 use hatmuyon::ffi::{
-    hatmuyon_find_code, hatmuyon_regrade, MOLD_RESULT_MET, RESULT_CODE, RESULT_CODE_GRADE,
-    RESULT_CRITICAL_OVERSHOOT, RESULT_PORTION_GRADE, RESULT_STANDING,
+    hatmuyon_find_code, hatmuyon_grade_lot, hatmuyon_regrade, MOLD_RESULT_MET, RESULT_CODE,
+    RESULT_CODE_GRADE, RESULT_CRITICAL_OVERSHOOT, RESULT_PORTION_GRADE, RESULT_STANDING,
 };
 use hatmuyon::{MOLD_LEVELS, MOLD_RESULT_SIZE, MOLD_UNIT_SIZE, MOST_POSITIVE_FIELDS};
 use hatmuyon::{MOST_UNITS, RESULT_SIZE};
@@ -25,7 +27,7 @@ use tuned::Tuned;
 
 mod tuned;
 
-/// Number, units, offset; of a look-up number, offset, length.
+/// Number, units, offset; of a look-up number, offset, length; of a lot number, grade, offset.
 type Answer = (u32, usize, usize);
 /// Grades a sheet into a buffer.
 type Contender<'a> = &'a mut dyn FnMut(&[u8], &mut [u8]) -> Answer;
@@ -79,6 +81,18 @@ fn library_find(results: &[u8], code: u16) -> Answer {
 fn grader_find(results: &[u8], code: u16) -> Answer {
     let (number, part) = grader::lookup::find_ended(results, code);
     (number, part.as_ptr().addr() - results.as_ptr().addr(), part.len())
+}
+
+/// Into no buffer: of a lot nothing is written.
+fn library_lot(lot: &[u8], _: &mut [u8]) -> Answer {
+    // Safety: a slice's pointer is not null and valid for its length.
+    let answer = unsafe { hatmuyon_grade_lot(lot.as_ptr(), lot.len()) };
+    (answer.number, answer.grade.into(), answer.offset)
+}
+
+fn grader_lot(lot: &[u8], _: &mut [u8]) -> Answer {
+    let answer = grader::lot::grade_lot(lot);
+    (answer.number, answer.grade.into(), answer.offset)
 }
 
 /// The grader without its map: the code grades are found with the library's scheme of reading.
@@ -190,6 +204,17 @@ fn compare_lookups() {
         assert!(
             tuned::find(&case.results, case.code) == library_find(&case.results, case.code),
             "the tuned grader differs on the look-up of seed {seed}"
+        );
+    }
+}
+
+/// The same with random lots.
+fn compare_lots() {
+    for seed in 0..RANDOM_SHEETS {
+        let lot = lot_case(seed).lot;
+        assert!(
+            tuned::grade_lot(&lot, &mut []) == library_lot(&lot, &mut []),
+            "the tuned grader differs on the lot of seed {seed}"
         );
     }
 }
@@ -358,6 +383,13 @@ fn first_substandard(units: usize, codes: usize) -> Vec<u8> {
     results
 }
 
+/// A lot of 13 sample units with a critical, a severe and a major defect, so many minor ones, and this
+/// prerequisite. The AQLs rise from grade to grade; the acceptance numbers of total are 7, 15 and 15.
+fn lot(minor: u16, prerequisite: u8) -> Vec<u8> {
+    let aqls = [[10, 15, 40, 50], [15, 25, 50, 125], [25, 40, 50, 125]];
+    Lot { sample_units: 13, aqls, counts: [1, 1, 1, minor], prerequisite }.bytes()
+}
+
 /// The library, the independent grader and the tuned one.
 type Times = [Time; 3];
 
@@ -391,6 +423,7 @@ fn main() {
     let mut regrader = Tuned::new();
     compare_regradings(&mut regrader);
     compare_lookups();
+    compare_lots();
     let mut tuned = |sheet: &[u8], results: &mut [u8]| table_by_code.grade(sheet, results);
     println!("The library beside the independent grader and the tuned one, {rounds} rounds, tally");
     println!(
@@ -400,7 +433,7 @@ fn main() {
     println!(
         "The library and the tuned grader agree on {RANDOM_SHEETS} random sheets, and on as many"
     );
-    println!("mold sheets, regradings and look-ups.");
+    println!("mold sheets, regradings, look-ups and lots.");
     println!();
 
     head("sheet", "us");
@@ -493,6 +526,23 @@ fn main() {
         // As if of one unit, so that it is done often in a round; nothing is written.
         let (times, answer, _) = times(contenders, &results, 1, 0, rounds);
         assert_eq!((answer.0, answer.1), (number, offset), "{name}");
+        row(name, times);
+    }
+
+    println!();
+    head("lot", "ns");
+    // Each with its expected number and grade. In the Substandard one each grade fails in total, the last
+    // class; the refused ones meet the last ground and the first.
+    for (name, lot, number, grade) in [
+        ("lot, grade A", lot(4, 0), 0, 0),
+        ("lot, Substandard, three grades looked at", lot(13, 0), 0, 3),
+        ("lot, refused with 9, the last ground", lot(4, 4), 9, 3),
+        ("lot, refused with 6, no byte", Vec::new(), 6, 3),
+    ] {
+        let contenders: [Contender; 3] = [&mut library_lot, &mut grader_lot, &mut tuned::grade_lot];
+        // As if of one unit, so that it is done often in a round.
+        let (times, answer, _) = times(contenders, &lot, 1, 0, rounds);
+        assert_eq!((answer.0, answer.1), (number, grade), "{name}");
         row(name, times);
     }
 

@@ -9,13 +9,15 @@
 //!
 //! A regrading, by [`Tuned::regrade`], is checked in the same way; its one path takes in the worst
 //! grade by code as it writes. A mold sheet is read twice, too, by [`grade_mold`]. Of one code the
-//! results are read once, by [`find`], up to its first Substandard portion.
+//! results are read once, by [`find`], up to its first Substandard portion. Of a lot each AQL is read
+//! once, by [`grade_lot`], for its check and its acceptance number.
 
 use crate::Answer;
 use hatmuyon::ffi::{
     RESULT_CODE, RESULT_CODE_GRADE, RESULT_CRITICAL, RESULT_CRITICAL_OVERSHOOT,
     RESULT_MAJOR_OVERSHOOT, RESULT_PLAN_GRADE, RESULT_PORTION_GRADE, RESULT_STANDING,
 };
+use hatmuyon::LOT_SIZE;
 use hatmuyon::{BREAK_SIZE, MOST_UNITS, PLAN_SIZE, REDESIGNATION_SIZE, RESULT_SIZE, UNIT_SIZE};
 use hatmuyon::{MOLD_OPENING_SIZE, MOLD_RESULT_SIZE, MOLD_UNIT_SIZE, MOST_POSITIVE_FIELDS};
 
@@ -599,4 +601,98 @@ pub fn find(results: &[u8], code: u16) -> Answer {
         offset += RESULT_SIZE;
     }
     found.answer
+}
+
+/// The AQLs that are listed, in tenths, each with its acceptance numbers at 6, 13, 21 and 29 sample units.
+const ACCEPTANCE_NUMBERS: [(usize, [u8; 4]); 6] = [
+    (10, [1, 2, 3, 4]),
+    (15, [1, 3, 4, 5]),
+    (25, [3, 4, 6, 8]),
+    (40, [4, 6, 9, 11]),
+    (50, [4, 7, 11, 14]),
+    (125, [8, 15, 22, 29]),
+];
+
+/// A power of two above all AQLs that are listed.
+const AQLS: usize = 128;
+
+/// The acceptance number by sample units and AQL; 0, which none is, where the AQL is not listed.
+const NUMBERS: [[u8; AQLS]; 4] = {
+    let mut numbers = [[0; AQLS]; 4];
+    let mut place = 0;
+    while place < 4 * ACCEPTANCE_NUMBERS.len() {
+        let (aql, row) = ACCEPTANCE_NUMBERS[place / 4];
+        numbers[place % 4][aql] = row[place % 4];
+        place += 1;
+    }
+    numbers
+};
+
+/// Offsets in a lot.
+const LOT_SAMPLE_UNITS: usize = 2;
+const LOT_AQLS: usize = 3;
+const LOT_COUNTS: usize = 27;
+const LOT_PREREQUISITE: usize = 35;
+
+/// Refusals of a lot; else its grade.
+fn lot_grade(lot: &[u8]) -> Result<u8, u32> {
+    let [0x4C, 0x54, ..] = lot else { return Err(6) };
+    let lot: &[u8; LOT_SIZE] = lot.try_into().map_err(|_| 7u32)?;
+    let two = |at: usize| u16::from_be_bytes([lot[at], lot[at + 1]]);
+    let numbers = &NUMBERS[match lot[LOT_SAMPLE_UNITS] {
+        6 => 0,
+        13 => 1,
+        21 => 2,
+        29 => 3,
+        _ => return Err(20),
+    }];
+
+    let mut aqls = [0; PLANS * CLASSES];
+    let mut accepted = [0; PLANS * CLASSES];
+    let (mut any, mut unlisted) = (0, false);
+    for cell in 0..PLANS * CLASSES {
+        aqls[cell] = two(LOT_AQLS + 2 * cell);
+        any |= aqls[cell];
+        accepted[cell] = numbers[usize::from(aqls[cell]) % AQLS];
+        unlisted |= accepted[cell] == 0;
+    }
+    if unlisted || usize::from(any) >= AQLS {
+        return Err(21);
+    }
+    let mut falls = false;
+    for cell in CLASSES..PLANS * CLASSES {
+        falls |= aqls[cell] < aqls[cell - CLASSES];
+    }
+    if falls {
+        return Err(22);
+    }
+
+    let count = |kind: usize| two(LOT_COUNTS + 2 * kind);
+    let (critical, severe, major, minor) = (count(0), count(1), count(2), count(3));
+    if critical.max(severe).max(major).max(minor) > 2_000 {
+        return Err(8);
+    }
+    let prerequisite = lot[LOT_PREREQUISITE];
+    if prerequisite > SUBSTANDARD {
+        return Err(9);
+    }
+    let counts = [critical, severe, major, critical + severe + major + minor];
+    // As no AQL falls, those that do not admit are the first ones.
+    let mut grade = 0;
+    for row in accepted.chunks_exact(CLASSES) {
+        let mut above = false;
+        for class in 0..CLASSES {
+            above |= counts[class] > u16::from(row[class]);
+        }
+        grade += u8::from(above);
+    }
+    Ok(prerequisite.max(grade))
+}
+
+/// Grades a lot, into no buffer: number, grade and offset.
+pub fn grade_lot(lot: &[u8], _: &mut [u8]) -> Answer {
+    match lot_grade(lot) {
+        Ok(grade) => (0, grade.into(), 0),
+        Err(number) => (number, SUBSTANDARD.into(), 0),
+    }
 }

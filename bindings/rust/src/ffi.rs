@@ -1,6 +1,6 @@
 //! The boundary as `include/hatmuyon.h` declares it. [`grade`](crate::grade),
-//! [`grade_mold`](crate::grade_mold), [`regrade`](crate::regrade) and [`find`](crate::find)
-//! are the safe ways in.
+//! [`grade_mold`](crate::grade_mold), [`regrade`](crate::regrade), [`find`](crate::find) and
+//! [`grade_lot`](crate::grade_lot) are the safe ways in.
 
 /// Offset of the production code in a result record, 2 bytes with the high byte first.
 pub const RESULT_CODE: usize = 2;
@@ -39,8 +39,9 @@ pub const FOUND: u32 = 0;
 /// The number of a look-up where no record has the code; it is no refusal.
 pub const NOT_ON_THIS_SHEET: u32 = 1;
 
-/// Bytes of stack that [`hatmuyon_grade`], [`hatmuyon_grade_mold`], [`hatmuyon_regrade`] and
-/// [`hatmuyon_find_code`] need at most; the header says how they were measured.
+/// Bytes of stack that [`hatmuyon_grade`], [`hatmuyon_grade_mold`], [`hatmuyon_regrade`],
+/// [`hatmuyon_find_code`] and [`hatmuyon_grade_lot`] need at most; the header says how they were
+/// measured.
 pub const STACK_SIZE: usize = 2048;
 
 /// `struct hatmuyon_answer`.
@@ -68,6 +69,19 @@ pub struct Part {
     pub offset: usize,
     /// Found: the bytes of the record, [`RESULT_SIZE`](crate::RESULT_SIZE). Else 0.
     pub length: usize,
+}
+
+/// `struct hatmuyon_lot_answer`.
+#[derive(Clone, Copy, Debug, PartialEq, Eq)]
+#[repr(C)]
+pub struct LotAnswer {
+    /// 0, or the number of the refusal, which from an archive of this version is that of a
+    /// [`LotGround`](crate::LotGround).
+    pub number: u32,
+    /// Accepted: the lot grade, that of a [`Grade`](crate::Grade). Refused: 3.
+    pub grade: u8,
+    /// 0, accepted or refused.
+    pub offset: usize,
 }
 
 extern "C" {
@@ -121,4 +135,12 @@ extern "C" {
     /// `results` must be valid for reads of `results_length` bytes, all of them initialized; it is not
     /// null, also where the length is 0. During the call no other thread may write to the results.
     pub fn hatmuyon_find_code(results: *const u8, results_length: usize, code: u16) -> Part;
+
+    /// Grades a warehouse lot.
+    ///
+    /// # Safety
+    ///
+    /// `lot` must be valid for reads of `lot_length` bytes, all of them initialized; it is not null,
+    /// also where the length is 0. During the call no other thread may write to the lot.
+    pub fn hatmuyon_grade_lot(lot: *const u8, lot_length: usize) -> LotAnswer;
 }

@@ -1,6 +1,7 @@
 //! Grades the tally sheet of an on-line inspection, and the mold sheet of a tomato line, under the
 //! USDA cumulative sum plan, File Code 120 A-6 of August 1978; and a recorded tally sheet again, under
-//! a second plan. In finished results it looks up what became of a code.
+//! a second plan. In finished results it looks up what became of a code. A warehouse lot it grades
+//! under the lot single sampling plan, from one sample.
 //!
 //! A tally sheet is bytes: a plan record, and then sample units, redesignations and breaks in any
 //! order. `include/hatmuyon.h` describes them. [`grade`] takes any bytes, and either grades the sheet
@@ -53,6 +54,9 @@
 //! defects are never to be added or compared, and neither are their CuSums; records, refusals and
 //! grounds of the two sheets are of types apart.
 //!
+//! [`grade_lot`] grades a warehouse lot, which has no units and no result record: the answer is its
+//! grade. Refusal and ground of a lot are of types of their own, too.
+//!
 //! Gradings and look-ups are those of the proved library `libhatmuyon.a`, which `rt staticlib hatmuyon`
 //! writes (x86-64). The build links it from target/staticlib of the repository, or from the folder that
 //! the environment variable `HATMUYON_ARCHIVE_DIR` names.
@@ -63,7 +67,8 @@
 //! the build cannot compare them. Linked with an archive of another version:
 //!
 //! - A refusal by a number that this version does not know is handed on with its number and offset;
-//!   its [`Refusal::ground`], [`MoldRefusal::ground`] or [`LookupRefusal::ground`] is `None`.
+//!   its [`Refusal::ground`], [`MoldRefusal::ground`], [`LookupRefusal::ground`] or
+//!   [`LotRefusal::ground`] is `None`.
 //! - An answer of more result records than the result buffer has room for, at this version's
 //!   [`RESULT_SIZE`] or [`MOLD_RESULT_SIZE`], panics.
 //! - A found part that does not lie in the results, or has another length than [`RESULT_SIZE`], panics;
@@ -82,10 +87,12 @@ use std::slice::ChunksExact;
 
 pub mod ffi;
 mod lookup;
+mod lot;
 mod mold;
 mod regrade;
 
 pub use lookup::{find, Found, LookupGround, LookupRefusal};
+pub use lot::{grade_lot, LotGround, LotRefusal, LOT_MARK, LOT_SIZE};
 pub use mold::{grade_mold, GradedMold, MoldGround, MoldRecord, MoldRefusal};
 pub use mold::{MOLD_LEVELS, MOLD_OPENING_SIZE, MOLD_RESULT_SIZE, MOLD_UNIT_SIZE};
 pub use mold::{MOLD_RESULT_MARK, MOLD_SHEET_MARK, MOLD_UNIT_MARK, MOST_POSITIVE_FIELDS};
@@ -121,7 +128,7 @@ pub const RESULT_SIZE: usize = 32;
 /// The most sample units on a sheet, so that `RESULT_SIZE * MOST_UNITS` bytes hold the results of
 /// any tally sheet, and `MOLD_RESULT_SIZE * MOST_UNITS` those of any mold sheet.
 pub const MOST_UNITS: usize = 1000;
-/// The largest count of defects of a sample unit.
+/// The largest count of defects of a sample unit, and of a lot.
 pub const LARGEST_COUNT: u16 = 2000;
 /// The largest S, T and L of a plan, in tenths.
 pub const LARGEST_PLAN_NUMBER: u16 = 9999;
@@ -404,7 +411,7 @@ impl fmt::Display for Refusal {
 
 impl std::error::Error for Refusal {}
 
-/// Says in words that a sheet or a look-up is refused.
+/// Says in words that a sheet, a look-up or a lot is refused.
 fn say_refused(
     f: &mut fmt::Formatter<'_>,
     number: u32,
@@ -546,9 +553,11 @@ mod tests {
         for number in [14, 16, 17] {
             assert_eq!(Refusal { number, offset: 0 }.ground(), None);
         }
-        // That of a look-up.
-        assert_eq!(Refusal { number: 19, offset: 0 }.ground(), None);
-        assert_eq!(MoldRefusal { number: 19, offset: 0 }.ground(), None);
+        // Those of a look-up and of a lot.
+        for number in [19, 20, 21, 22] {
+            assert_eq!(Refusal { number, offset: 0 }.ground(), None);
+            assert_eq!(MoldRefusal { number, offset: 0 }.ground(), None);
+        }
     }
 
     #[test]

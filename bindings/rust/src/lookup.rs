@@ -200,7 +200,7 @@ mod tests {
 
     #[test]
     fn a_number_not_known() {
-        // Those of sheets among them, but 1.
+        // Those of sheets among them, but 1, and of lots.
         for number in [2, 13, 14, 15, 18, 20, u32::MAX] {
             let refusal = in_three(number, 64, 32).unwrap_err();
             assert_eq!((refusal.number, refusal.offset, refusal.ground()), (number, 64, None));

@@ -1,8 +1,8 @@
 //! The boundary as programs in C and C++ see it: each in this folder is compiled against
 //! include/hatmuyon.h, linked with the archive and run.
 
-use hatmuyon::ffi::{self, Answer, Part};
-use hatmuyon::{Grade, Ground, LookupGround, MoldGround, Standing};
+use hatmuyon::ffi::{self, Answer, LotAnswer, Part};
+use hatmuyon::{Grade, Ground, LookupGround, LotGround, MoldGround, Standing};
 use std::collections::{BTreeMap, BTreeSet};
 use std::mem::{align_of, offset_of, size_of};
 use std::path::Path;
@@ -67,6 +67,14 @@ fn same_as_in_c() {
     put("part offset size", size_of::<usize>());
     put("part length offset", offset_of!(Part, length));
     put("part length size", size_of::<usize>());
+    put("lot answer size", size_of::<LotAnswer>());
+    put("lot answer alignment", align_of::<LotAnswer>());
+    put("lot number offset", offset_of!(LotAnswer, number));
+    put("lot number size", size_of::<u32>());
+    put("lot grade offset", offset_of!(LotAnswer, grade));
+    put("lot grade size", size_of::<u8>());
+    put("lot offset offset", offset_of!(LotAnswer, offset));
+    put("lot offset size", size_of::<usize>());
     put("plan mark", hatmuyon::PLAN_MARK.into());
     put("unit mark", hatmuyon::UNIT_MARK.into());
     put("redesignation mark", hatmuyon::REDESIGNATION_MARK.into());
@@ -83,6 +91,8 @@ fn same_as_in_c() {
     put("mold opening size", hatmuyon::MOLD_OPENING_SIZE);
     put("mold unit size", hatmuyon::MOLD_UNIT_SIZE);
     put("mold result size", hatmuyon::MOLD_RESULT_SIZE);
+    put("lot mark", hatmuyon::LOT_MARK.into());
+    put("lot size", hatmuyon::LOT_SIZE);
     put("most units", hatmuyon::MOST_UNITS);
     put("largest count", hatmuyon::LARGEST_COUNT.into());
     put("largest plan number", hatmuyon::LARGEST_PLAN_NUMBER.into());
@@ -121,6 +131,9 @@ fn same_as_in_c() {
     put("not on this sheet", ffi::NOT_ON_THIS_SHEET as usize);
     for ground in LookupGround::ALL {
         put(&format!("look-up {ground:?}"), ground.number() as usize);
+    }
+    for ground in LotGround::ALL {
+        put(&format!("lot {ground:?}"), ground.number() as usize);
     }
 
     let text = printed_by("layout.c", "cc", "c99", &[]);
@@ -192,6 +205,7 @@ fn same_declarations_as_in_c() {
         &["hatmuyon_grade", "hatmuyon_grade_mold", "hatmuyon_regrade"],
     );
     same("\nstruct hatmuyon_part ", ") -> Part;", &["hatmuyon_find_code"]);
+    same("\nstruct hatmuyon_lot_answer ", ") -> LotAnswer;", &["hatmuyon_grade_lot"]);
 }
 
 #[test]
@@ -204,7 +218,7 @@ fn empty_vectors_in_cpp() {
     assert_eq!(printed_by("nullable.c", "c++", "c++11", &[]), "");
 }
 
-/// A look-up reads no byte too many, and writes none.
+/// A look-up and the grading of a lot read no byte too many, and write none.
 #[test]
 fn reading_in_c() {
     assert_eq!(printed_by("reading.c", "cc", "c99", &[]), "");
@@ -212,11 +226,18 @@ fn reading_in_c() {
 
 #[test]
 fn stack_at_most_that_of_the_header() {
-    let [plan, sheets @ ..] =
-        ["buyer.plan", "buyer.sheet", "peach.sheet", "pea.sheet", "damaged.sheet", "tomato.mold"]
-            .map(|name| format!("../../examples/{name}"));
+    let [plan, sheets @ ..] = [
+        "buyer.plan",
+        "buyer.sheet",
+        "peach.sheet",
+        "pea.sheet",
+        "damaged.sheet",
+        "tomato.mold",
+        "warehouse.lot",
+    ]
+    .map(|name| format!("../../examples/{name}"));
     let text = printed_by("stack.c", "cc", "c99", &[vec![plan], sheets.to_vec()].concat());
     let used: Vec<usize> = text.lines().map(|line| line.parse().expect("not a number")).collect();
-    assert_eq!(used.len(), 4 * sheets.len());
+    assert_eq!(used.len(), 5 * sheets.len());
     assert!(used.iter().all(|&used| used <= ffi::STACK_SIZE), "{used:?} bytes of stack");
 }

@@ -13,6 +13,11 @@ struct part_behind_a_byte {
     struct hatmuyon_part part;
 };
 
+struct lot_behind_a_byte {
+    char byte;
+    struct hatmuyon_lot_answer lot;
+};
+
 static void value(const char *name, size_t value)
 {
     printf("%s %zu\n", name, value);
@@ -25,6 +30,10 @@ static void value(const char *name, size_t value)
 #define PART(field) \
     value("part " #field " offset", offsetof(struct hatmuyon_part, field)); \
     value("part " #field " size", sizeof(((struct hatmuyon_part *)0)->field))
+
+#define LOT(field) \
+    value("lot " #field " offset", offsetof(struct hatmuyon_lot_answer, field)); \
+    value("lot " #field " size", sizeof(((struct hatmuyon_lot_answer *)0)->field))
 
 int main(void)
 {
@@ -45,6 +54,12 @@ int main(void)
     PART(offset);
     PART(length);
 
+    value("lot answer size", sizeof(struct hatmuyon_lot_answer));
+    value("lot answer alignment", offsetof(struct lot_behind_a_byte, lot));
+    LOT(number);
+    LOT(grade);
+    LOT(offset);
+
     value("plan mark", HATMUYON_PLAN_MARK);
     value("unit mark", HATMUYON_UNIT_MARK);
     value("redesignation mark", HATMUYON_REDESIGNATION_MARK);
@@ -64,6 +79,9 @@ int main(void)
     value("mold opening size", HATMUYON_MOLD_OPENING_SIZE);
     value("mold unit size", HATMUYON_MOLD_UNIT_SIZE);
     value("mold result size", HATMUYON_MOLD_RESULT_SIZE);
+
+    value("lot mark", HATMUYON_LOT_MARK);
+    value("lot size", HATMUYON_LOT_SIZE);
 
     value("most units", HATMUYON_MOST_UNITS);
     value("largest count", HATMUYON_LARGEST_COUNT);
@@ -125,5 +143,13 @@ int main(void)
     value("found", HATMUYON_FOUND);
     value("not on this sheet", HATMUYON_NOT_ON_THIS_SHEET);
     value("look-up NotWholeRecords", HATMUYON_REFUSED_NOT_WHOLE_RECORDS);
+
+    value("lot UnknownMark", HATMUYON_REFUSED_UNKNOWN_MARK);
+    value("lot WrongLength", HATMUYON_REFUSED_CUT_SHORT);
+    value("lot CountTooLarge", HATMUYON_REFUSED_COUNT_TOO_LARGE);
+    value("lot BadPrerequisite", HATMUYON_REFUSED_BAD_UNIT_FIELD);
+    value("lot BadSampleUnits", HATMUYON_REFUSED_BAD_SAMPLE_UNITS);
+    value("lot UnlistedAql", HATMUYON_REFUSED_UNLISTED_AQL);
+    value("lot FallingAql", HATMUYON_REFUSED_FALLING_AQL);
     return 0;
 }

@@ -1,20 +1,22 @@
 /*
- * hatmuyon_grade_nullable, hatmuyon_grade_mold_nullable, hatmuyon_regrade_nullable and
- * hatmuyon_find_code_nullable with null pointers and, compiled as C++, with empty vectors. The first
- * thing that is not as it should be is printed, and the exit status is 1.
+ * hatmuyon_grade_nullable, hatmuyon_grade_mold_nullable, hatmuyon_regrade_nullable,
+ * hatmuyon_find_code_nullable and hatmuyon_grade_lot_nullable with null pointers and, compiled as C++,
+ * with empty vectors. The first thing that is not as it should be is printed, and the exit status is 1.
  *
- * The header's functions call watched_grade, watched_grade_mold, watched_regrade and
- * watched_find_code here, which look at the pointers and call the archive.
+ * The header's functions call watched_grade, watched_grade_mold, watched_regrade, watched_find_code and
+ * watched_grade_lot here, which look at the pointers and call the archive.
  */
 #define hatmuyon_grade watched_grade
 #define hatmuyon_grade_mold watched_grade_mold
 #define hatmuyon_regrade watched_regrade
 #define hatmuyon_find_code watched_find_code
+#define hatmuyon_grade_lot watched_grade_lot
 #include "hatmuyon.h"
 #undef hatmuyon_grade
 #undef hatmuyon_grade_mold
 #undef hatmuyon_regrade
 #undef hatmuyon_find_code
+#undef hatmuyon_grade_lot
 
 #include <stdio.h>
 #include <stdlib.h>
@@ -27,6 +29,7 @@ static const uint8_t *last_sheet;
 static const uint8_t *last_plan;
 static uint8_t *last_results;
 static const uint8_t *last_finished;
+static const uint8_t *last_lot;
 
 static void must(int holds, const char *what, int line)
 {
@@ -51,6 +54,7 @@ struct hatmuyon_answer hatmuyon_regrade(const uint8_t *sheet, size_t sheet_lengt
                                         uint8_t *results, size_t results_length);
 struct hatmuyon_part hatmuyon_find_code(const uint8_t *results, size_t results_length,
                                         uint16_t code);
+struct hatmuyon_lot_answer hatmuyon_grade_lot(const uint8_t *lot, size_t lot_length);
 
 static struct hatmuyon_answer watched(grading *archive, const uint8_t *sheet, size_t sheet_length,
                                       uint8_t *results, size_t results_length)
@@ -94,6 +98,13 @@ struct hatmuyon_part watched_find_code(const uint8_t *results, size_t results_le
     return hatmuyon_find_code(results, results_length, code);
 }
 
+struct hatmuyon_lot_answer watched_grade_lot(const uint8_t *lot, size_t lot_length)
+{
+    MUST(lot != NULL);
+    last_lot = lot;
+    return hatmuyon_grade_lot(lot, lot_length);
+}
+
 #ifdef __cplusplus
 }
 #endif
@@ -106,6 +117,11 @@ static int is(struct hatmuyon_answer answer, uint32_t number, size_t units, size
 static int is_part(struct hatmuyon_part part, uint32_t number, size_t offset, size_t length)
 {
     return part.number == number && part.offset == offset && part.length == length;
+}
+
+static int is_lot(struct hatmuyon_lot_answer answer, uint32_t number, uint8_t grade)
+{
+    return answer.number == number && answer.grade == grade && answer.offset == 0;
 }
 
 /* Tries the nullable form of a grading on a sheet of one unit: its first bytes, so many, are a sheet
@@ -240,6 +256,41 @@ static void try_find_code(void)
 #endif
 }
 
+/* Tries hatmuyon_grade_lot_nullable on a lot without a defect, whose AQLs are all 1.0. */
+static void try_grade_lot(void)
+{
+    enum { LOT = HATMUYON_LOT_SIZE, AQLS = 12 };
+    uint8_t lot[LOT] = {HATMUYON_LOT_MARK >> 8, HATMUYON_LOT_MARK & 0xFF, 6}, kept[LOT];
+    int aql;
+
+    for (aql = 0; aql < AQLS; aql++)
+        lot[3 + 2 * aql + 1] = 10;
+    lot[LOT - 1] = HATMUYON_GRADE_B;
+    memcpy(kept, lot, LOT);
+
+    MUST(is_lot(hatmuyon_grade_lot_nullable(NULL, 0), HATMUYON_REFUSED_UNKNOWN_MARK,
+                HATMUYON_GRADE_SUBSTANDARD));
+    /* A pointer whose length is 0 need not be null. */
+    MUST(is_lot(hatmuyon_grade_lot_nullable(lot, 0), HATMUYON_REFUSED_UNKNOWN_MARK,
+                HATMUYON_GRADE_SUBSTANDARD));
+    MUST(last_lot != lot);
+    MUST(is_lot(hatmuyon_grade_lot_nullable(lot, LOT), HATMUYON_ACCEPTED, HATMUYON_GRADE_B));
+    MUST(last_lot == lot);
+    MUST(is_lot(hatmuyon_grade_lot_nullable(lot, LOT - 1), HATMUYON_REFUSED_CUT_SHORT,
+                HATMUYON_GRADE_SUBSTANDARD));
+    MUST(memcmp(lot, kept, LOT) == 0);
+
+#ifdef __cplusplus
+    const std::vector<uint8_t> nothing;
+    const std::vector<uint8_t> vector_lot(lot, lot + LOT);
+    const auto grade_lot = [](const std::vector<uint8_t> &in) {
+        return hatmuyon_grade_lot_nullable(in.data(), in.size());
+    };
+    MUST(is_lot(grade_lot(nothing), HATMUYON_REFUSED_UNKNOWN_MARK, HATMUYON_GRADE_SUBSTANDARD));
+    MUST(is_lot(grade_lot(vector_lot), HATMUYON_ACCEPTED, HATMUYON_GRADE_B));
+#endif
+}
+
 int main(void)
 {
     enum { PLAN = HATMUYON_PLAN_SIZE, TALLY = PLAN + HATMUYON_UNIT_SIZE };
@@ -255,5 +306,6 @@ int main(void)
              HATMUYON_MOLD_RESULT_SIZE);
     try_regrade(tally, TALLY);
     try_find_code();
+    try_grade_lot();
     return 0;
 }

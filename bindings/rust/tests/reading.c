@@ -1,7 +1,7 @@
 /*
- * How far hatmuyon_find_code reads. The results end right before memory that cannot be read, so that a
- * byte too many ends the program, and at last lie in memory that cannot be written. The first thing that
- * is not as it should be is printed, and the exit status is 1.
+ * How far hatmuyon_find_code and hatmuyon_grade_lot read. The results, or the lot, end right before
+ * memory that cannot be read, so that a byte too many ends the program, and at last lie in memory that
+ * cannot be written. The first thing that is not as it should be is printed, and the exit status is 1.
  */
 #define _DEFAULT_SOURCE
 #include <stdio.h>
@@ -25,6 +25,11 @@ static void must(int holds, const char *what, int line)
 static int is(struct hatmuyon_part part, uint32_t number, size_t offset, size_t length)
 {
     return part.number == number && part.offset == offset && part.length == length;
+}
+
+static int is_lot(struct hatmuyon_lot_answer answer, uint32_t number, uint8_t grade)
+{
+    return answer.number == number && answer.grade == grade && answer.offset == 0;
 }
 
 static void put(uint8_t *record, uint16_t code, uint8_t portion_grade)
@@ -64,6 +69,62 @@ static void ends_at_every_place(uint8_t *end, size_t page)
         }
 }
 
+enum { LOT = HATMUYON_LOT_SIZE, MINOR = LOT - 3 };
+
+/* A lot of six sample units with so many minor defects and the prerequisite grade A. The AQLs are 1.0,
+ * 1.5 and 12.5 at A, B and C, so that with nine defects all grades are looked at. */
+static void put_lot(uint8_t *lot, uint8_t minor)
+{
+    static const uint8_t aqls[] = {10, 15, 125};
+    int cell;
+
+    memset(lot, 0, LOT);
+    lot[0] = HATMUYON_LOT_MARK >> 8;
+    lot[1] = HATMUYON_LOT_MARK & 0xFF;
+    lot[2] = 6;
+    for (cell = 0; cell < 12; cell++)
+        lot[3 + 2 * cell + 1] = aqls[cell / 4];
+    lot[MINOR + 1] = minor;
+}
+
+/* Lots that end where memory that cannot be read begins, in memory that cannot be written. */
+static void grades_lots(uint8_t *pages, uint8_t *end, size_t page)
+{
+    static const struct {
+        uint8_t minor, grade;
+    } lots[] = {{0, HATMUYON_GRADE_A}, {1, HATMUYON_GRADE_A}, {8, HATMUYON_GRADE_C},
+                {9, HATMUYON_GRADE_SUBSTANDARD}};
+    uint8_t *lot = end - LOT;
+
+    for (size_t i = 0; i < sizeof lots / sizeof lots[0]; i++) {
+        MUST(mprotect(pages, page, PROT_READ | PROT_WRITE) == 0);
+        put_lot(lot, lots[i].minor);
+        MUST(mprotect(pages, page, PROT_READ) == 0);
+        MUST(is_lot(hatmuyon_grade_lot(lot, LOT), HATMUYON_ACCEPTED, lots[i].grade));
+    }
+
+    /* A lot of another length is not read behind its mark, and without one it is not read at all. */
+    MUST(mprotect(pages, page, PROT_READ | PROT_WRITE) == 0);
+    for (size_t readable = 2; readable < LOT; readable++) {
+        put_lot(end - LOT, 0);
+        memmove(end - readable, lot, readable);
+        MUST(is_lot(hatmuyon_grade_lot(end - readable, readable), HATMUYON_REFUSED_CUT_SHORT,
+                    HATMUYON_GRADE_SUBSTANDARD));
+        MUST(is_lot(hatmuyon_grade_lot(end - readable, LOT + 1), HATMUYON_REFUSED_CUT_SHORT,
+                    HATMUYON_GRADE_SUBSTANDARD));
+        MUST(is_lot(hatmuyon_grade_lot(end - readable, SIZE_MAX / 2), HATMUYON_REFUSED_CUT_SHORT,
+                    HATMUYON_GRADE_SUBSTANDARD));
+    }
+    MUST(is_lot(hatmuyon_grade_lot(end, 0), HATMUYON_REFUSED_UNKNOWN_MARK,
+                HATMUYON_GRADE_SUBSTANDARD));
+    MUST(is_lot(hatmuyon_grade_lot(end, 1), HATMUYON_REFUSED_UNKNOWN_MARK,
+                HATMUYON_GRADE_SUBSTANDARD));
+    /* A wrong mark ends the reading, too. */
+    end[-2] = 0;
+    MUST(is_lot(hatmuyon_grade_lot(end - 2, LOT), HATMUYON_REFUSED_UNKNOWN_MARK,
+                HATMUYON_GRADE_SUBSTANDARD));
+}
+
 int main(void)
 {
     size_t page = (size_t)sysconf(_SC_PAGESIZE);
@@ -93,5 +154,7 @@ int main(void)
     /* What is refused is not read. */
     MUST(is(hatmuyon_find_code(end, 1, 7), HATMUYON_REFUSED_NOT_WHOLE_RECORDS, 0, 0));
     MUST(is(hatmuyon_find_code(end, RESULT + 1, 7), HATMUYON_REFUSED_NOT_WHOLE_RECORDS, 0, 0));
+
+    grades_lots(pages, end, page);
     return 0;
 }

@@ -1,7 +1,7 @@
 /*
  * Prints the bytes of stack that each function takes, hatmuyon_grade, hatmuyon_grade_mold,
- * hatmuyon_regrade under the plan named and then hatmuyon_find_code in the result buffer of that, for
- * each sheet named: stack PLANFILE FILE...
+ * hatmuyon_regrade under the plan named, then hatmuyon_find_code in the result buffer of that, and
+ * hatmuyon_grade_lot, for each sheet or lot named: stack PLANFILE FILE...
  *
  * A thread paints the unused part of its stack, calls, and looks how far down the paint is gone. It
  * counts from its own frame, so that the figure is that of the function and a little more.
@@ -25,7 +25,7 @@ static size_t sheet_length;
 static uint8_t plan[65536];
 static size_t plan_length;
 static uint8_t results[HATMUYON_RESULT_SIZE * HATMUYON_MOST_UNITS];
-static enum { GRADE, GRADE_MOLD, REGRADE, FIND_CODE, FUNCTIONS } function;
+static enum { GRADE, GRADE_MOLD, REGRADE, FIND_CODE, GRADE_LOT, FUNCTIONS } function;
 static size_t used;
 
 static void *call(void *nothing)
@@ -41,8 +41,10 @@ static void *call(void *nothing)
         hatmuyon_grade_mold(sheet, sheet_length, results, sizeof results);
     else if (function == REGRADE)
         hatmuyon_regrade(sheet, sheet_length, plan, plan_length, results, sizeof results);
-    else
+    else if (function == FIND_CODE)
         hatmuyon_find_code(results, sizeof results, 5);
+    else
+        hatmuyon_grade_lot(sheet, sheet_length);
     for (byte = stack.bytes; *byte == PAINT && byte < frame - UNPAINTED; byte++)
         ;
     used = (size_t)(frame - byte);

@@ -4,19 +4,22 @@
 //! overshoots, on the bytes that the library left. For every fourth case also a mold sheet (A.2 of
 //! paper 02), with the first half of demand 3, a regrading and a pair of them (A.5), with both halves,
 //! a look-up of one code (A.6), which is also made in the results that gradings and regradings left,
-//! and a sheet and a regrading with the largest CuSums (A.7). At the end every count there is (A.3).
+//! a sheet and a regrading with the largest CuSums (A.7), and a warehouse lot and a pair of them (A.8).
+//! At the end every count there is (A.3), and every acceptance number of a lot.
 //!
 //! `differential [CASES [SEED]]`. A sheet on which the two differ is written to a file and named, of a
-//! look-up the results. A run of 10,000 cases or more also fails if one of the things that it counts
-//! never came up.
+//! look-up the results, and of a lot the lot. A run of 10,000 cases or more also fails if one of the
+//! things that it counts never came up, those of lots from 10,000 lots on.
 
 mod counts;
 mod largest;
 mod lookup;
+mod lot;
 mod mold;
 mod regrade;
 
 use grader::generate::{self, seed_of, Counts, Dice};
+use grader::generate_lot::LotCounts;
 use grader::rules::{Graded, Row, What, RECOVERED};
 use grader::{check, failure, sheet, Answer};
 use hatmuyon::{ffi, PLAN_SIZE, RESULT_SIZE, UNIT_SIZE};
@@ -27,7 +30,8 @@ const GUARD: usize = 32;
 /// Offset of the overshoot of critical defects in a result record, four bytes with the high byte
 /// first; the other three follow.
 const OVERSHOOTS: usize = 16;
-/// From so many cases on, everything that is counted must come up.
+/// From so many cases on, everything that is counted must come up; from so many lots on, what is
+/// counted of lots.
 const WHOLE: u64 = 10_000;
 /// Up to so many units of a tally sheet the first half of demand 3, quadratic in them, is computed.
 const MOST_COMPUTED: usize = 60;
@@ -291,10 +295,10 @@ fn main() {
     let seed: u64 = arguments.next().unwrap_or(19_780_801);
     assert_eq!(RESULT_SIZE, grader::RESULT_SIZE, "bytes of a result record, library and grader");
     let start = Instant::now();
-    let mut counts = Counts::default();
+    let (mut counts, mut lot_counts) = (Counts::default(), LotCounts::default());
     let (mut checked, mut pairs, mut graded_pairs, mut molds, mut molds_checked) = (0, 0, 0, 0, 0);
     let (mut regradings, mut regradings_checked, mut regraded_pairs, mut lookups) = (0, 0, 0, 0);
-    let (mut largest, mut largest_checked) = (0, 0);
+    let (mut largest, mut largest_checked, mut lots, mut lot_pairs) = (0, 0, 0, 0);
     for case in 0..cases {
         let seed = seed_of(seed, case);
         let long = case % 500 == 0;
@@ -320,6 +324,10 @@ fn main() {
             largest_checked += usize::from(largest::compare(seed, &mut counts));
             largest_checked += usize::from(largest::compare_regrading(seed, &mut counts));
             largest += 1;
+            lot::compare(seed, &mut lot_counts);
+            lots += 1;
+            lot::monotone(seed, &mut lot_counts);
+            lot_pairs += 1;
         }
         // More often than a long sheet, as fewer of them are refused behind the breaks.
         if case % 200 == 0 {
@@ -327,10 +335,13 @@ fn main() {
             regradings += 1;
             lookup::compare_long(seed, &mut counts);
             lookups += 1;
+            lot::compare_long(seed, &mut lot_counts);
+            lots += 1;
         }
     }
     let (defects, fields) = (counts::defects(), counts::fields());
-    print!("{counts}");
+    let around = lot::table(&mut lot_counts);
+    print!("{counts}{lot_counts}");
     println!(
         "{checked:>9}  sheets whose recorded CuSums are the 'largest of' form, overshoots by sums"
     );
@@ -347,15 +358,17 @@ fn main() {
     );
     println!("{defects:>9}  sheets with every count from 0 to 2,000 in each kind and in all kinds");
     println!("{fields:>9}  mold sheets with every number of fields from 0 to 25 at each level");
-    // A short run need not have everything.
-    if let Some(name) = counts.missing().find(|_| cases >= WHOLE) {
+    println!("{around:>9}  lots with a count at every acceptance number and one above, by class");
+    // A short run need not have everything, and one of few lots not everything of them.
+    let in_lots = lot_counts.missing().filter(|_| lots >= WHOLE);
+    if let Some(name) = counts.missing().filter(|_| cases >= WHOLE).chain(in_lots).next() {
         println!("differential: no case has: {name}");
         std::process::exit(1);
     }
     println!(
         "differential: {cases} sheets, {pairs} pairs, {molds} mold sheets, {regradings} regradings, \
          {regraded_pairs} pairs of them, {lookups} look-ups, {largest} sheets and as many regradings \
-         with the largest CuSums agree, seed {seed}, {:.1} s",
+         with the largest CuSums, {lots} lots, {lot_pairs} pairs of them agree, seed {seed}, {:.1} s",
         start.elapsed().as_secs_f64()
     );
 }
