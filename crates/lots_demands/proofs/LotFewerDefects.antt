@@ -1,19 +1,16 @@
 -- Demand 3 for lots: with fewer defects a grade admits every class that it admitted, so that the best one is not worse.
 use Prim.Native.Nat.{ℕ, zero, suc, _+_, _*_, _≤_, _<_}
-use mathlib.Core.Path.{_≡_, refl, sym, _∙_}
+use mathlib.Core.Path.{_≡_}
 use mathlib.Core.Bool.{true}
 use mathlib.Core.List.{List}
 use mathlib.Core.Logic.{inl, inr}
 use native.Mathlib.Omega.{arith}
-use Rattle.encoding.specs.Bytes.{byte}
 use Rattle.units.proofs.Lists.{all-each, each-all}
 use Rattle.grounds.proofs.Tells.{told}
-use Rattle.lots.specs.Layout.{prerequisite}
-use Rattle.lots.specs.Acceptance.{acceptanceNumber}
 use Rattle.lots.specs.Grading.{admitsClass, admits, defectGrade, lotGrade}
 use Rattle.lots_demands.specs.LotFields.{sampleUnitsAt, aqlAt, classCount}
 use Rattle.lots_demands.specs.LotGrades.{Admits}
-use Rattle.lots_demands.specs.LotFewerDefects.{AlikeLots, NoMoreDefects, AcceptedWith, LotFewerDefects}
+use Rattle.lots_demands.specs.LotFewerDefects.{AlikeLots, NoMoreDefects, LotFewerDefects}
 use Rattle.lots_demands.proofs.Best.{first-mono}
 use Rattle.lots_demands.proofs.LotGrades.{tells-class, accepted-grade}
 

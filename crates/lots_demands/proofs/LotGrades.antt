@@ -2,27 +2,26 @@
 -- followed by grades that admit it, since no AQL falls and a larger AQL never has a smaller acceptance number; so the defect grade is the
 -- lowest of the classes' own.
 use Prim.Native.Nat.{ℕ, zero, suc, _≤_, _<_, max}
-use mathlib.Core.Path.{_≡_, refl, sym, _∙_, ap, subst, subst⁻¹}
+use mathlib.Core.Path.{_≡_, refl, sym, _∙_, ap, subst}
 use mathlib.Core.Bool.{Bool, true, false}
 use mathlib.Core.List.{List}
 use mathlib.Core.Logic.{_⊎_, inl, inr}
 use native.Mathlib.Omega.{arith}
-use lib.Dec.{leb, ltb, eqb}
-use lib.ListN.{length}
+use lib.Dec.{ltb, eqb}
 use borrow.Author.Tests.{ltb-true, ltb-false, eqb-true, eqb-false}
 use Rattle.units.specs.Conditions.{pick}
 use Rattle.grounds.specs.Tells.{Tells}
 use Rattle.grounds.proofs.Tells.{tells-le, tells-as, tells-all}
-use Rattle.lots.specs.Layout.{classes, sampleUnits, aqlOf, countOfClass}
+use Rattle.lots.specs.Layout.{sampleUnits, aqlOf, countOfClass}
 use Rattle.lots.specs.Acceptance.{acceptanceNumber}
 use Rattle.lots.specs.Refusals.{lotRefusal}
 use Rattle.lots.specs.Grading.{admitsClass, admits, defectGrade, lotGrade}
 use Rattle.lots.specs.Answer.{acceptedLot, refusedLot, lotAnswer}
 use Rattle.lots.specs.declared.LotAnswer.{LotAnswer}
-use Rattle.lots_demands.specs.LotFields.{sampleUnitsAt, aqlAt, classCount, prerequisiteAt}
+use Rattle.lots_demands.specs.LotFields.{sampleUnitsAt, aqlAt, prerequisiteAt}
 use Rattle.lots_demands.specs.LotTable.{ListedSampleUnits, ListedAql}
 use Rattle.lots_demands.specs.LotGrounds.{LotRow, row20, row21, row22}
-use Rattle.lots_demands.specs.LotGrades.{Admits, AdmitsAll, BestWith, DefectGrade, ClassGrade, WorseOf, LowestOf, LotGraded, LotGrades}
+use Rattle.lots_demands.specs.LotGrades.{Admits, AdmitsAll, DefectGrade, ClassGrade, WorseOf, LotGraded, LotGrades}
 use Rattle.lots_demands.proofs.LotFields.{aql-is, class-count-is}
 use Rattle.lots_demands.proofs.LotTable.{lot-table}
 use Rattle.lots_demands.proofs.LotGrounds.{lot-refusals}

@@ -1,10 +1,10 @@
 -- Each row of the table against the test of its refusal, which tells exactly whether the row applies.
 -- Where a number is listed by induction on the list; the AQLs by grade and class.
-use Prim.Native.Nat.{ℕ, zero, suc, _+_, _*_, _/_, _%_, _<_}
+use Prim.Native.Nat.{ℕ, suc, _+_, _*_, _/_, _%_, _<_}
 use mathlib.Core.Path.{_≡_, refl, sym, _∙_, ap, subst, subst⁻¹}
 use mathlib.Core.Bool.{Bool, true, false, cond}
 use mathlib.Core.List.{List, [], _∷_}
-use mathlib.Core.Logic.{_⊎_, inl, inr, ⊎-elim}
+use mathlib.Core.Logic.{_⊎_, inl, inr}
 use native.Mathlib.Omega.{arith}
 use lib.Dec.{eqb}
 use lib.ListN.{length}
@@ -16,7 +16,7 @@ use Rattle.grounds.proofs.Tells.{tells-lt, tells-eq, tells-as, tells-not, tells
 use Rattle.lots.specs.Layout.{classes, kinds, cells, sampleUnits, aqlOfCell, aqlOf, countOfKind}
 use Rattle.lots.specs.Acceptance.{listedSampleUnits, listedAqls}
 use Rattle.lots.specs.Refusals.{noLotMark, notAmong, isUnlisted, aqlFallsInClass, countTooLarge}
-use Rattle.lots_demands.specs.LotFields.{aqlAt, countAt}
+use Rattle.lots_demands.specs.LotFields.{aqlAt}
 use Rattle.lots_demands.specs.LotTable.{OneOf, ListedAql}
 use Rattle.lots_demands.specs.LotGrounds.{NoLotMark, UnlistedSampleUnits, UnlistedAql, FallingAql, CountAbove}
 use Rattle.lots_demands.proofs.LotFields.{aql-is, count-is}

@@ -1,10 +1,9 @@
 -- The table: its rows by computing, and the fact over all of it by one computed test. A test of all numbers in a list holds of each of them.
-use Prim.Native.Nat.{ℕ, _≤_}
-use mathlib.Core.Path.{_≡_, refl, sym, _∙_, subst⁻¹}
-use mathlib.Core.Bool.{Bool, true, false, _||_, true≢false}
-use mathlib.Core.List.{List, [], _∷_}
-use mathlib.Core.Logic.{_⊎_, inl, inr}
-use native.Mathlib.Omega.{arith}
+use Prim.Native.Nat.{ℕ}
+use mathlib.Core.Path.{_≡_, refl}
+use mathlib.Core.Bool.{Bool, true, _||_}
+use mathlib.Core.List.{List, _∷_}
+use mathlib.Core.Logic.{inl, inr}
 use lib.Dec.{leb, ltb}
 use borrow.Author.Tests.{leb-true, le-ltb}
 use Rattle.units.specs.Conditions.{all, placeOf}
