@@ -10,7 +10,7 @@ use borrow.Author.Tests.{leb-true, le-ltb}
 use Rattle.units.specs.Conditions.{all, placeOf}
 use Rattle.units.proofs.Tests.{and-both}
 use Rattle.lots.specs.Acceptance.{listedSampleUnits, listedAqls, acceptanceNumber}
-use Rattle.lots_demands.specs.LotTable.{OneOf, LotTable}
+use Rattle.lots_demands.specs.LotTable.{OneOf, LargerAql, LotTable}
 
 all-of : (p : ℕ → Bool) (list : List ℕ) → all p list ≡ true → (number : ℕ) → OneOf list number → p number ≡ true
 unfolding all
@@ -26,8 +26,7 @@ whole-table : all (λ units. all (λ aql. all (notSmaller units aql) listedAqls)
 unfolding all placeOf acceptanceNumber notSmaller
 whole-table = refl
 
-larger : (units aql larger : ℕ) → OneOf listedSampleUnits units → OneOf listedAqls aql → OneOf listedAqls larger → aql ≤ larger
-    → acceptanceNumber units aql ≤ acceptanceNumber units larger
+larger : LargerAql
 unfolding notSmaller
 larger units aql other is-units is-aql is-other above =
     let at-units = all-of _ listedSampleUnits whole-table units is-units in

@@ -25,6 +25,12 @@ pub record AcceptanceRow (aql at6 at13 at21 at29 : ℕ) : Type 0 where
   pub of-21 : acceptanceNumber 21 aql ≡ at21
   pub of-29 : acceptanceNumber 29 aql ≡ at29
 
+-- "at the same sample units a larger AQL never has a smaller acceptance number"
+abbrev pub LargerAql : Type 0
+LargerAql =
+    (units aql larger : ℕ) → ListedSampleUnits units → ListedAql aql → ListedAql larger → aql ≤ larger
+    → acceptanceNumber units aql ≤ acceptanceNumber units larger
+
 pub record LotTable : Type 0 where
   -- "Acceptance numbers at 6, 13, 21, 29 units are, for AQL 1.0: 1 2 3 4; 1.5: 1 3 4 5; 2.5: 3 4 6 8; 4.0: 4 6 9 11; 5.0: 4 7 11 14;
   -- 12.5: 8 15 22 29."
@@ -34,6 +40,5 @@ pub record LotTable : Type 0 where
   pub aql-4-0 : AcceptanceRow 40 4 6 9 11
   pub aql-5-0 : AcceptanceRow 50 4 7 11 14
   pub aql-12-5 : AcceptanceRow 125 8 15 22 29
-  -- "at the same sample units a larger AQL never has a smaller acceptance number"
-  pub larger-aql : (units aql larger : ℕ) → ListedSampleUnits units → ListedAql aql → ListedAql larger → aql ≤ larger
-      → acceptanceNumber units aql ≤ acceptanceNumber units larger
+  -- one fact over the whole table
+  pub larger-aql : LargerAql
