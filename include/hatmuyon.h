@@ -266,7 +266,8 @@ struct hatmuyon_answer {
 /* What the grading of a lot answers. */
 struct hatmuyon_lot_answer {
     uint32_t number; /* an enum hatmuyon_number */
-    uint8_t grade;   /* accepted: the lot grade, an enum hatmuyon_grade_code; refused: HATMUYON_GRADE_SUBSTANDARD */
+    uint8_t grade;   /* accepted: the lot grade, an enum hatmuyon_grade_code; refused: 3, which is then no grade:
+                      * look at the number first */
     size_t offset;   /* 0; refused: the place, see above */
 };
 
@@ -356,8 +357,8 @@ struct hatmuyon_part hatmuyon_find_code(const uint8_t *results, size_t results_l
  * Nothing is owed of the bytes: any lot may be passed, of any length.
  *
  * It promises:
- *   - it accepts the lot with its grade, or refuses it by one of the numbers for a lot with
- *     HATMUYON_GRADE_SUBSTANDARD, and refuses none to which no ground applies;
+ *   - it accepts the lot with its grade, or refuses it by one of the numbers for a lot, with 3 in the
+ *     place of a grade, and refuses none to which no ground applies;
  *   - no byte of the lot is changed, no other memory is touched but the stack, nothing is allocated,
  *     and nothing is kept from one call to the next;
  *   - it always returns.

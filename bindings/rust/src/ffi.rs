@@ -78,7 +78,7 @@ pub struct LotAnswer {
     /// 0, or the number of the refusal, which from an archive of this version is that of a
     /// [`LotGround`](crate::LotGround).
     pub number: u32,
-    /// Accepted: the lot grade, that of a [`Grade`](crate::Grade). Refused: 3.
+    /// Accepted: the lot grade, that of a [`Grade`](crate::Grade). Refused: 3, which is then no grade.
     pub grade: u8,
     /// 0, accepted or refused.
     pub offset: usize,

@@ -123,7 +123,7 @@ fn count_of_kind(lot: &[u8], kind: usize) -> Defects
     Defects(number_at(lot, COUNTS_OFFSET + NUMBER_SIZE * kind))
 }
 
-// The count of a class; total is the sum of all four, which may pass two bytes: a count is looked at before it is known to be small.
+// The count of a class; total is the sum of all four, four bytes wide, as nothing is asked of the counts here.
 fn count_of_class(lot: &[u8], class: usize) -> u32
     requires { ⌜ (lotSize ≤ length (now lot)) × (class < length classes) ⌝ }
     ensures { λ r. ⌜ r ≡ countOfClass (now (lot .entry)) class .0 ⌝ }

@@ -31,7 +31,7 @@ pub record LotInstances : Type 0 where
   -- B by defects, and C by the prerequisite
   pub defect-grade-better : DefectGrade prerequisiteWorse 1
   pub by-prerequisite : (answer : LotAnswer) → answer ≡ lotAnswer prerequisiteWorse → answer .number ≡ 0 → answer .grade ≡ 2
-  -- one minor defect more, the 30th of all, makes a lot of A one of S, and never the other way round
+  -- 29 defects and 30, alike but for one minor: the first never grades lower (computed, they are A and S)
   pub fewer-minor : (grade grade' : ℕ) → AcceptedWith atNumberAt29UnitsAQL125 grade → AcceptedWith aboveNumberAt29UnitsAQL125 grade' → grade ≤ grade'
   -- at 29 units, AQL 4.0 and 5.0
   pub larger-aql : acceptanceNumber 29 40 ≤ acceptanceNumber 29 50
