@@ -1,19 +1,20 @@
 // Rules 1 and 2 of grading a unit: where a CuSum begins, and what a count, turned into tenths, makes of it.
+#![tactic(auto)]
 ghost use Rattle.std.specs.Prelude.{◌≡◌, ◌-◌, min};
 ghost use Rattle.cusum.specs.Counts.{ten_times, defect_tenths, field_tenths};
 ghost use Rattle.cusum.specs.Step.{largest_tenths, start_of, step_of};
 
 // A count of defects.
-#[derive(Drop)]
+#[derive(Clone, Copy)]
 pub struct Defects(pub u16);
 
 // A count of defective fields, which are those that are positive for mold. A defective field is one however many defects it holds, so that
 // the two counts are never added or compared: no function takes one for the other, and only in tenths do both go through rule 2.
-#[derive(Drop)]
+#[derive(Clone, Copy)]
 pub struct DefectiveFields(pub u8);
 
 // S (start), T (tolerance) and L (acceptance limit) of a class in a plan, in tenths.
-#[derive(Drop)]
+#[derive(Clone, Copy)]
 pub struct PlanNumbers {
     pub start: u16,
     pub tolerance: u16,
@@ -21,13 +22,13 @@ pub struct PlanNumbers {
 }
 
 // A cumulative sum, in tenths.
-#[derive(Drop)]
+#[derive(Clone, Copy)]
 pub struct Cusum {
     pub tenths: u32,
 }
 
 // What a unit makes of a CuSum: the new one, whether the class fails, and the overshoot, by how many tenths the raw value is above L.
-#[derive(Drop)]
+#[derive(Clone, Copy)]
 pub struct Stepped {
     pub cusum: Cusum,
     pub fails: bool,

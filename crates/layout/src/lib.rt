@@ -1,4 +1,5 @@
 // The tally sheet in bytes: its plan and its records, and a walk over them.
+#![tactic(auto)]
 ghost use Rattle.std.specs.Prelude.{◌≡◌, ◌+◌, ◌≤◌, length};
 ghost use Rattle.layout.specs.Layout.{mark_size, plan_numbers_size, plan_size, unit_size, plan_numbers_at, plan_of, mark_at, size_of, sample_unit_at, entry_of, units_in};
 ghost use Rattle.layout.specs.Walk.{first_place, place_after, RoomPast};
@@ -46,7 +47,7 @@ pub const UNIT_SIZE: usize = RECOVERABLE_OFFSET + 1;
 pub const REDESIGNATION_SIZE: usize = GRADE_OFFSET + 1;
 
 // Which record a mark opens.
-#[derive(Drop)]
+#[derive(Clone, Copy)]
 pub enum Mark {
     UnitMark,
     RedesignationMark,
@@ -55,7 +56,7 @@ pub enum Mark {
 }
 
 // Where a walk over the records stands: the number of a record, its offset, the units before it.
-#[derive(Drop)]
+#[derive(Clone, Copy)]
 pub struct Place {
     pub index: usize,
     pub at: usize,

@@ -1,4 +1,5 @@
 // What became of a code: a part of finished results, the first record of the code whose portion grade is the worst that the code has.
+#![tactic(auto)]
 ghost use Rattle.std.specs.Prelude.{◌≡◌};
 ghost use Rattle.lookup.specs.Lookup.{lookup, Handed, handed};
 ghost use Rattle.lookup.specs.Reading.{reading_of};
@@ -11,7 +12,7 @@ use units::SUBSTANDARD;
 // The number of a look-up, 0 found, 1 not on this sheet, 19 refused, and where the part that is handed back stands in the results; the part
 // is empty after 1 and 19.
 #[repr(C)]
-#[derive(Drop)]
+#[derive(Clone, Copy)]
 pub struct Part {
     pub number: u32,
     pub offset: usize,
@@ -20,7 +21,7 @@ pub struct Part {
 
 // A reading of records in their order: the first of the worst portions of a code, or the number of records if none has the code; and how
 // many records were read.
-#[derive(Drop)]
+#[derive(Clone, Copy)]
 pub struct Reading {
     pub first: usize,
     pub read: usize,

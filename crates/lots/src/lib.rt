@@ -1,4 +1,5 @@
 // Grading a warehouse lot by the lot single sampling plan, standard sample unit size 6.
+#![tactic(auto)]
 ghost use Rattle.std.specs.Prelude.{◌≡◌, ◌≤◌, ◌<◌, length};
 ghost use Rattle.units.specs.Conditions.{any, place_of};
 ghost use Rattle.units.specs.Words.{planned_grades};
@@ -54,7 +55,7 @@ const NO_GRADE: u8 = 3;
 
 // Acceptance: 0 and the lot grade. A refusal: its number and 3, which is no grade then. The offset is 0 in both.
 #[repr(C)]
-#[derive(Drop)]
+#[derive(Clone, Copy)]
 pub struct LotAnswer {
     pub number: u32,
     pub grade: u8,

@@ -1,4 +1,5 @@
 // Grading a mold sheet: positive fields out of 25, under the S, T and L of a defect action level.
+#![tactic(auto)]
 ghost use Rattle.std.specs.Prelude.{◌≡◌, cond, ◌+◌, ◌*◌, ◌≤◌, ◌++◌, length, drop};
 ghost use Rattle.std.proofs.lemmas.List.Edits.{sets};
 ghost use Rattle.outcome.specs.Outcome.{Outcome};
@@ -50,7 +51,7 @@ pub const CUSUM_OFFSET: usize = MET_OFFSET + 1;
 pub const RESULT_SIZE: usize = CUSUM_OFFSET + CUSUM_WIDTH;
 
 // A unit of a mold sheet: production code, positive fields.
-#[derive(Drop)]
+#[derive(Clone, Copy)]
 pub struct MoldUnit {
     pub code: u16,
     pub fields: DefectiveFields,

@@ -1,10 +1,11 @@
 // What a grading answers, for every kind of sheet.
+#![tactic(auto)]
 ghost use Rattle.std.specs.Prelude.{◌≡◌};
 ghost use Rattle.outcome.specs.Outcome.{refused_as};
 
 // Acceptance: 0, the number of units, the sheet's length. A refusal: its number, no units, an offset in the sheet.
 #[repr(C)]
-#[derive(Drop)]
+#[derive(Clone, Copy)]
 pub struct Answer {
     pub number: u32,
     pub units: usize,

@@ -1,5 +1,6 @@
 // Reads a sheet from standard input and prints a line a unit, or the refusal. The text is whole before any of it is written, in one
 // go; if the input cannot be read, nothing is printed.
+#![tactic(auto)]
 ghost use Rattle.std.specs.Prelude.{◌≤◌, length};
 
 use libc::{STDIN_FILENO, STDOUT_FILENO};
@@ -7,7 +8,7 @@ use lines::TEXT_SIZE;
 use text::LARGEST_INPUT;
 
 // How many bytes were read, and whether a read failed.
-#[derive(Drop)]
+#[derive(Clone, Copy)]
 struct Reading {
     bytes: usize,
     failed: bool,

@@ -1,4 +1,5 @@
 // The result record of a unit: its bytes, written into the rest of the result buffer.
+#![tactic(auto)]
 ghost use Rattle.std.specs.Prelude.{◌≡◌, ◌≤◌, length};
 ghost use Rattle.std.proofs.lemmas.List.Edits.{sets};
 ghost use Rattle.results.specs.Record.{result_size, result_bytes};
@@ -29,7 +30,7 @@ pub const CUSUM_WIDTH: usize = 2;
 const OVERSHOOT_WIDTH: usize = 4;
 
 // What a result record says of a unit, but for its code grade, which is known last.
-#[derive(Drop)]
+#[derive(Clone, Copy)]
 pub struct ResultRecord {
     pub code: u16,
     pub portion: u8,

@@ -1,4 +1,5 @@
 // The rules of grading over the records of a sheet: step 3, redesignations, breaks.
+#![tactic(auto)]
 ghost use Rattle.std.specs.Prelude.{◌≡◌, false};
 ghost use Rattle.rules.specs.StepThree.{in_force_in, in_force, two_in_a_row, worse_of_two, failure_after, ends_step_three, with_unit, without_run, keeps_step_three, restarted, opening, after_unit, after_redesignation, after_break};
 ghost use Rattle.rules.specs.Sheet.{standing_of};
@@ -10,21 +11,21 @@ pub const RECOVERED: u8 = 3;
 
 // Whether the unit just before failed the plan in force, with its defect grade; a unit that meets, a break, a redesignation and a
 // restart forget it.
-#[derive(Drop)]
+#[derive(Clone, Copy)]
 pub enum Previous {
     NoFailure,
     Failure(u8),
 }
 
 // The designated plan is in force, or that of the lower grade in step 3, with the qualifying units in a row.
-#[derive(Drop)]
+#[derive(Clone, Copy)]
 pub enum Phase {
     Designated,
     StepThree { lower: u8, run: u8 },
 }
 
 // Where the grading stands before a record.
-#[derive(Drop)]
+#[derive(Clone, Copy)]
 pub struct State {
     pub designated: u8,
     pub previous: Previous,

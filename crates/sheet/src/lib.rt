@@ -1,4 +1,5 @@
 // The check of a tally sheet for refusals 1 to 12.
+#![tactic(auto)]
 ghost use Rattle.std.specs.Prelude.{◌≡◌, ◌+◌, ◌≤◌, ◌<◌, length};
 ghost use Rattle.units.specs.Conditions.{any};
 ghost use Rattle.units.specs.Words.{classes};
@@ -22,7 +23,7 @@ pub const LARGEST_COUNT: u16 = 2000;
 pub const MOST_UNITS: usize = 1000;
 
 // A sheet that passes, with the number of its records and of its units; or a refusal, with its number and offset.
-#[derive(Drop)]
+#[derive(Clone, Copy)]
 pub enum Verdict {
     Accepted { records: usize, units: usize },
     Refused { number: u8, offset: usize },

@@ -1,5 +1,6 @@
 // Writing the result records of units that are graded one after the other under one plan, no code graded yet: a break starts every class
 // at its S, and nothing else does.
+#![tactic(auto)]
 ghost use Rattle.std.specs.Prelude.{◌≡◌, true, false, cond, suc, ◌+◌, ◌*◌, ◌≤◌, ◌<◌, length};
 ghost use Rattle.std.proofs.lemmas.List.Edits.{sets};
 ghost use Rattle.units.specs.Words.{has_plan, Table, row_of, tenths_of};
@@ -19,7 +20,7 @@ use units::{
 };
 
 // Where the writing stands: before a record, with the CuSums there.
-#[derive(Drop)]
+#[derive(Clone, Copy)]
 pub struct Reached {
     pub place: Place,
     pub cusums: Cusums,

@@ -1,4 +1,5 @@
 // Grading one sample unit under the plan of a grade: rules 1 to 4, and whether it qualifies.
+#![tactic(auto)]
 ghost use Rattle.std.specs.Prelude.{◌≡◌, cond, map, ◌+◌, ◌*◌, ◌<◌, length};
 ghost use Rattle.units.specs.Words.{planned_grades, classes, cell_of, table_of, no_row, row_of, tenths_of, worse};
 ghost use Rattle.units.specs.Unit.{starting, stepped_in, stepped_under, admits, within_tolerance, all_zero, best_lower, qualifies};
@@ -32,7 +33,7 @@ pub type Overshoots = [u64; CLASSES];
 type Tenths = [u32; CLASSES];
 
 // The designated grade, and S, T and L of grades A, B, C, in each by class.
-#[derive(Drop)]
+#[derive(Clone, Copy)]
 pub struct Plan {
     pub designated: u8,
     pub numbers: [PlanNumbers; CELLS],
@@ -40,7 +41,7 @@ pub struct Plan {
 
 // A sample unit: production code, counts of defects, prerequisite grade; recoverable if its portion, the production that it stands
 // for, is separately coded and within reach.
-#[derive(Drop)]
+#[derive(Clone, Copy)]
 pub struct SampleUnit {
     pub code: u16,
     pub critical: Defects,
@@ -52,7 +53,7 @@ pub struct SampleUnit {
 }
 
 // A record of the sheet behind its plan.
-#[derive(Drop)]
+#[derive(Clone, Copy)]
 pub enum Entry {
     UnitRecord(SampleUnit),
     Redesignation(u8),
@@ -60,7 +61,7 @@ pub enum Entry {
 }
 
 // A unit graded under the plan of a grade: its new CuSums and overshoots, whether it fails, its defect grade.
-#[derive(Drop)]
+#[derive(Clone, Copy)]
 pub struct Grading {
     pub cusums: Cusums,
     pub overshoots: Overshoots,
@@ -69,7 +70,7 @@ pub struct Grading {
 }
 
 // The CuSums after a unit, how far over each class is, and whether a class fails.
-#[derive(Drop)]
+#[derive(Clone, Copy)]
 pub struct SteppedClasses {
     pub cusums: Cusums,
     pub overshoots: Overshoots,
@@ -214,7 +215,7 @@ fn highest_of(numbers: PlanNumbers, limits: bool) -> u64
 }
 
 // Whether no count of a class is above that.
-fn none_above_holds(limits: bool, row: Row, tenths: Tenths) -> bool
+fn none_above(limits: bool, row: Row, tenths: Tenths) -> bool
     ensures { result ≡ cond limits (admits row tenths) (within_tolerance row tenths) }
 {
     let mut class: usize = 0;
@@ -245,10 +246,10 @@ pub fn best_lower(table: Table, grade: u8, unit: SampleUnit) -> u8
     ensures { result ≡ best_lower table grade (tenths_of unit) }
 {
     let tenths = tenths_of(unit);
-    if (grade < 1) & none_above_holds(WITH_LIMIT, row_of(table, 1), tenths) {
+    if (grade < 1) & none_above(WITH_LIMIT, row_of(table, 1), tenths) {
         return 1;
     }
-    if (grade < 2) & none_above_holds(WITH_LIMIT, row_of(table, 2), tenths) {
+    if (grade < 2) & none_above(WITH_LIMIT, row_of(table, 2), tenths) {
         return 2;
     }
     SUBSTANDARD
@@ -259,5 +260,5 @@ pub fn qualifies_with(table: Table, designated: u8, cusums: Cusums, unit: Sample
     ensures { result ≡ qualifies table designated cusums (tenths_of unit) }
 {
     let zero = all_zero(cusums);
-    zero & none_above_holds(TOLERANCE_ALONE, row_of(table, designated), tenths_of(unit))
+    zero & none_above(TOLERANCE_ALONE, row_of(table, designated), tenths_of(unit))
 }

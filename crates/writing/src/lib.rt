@@ -1,4 +1,5 @@
 // Writing the result records of a sheet, no code graded yet.
+#![tactic(auto)]
 ghost use Rattle.std.specs.Prelude.{◌≡◌, true, suc, ◌*◌, ◌<◌, ◌++◌, length, drop};
 ghost use Rattle.rules.specs.StepThree.{next, in_step_three};
 ghost use Rattle.units.specs.declared.Entry.TheVariants.{UnitRecord};
@@ -27,7 +28,7 @@ const ONCE: bool = false;
 const AGAIN: bool = true;
 
 // Where the writing stands: before a record, with the state of the grading there.
-#[derive(Drop)]
+#[derive(Clone, Copy)]
 struct Position {
     place: Place,
     state: State,
