@@ -62,7 +62,7 @@ returns c =
       ← code.grade-letter2.ensures,
       ← standing.standing-letter.ensures,
       ← plan.grade-letter3.ensures,
-    ) c.before.before.put_all_lem.ensures
+    ) c.before.before.put_all.ensures
 
 pub letter-fields-spec : {M : Type 1} → statement M
 letter-fields-spec =

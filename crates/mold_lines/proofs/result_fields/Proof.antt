@@ -34,7 +34,7 @@ tenths-field-requires : tie.Need-tenths-field-requires
 tenths-field-requires c κs =
     let entry = c.before.before.before.before.before.before.before.before.before.before in
     let args = entry.args in
-    let ends = c.before.before.before.put_all_lem.ensures.ends in
+    let ends = c.before.before.before.put_all.ensures.ends in
     (omega (arith, entry.requires), omega (arith, length_fields args.results.now args.j))
 
 put-requires : tie.Need-put-requires
@@ -42,7 +42,7 @@ put-requires c κs =
     let tenths = c.before.before.before in
     let entry = tenths.before.before.before.before.before.before.before.before.before.before.before in
     let args = entry.args in
-    omega (arith, length_fields args.results.now args.j, tenths.tenths-field.ensures.ends, tenths.before.before.before.before.put_all_lem.ensures.ends, entry.requires)
+    omega (arith, length_fields args.results.now args.j, tenths.tenths-field.ensures.ends, tenths.before.before.before.before.put_all.ensures.ends, entry.requires)
 
 same_length : tie.Need-same-length
 same_length c = search rules
@@ -54,7 +54,7 @@ returns c =
     let tenths = put.before.before.before.before in
     let letter = tenths.before.before.before.before in
     rw (← letter.before.before.before.met-letter.ensures)
-    (joined letter.put_all_lem.ensures (joined tenths.tenths-field.ensures put.put.ensures))
+    (joined letter.put_all.ensures (joined tenths.tenths-field.ensures put.put.ensures))
 
 pub result-fields-spec : {M : Type 1} → statement M
 result-fields-spec =

@@ -18,7 +18,7 @@ returns : tie.Need-returns
 returns c =
     let tested = c.before.before in
     let start = tested.before.before.before.before in
-    ap (λ (a : Answer). record { answer = a; buffer = start.args.results.now }) c.IsRefused-as.ensures
+    ap (λ (a : Answer). record { answer = a; buffer = start.args.results.now }) c.refused-as.ensures
     ∙ wrong_plan _ _ _ _ _ start.requires (sym tested.second-plan-wrong.ensures ∙ c.before.if1.true)
 
 mul-if2 : tie.Need-overflow-mul-if2

@@ -42,7 +42,7 @@ returns-2 c =
     let told = c.before.before in
     let checked = told.before.before in
     let start = checked.before.before.before in
-    ap (λ (a : Answer). record { answer = a; buffer = start.args.results.now }) c.IsRefused-as.ensures
+    ap (λ (a : Answer). record { answer = a; buffer = start.args.results.now }) c.refused-as.ensures
     ∙ sym (ap (outcome_by start.args.sheet.now start.args.results.now) (sym checked.check.ensures ∙ told.number.given.1))
 
 pub grade-spec : {M : Type 1} → statement M

@@ -20,7 +20,7 @@ refused-as-requires c κs = search rules
 returns : tie.Need-returns
 returns c =
     let start = c.before.before.before.before in
-    ap (λ (a : Answer). record { answer = a; buffer = start.args.results.now }) c.IsRefused-as.ensures ∙ too_short _ _ _ _ start.requires c.before.if1.true
+    ap (λ (a : Answer). record { answer = a; buffer = start.args.results.now }) c.refused-as.ensures ∙ too_short _ _ _ _ start.requires c.before.if1.true
 
 plan-of-requires : tie.Need-plan-of-requires
 plan-of-requires c κs =

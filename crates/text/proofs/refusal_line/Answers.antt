@@ -28,6 +28,6 @@ put-requires c =
 pub returns : goal.returns
 unfolding rest_of_line line_with refused_line
 returns c =
-    joined c.put_all_lem.ensures
+    joined c.put_all-after_word.ensures
     (joined c.number_field-after_number.ensures
     (joined c.number_field-after_offset.ensures c.put.ensures))

@@ -21,4 +21,4 @@ put_all-requires c =
 pub returns : goal.returns
 unfolding one_decimal
 returns c =
-    rw (← c.number_at-tenths.ensures) (joined c.number_field-after_whole.ensures c.put_all_lem.ensures)
+    rw (← c.number_at-tenths.ensures) (joined c.number_field-after_whole.ensures c.put_all.ensures)

@@ -1,0 +1,11 @@
+-- `any_falling` tests class after class; the loop's invariant is `Tested`: there is one if one is found, or one is left.
+use Prim.Native.Nat.{◌-◌}
+use native.Mathlib.Omega.{arith}
+use Rattle.units.proofs.Lists.{tested_next, tested_last}
+use Rattle.lots.proofs.any_falling.Goals as goal
+
+pub loop-class-preserved : goal.loop-class-preserved
+loop-class-preserved c = tested_next c.loop-class.invariant (omega arith) c.aql_falls_in_class-found.ensures
+
+pub returns : goal.returns
+returns c = tested_last c.loop-class.invariant (omega arith)
