@@ -12,7 +12,7 @@ use Rattle.recording.proofs.write_at.Goals as goal
 pub returns : goal.returns
 returns c =
     let start = c.args in
-    let results = start.ress.now in
+    let results = start.results.now in
     let at = start.at in
     ap (λ (ys : List ℕ). take at results ++ (ys ++ drop (length results - at) (drop at results))) c.write.ensures
     ∙ lent_back results (result_bytes ungraded start.res) at (omega arith)
