@@ -25,6 +25,7 @@ use Rattle.lots_demands.proofs.LotFields.{aql_is, count_is}
 
 not_there_holds : (list : List ℕ) (value : ℕ) → place_of list value ≡ length list → OneOf list value → ⊥
 unfolding place_of
+not_there_holds [] value end one = elim one [ ]
 not_there_holds (first ∷ others) value end one = go (eqb first value) refl (not_there_holds others value) end one
   where
     go : (same : Bool) → eqb first value ≡ same → (place_of others value ≡ length others → OneOf others value → ⊥)

@@ -2,7 +2,7 @@
 use Prim.Native.Nat.{ℕ}
 use mathlib.Core.Path.{◌≡◌, refl}
 use mathlib.Core.Bool.{Bool, true, ◌||◌}
-use mathlib.Core.List.{List, ◌∷◌}
+use mathlib.Core.List.{List, [], ◌∷◌}
 use mathlib.Core.Logic.{inl, inr}
 use lib.Dec.{leb, ltb}
 use borrow.Author.Tests.{leb-true, le-ltb}
@@ -13,6 +13,7 @@ use Rattle.lots_demands.specs.LotTable.{OneOf, LargerAql, LotTable}
 
 all_of : (p : ℕ → Bool) (list : List ℕ) → all p list ≡ true → (number : ℕ) → OneOf list number → p number ≡ true
 unfolding all
+all_of p [] e number one = elim one [ ]
 all_of p (first ∷ others) e number (inl same) = rw same (and_both (p first) (all p others) e).0
 all_of p (first ∷ others) e number (inr later) = all_of p others (and_both (p first) (all p others) e).1 number later
 
