@@ -1,5 +1,6 @@
 // Code grades over the result records in a buffer: each code gets the worst portion grade among all records that have it.
 #![tactic(auto)]
+
 ghost use Rattle.std.specs.Prelude.{◌≡◌, ◌+◌, ◌*◌, ◌≤◌, length};
 ghost use Rattle.results.specs.Record.{result_size};
 ghost use Rattle.codes.specs.Codes.{worst_in, with_code_grades, codes_graded, Ungraded};

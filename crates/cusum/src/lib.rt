@@ -1,5 +1,6 @@
 // Rules 1 and 2 of grading a unit: where a CuSum begins, and what a count, turned into tenths, makes of it.
 #![tactic(auto)]
+
 ghost use Rattle.std.specs.Prelude.{◌≡◌, ◌-◌, min};
 ghost use Rattle.cusum.specs.Counts.{ten_times, defect_tenths, field_tenths};
 ghost use Rattle.cusum.specs.Step.{largest_tenths, start_of, step_of};

@@ -1,5 +1,6 @@
 // Numbers of two and of four bytes, with the high byte first.
 #![tactic(auto)]
+
 ghost use Rattle.std.specs.Prelude.{◌≡◌, ◌+◌, ◌≤◌, eqb, length};
 ghost use Rattle.encoding.specs.Bytes.{number, bytes_of};
 

@@ -1,5 +1,6 @@
 // The grader for C and Rust.
 #![tactic(auto)]
+
 ghost use Rattle.std.specs.Prelude.{◌≡◌};
 ghost use Rattle.outcome.specs.Outcome.{Outcome};
 ghost use Rattle.mold.specs.Outcome.{mold_outcome};

@@ -1,5 +1,6 @@
 // The tally sheet in bytes: its plan and its records, and a walk over them.
 #![tactic(auto)]
+
 ghost use Rattle.std.specs.Prelude.{◌≡◌, ◌+◌, ◌≤◌, length};
 ghost use Rattle.layout.specs.Layout.{mark_size, plan_numbers_size, plan_size, unit_size, plan_numbers_at, plan_of, mark_at, size_of, sample_unit_at, entry_of, units_in};
 ghost use Rattle.layout.specs.Walk.{first_place, place_after, RoomPast};

@@ -1,6 +1,7 @@
 // What the printing program prints, written into the caller's buffer: a line a unit, or the refusal. Each function writes from a place
 // on and answers where its text ends.
 #![tactic(auto)]
+
 ghost use Rattle.std.specs.Prelude.{◌≡◌, ◌+◌, ◌*◌, ◌≤◌, length};
 ghost use Rattle.results.specs.Record.{result_size};
 ghost use Rattle.sheet.specs.Refusals.{most_units};

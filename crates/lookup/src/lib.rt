@@ -1,5 +1,6 @@
 // What became of a code: a part of finished results, the first record of the code whose portion grade is the worst that the code has.
 #![tactic(auto)]
+
 ghost use Rattle.std.specs.Prelude.{◌≡◌};
 ghost use Rattle.lookup.specs.Lookup.{lookup, Handed, handed};
 ghost use Rattle.lookup.specs.Reading.{reading_of};

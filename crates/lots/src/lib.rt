@@ -1,5 +1,6 @@
 // Grading a warehouse lot by the lot single sampling plan, standard sample unit size 6.
 #![tactic(auto)]
+
 ghost use Rattle.std.specs.Prelude.{◌≡◌, ◌≤◌, ◌<◌, length};
 ghost use Rattle.units.specs.Conditions.{any, place_of};
 ghost use Rattle.units.specs.Words.{planned_grades};

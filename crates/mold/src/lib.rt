@@ -1,5 +1,6 @@
 // Grading a mold sheet: positive fields out of 25, under the S, T and L of a defect action level.
 #![tactic(auto)]
+
 ghost use Rattle.std.specs.Prelude.{◌≡◌, cond, ◌+◌, ◌*◌, ◌≤◌, ◌++◌, length, drop};
 ghost use Rattle.std.proofs.lemmas.List.Edits.{sets};
 ghost use Rattle.outcome.specs.Outcome.{Outcome};

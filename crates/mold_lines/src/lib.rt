@@ -1,5 +1,6 @@
 // What is printed for a mold sheet, written into the caller's buffer: a line a unit, or the refusal.
 #![tactic(auto)]
+
 ghost use Rattle.std.specs.Prelude.{◌≡◌, ◌+◌, ◌*◌, ◌≤◌, length};
 ghost use Rattle.text.specs.Text.{rest_of_line, lines_by, Printing};
 ghost use Rattle.text.specs.Wrote.{Wrote};

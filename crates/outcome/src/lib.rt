@@ -1,5 +1,6 @@
 // What a grading answers, for every kind of sheet.
 #![tactic(auto)]
+
 ghost use Rattle.std.specs.Prelude.{◌≡◌};
 ghost use Rattle.outcome.specs.Outcome.{refused_as};
 

@@ -1,6 +1,7 @@
 // Reads a sheet from standard input and prints a line a unit, or the refusal. The text is whole before any of it is written, in one
 // go; if the input cannot be read, nothing is printed.
 #![tactic(auto)]
+
 ghost use Rattle.std.specs.Prelude.{◌≤◌, length};
 
 use libc::{STDIN_FILENO, STDOUT_FILENO};

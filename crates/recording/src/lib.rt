@@ -1,5 +1,6 @@
 // What is recorded of a unit, written into its result record; and recovery in the records that are written.
 #![tactic(auto)]
+
 ghost use Rattle.std.specs.Prelude.{◌≡◌, false, ◌+◌, ◌*◌, ◌≤◌, length};
 ghost use Rattle.std.proofs.lemmas.List.Edits.{sets};
 ghost use Rattle.results.specs.Record.{result_size, result_bytes};

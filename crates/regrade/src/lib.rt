@@ -1,6 +1,7 @@
 // Grading a recorded sheet again under a second plan record: the sheet's own check, refusals 18 and 13, the result records, the code
 // grades.
 #![tactic(auto)]
+
 ghost use Rattle.std.specs.Prelude.{◌≡◌, ◌++◌, ◌*◌, length, drop};
 ghost use Rattle.layout.specs.Layout.{entry_at, units_before};
 ghost use Rattle.sheet.specs.Refusals.{verdict};

@@ -1,5 +1,6 @@
 // What is printed for a regrading, written into the caller's buffer: the lines of the printing program, or the refusal.
 #![tactic(auto)]
+
 ghost use Rattle.std.specs.Prelude.{◌≡◌};
 ghost use Rattle.text.specs.Text.{Printing};
 ghost use Rattle.regrade_lines.specs.RegradeLines.{regrade_printing};

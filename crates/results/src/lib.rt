@@ -1,5 +1,6 @@
 // The result record of a unit: its bytes, written into the rest of the result buffer.
 #![tactic(auto)]
+
 ghost use Rattle.std.specs.Prelude.{◌≡◌, ◌≤◌, length};
 ghost use Rattle.std.proofs.lemmas.List.Edits.{sets};
 ghost use Rattle.results.specs.Record.{result_size, result_bytes};

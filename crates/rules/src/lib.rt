@@ -1,5 +1,6 @@
 // The rules of grading over the records of a sheet: step 3, redesignations, breaks.
 #![tactic(auto)]
+
 ghost use Rattle.std.specs.Prelude.{◌≡◌, false};
 ghost use Rattle.rules.specs.StepThree.{in_force_in, in_force, two_in_a_row, worse_of_two, failure_after, ends_step_three, with_unit, without_run, keeps_step_three, restarted, opening, after_unit, after_redesignation, after_break};
 ghost use Rattle.rules.specs.Sheet.{standing_of};

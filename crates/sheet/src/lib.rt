@@ -1,5 +1,6 @@
 // The check of a tally sheet for refusals 1 to 12.
 #![tactic(auto)]
+
 ghost use Rattle.std.specs.Prelude.{◌≡◌, ◌+◌, ◌≤◌, ◌<◌, length};
 ghost use Rattle.units.specs.Conditions.{any};
 ghost use Rattle.units.specs.Words.{classes};

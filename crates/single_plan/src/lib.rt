@@ -1,6 +1,7 @@
 // Writing the result records of units that are graded one after the other under one plan, no code graded yet: a break starts every class
 // at its S, and nothing else does.
 #![tactic(auto)]
+
 ghost use Rattle.std.specs.Prelude.{◌≡◌, true, false, cond, suc, ◌+◌, ◌*◌, ◌≤◌, ◌<◌, length};
 ghost use Rattle.std.proofs.lemmas.List.Edits.{sets};
 ghost use Rattle.units.specs.Words.{has_plan, Table, row_of, tenths_of};

@@ -1,5 +1,6 @@
 // Grading a whole sheet: the check, refusal 13, the result records, the code grades.
 #![tactic(auto)]
+
 ghost use Rattle.std.specs.Prelude.{◌≡◌};
 ghost use Rattle.sheet.specs.Refusals.{verdict};
 ghost use Rattle.sheet.specs.declared.Verdict.TheVariants.{Accepted};

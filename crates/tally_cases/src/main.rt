@@ -5,6 +5,7 @@
 // lot in place of a sheet. A sheet, a second plan, results and a lot have any length up to one byte more than is taken for a sheet. A case of
 // another kind or with more bytes ends the program.
 #![tactic(auto)]
+
 use encoding::number_at;
 use layout::NUMBER_SIZE;
 use lines::TEXT_SIZE;

@@ -1,6 +1,7 @@
 // Text written into the caller's buffer: numbers, letters, and the line of a refusal. Each function writes from a place on and answers
 // where its text ends.
 #![tactic(auto)]
+
 ghost use Rattle.std.specs.Prelude.{◌≡◌, ◌+◌, ◌≤◌, [], ◌∷◌, length, get_or};
 ghost use Rattle.encoding.specs.Bytes.{number};
 ghost use Rattle.text.specs.Text.{space, decimal, one_decimal, refused_line};

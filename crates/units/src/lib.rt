@@ -1,5 +1,6 @@
 // Grading one sample unit under the plan of a grade: rules 1 to 4, and whether it qualifies.
 #![tactic(auto)]
+
 ghost use Rattle.std.specs.Prelude.{◌≡◌, cond, map, ◌+◌, ◌*◌, ◌<◌, length};
 ghost use Rattle.units.specs.Words.{planned_grades, classes, cell_of, table_of, no_row, row_of, tenths_of, worse};
 ghost use Rattle.units.specs.Unit.{starting, stepped_in, stepped_under, admits, within_tolerance, all_zero, best_lower, qualifies};

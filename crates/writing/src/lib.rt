@@ -1,5 +1,6 @@
 // Writing the result records of a sheet, no code graded yet.
 #![tactic(auto)]
+
 ghost use Rattle.std.specs.Prelude.{◌≡◌, true, suc, ◌*◌, ◌<◌, ◌++◌, length, drop};
 ghost use Rattle.rules.specs.StepThree.{next, in_step_three};
 ghost use Rattle.units.specs.declared.Entry.TheVariants.{UnitRecord};

@@ -22,8 +22,8 @@ pub loop-i-preserved : goal.loop-i-preserved
 loop-i-preserved c =
     let passed = c.loop-i.invariant in
     elim c.if-results-i.branch [
-      then-results-i w ↦ pass_written c.requires passed c.loop-i-test.true w.number_at-code.ensures w.worst_from-grade.ensures (w.results-is ∙ w.write_code.ensures)
-    | else-results-i w ↦ pass_met c.requires passed c.loop-i-test.true w.results-is w.if-results-i.false
+      | then-results-i w ↦ pass_written c.requires passed c.loop-i-test.true w.number_at-code.ensures w.worst_from-grade.ensures (w.results-is ∙ w.write_code.ensures)
+      | else-results-i w ↦ pass_met c.requires passed c.loop-i-test.true w.results-is w.if-results-i.false
     ]
 
 pub returns : goal.returns

@@ -60,11 +60,10 @@ past-place-requires-in_default c =
     fits_past c.loop-place.invariant.0 (omega arith) c.mark_at-mark.ensures (omega (arith, c.well_formed))
 
 pub loop-place-preserved : goal.loop-place-preserved
-loop-place-preserved c =
-    (
-      walk_past c.loop-place.invariant.0 (omega arith) c.mark_at-mark.ensures c.past-place-in_default.ensures,
-      c.loop-place.invariant.1,
-      λ table is_row.
-          past_break (c.loop-place.invariant.2 table is_row) (omega arith) c.mark_at-mark.ensures c.past-place-in_default.ensures c.in_default.in_default-own.keys3
-          (c.starts-cusums.ensures ∙ ap starting is_row),
-    )
+loop-place-preserved c = (
+  walk_past c.loop-place.invariant.0 (omega arith) c.mark_at-mark.ensures c.past-place-in_default.ensures,
+  c.loop-place.invariant.1,
+  λ table is_row.
+      past_break (c.loop-place.invariant.2 table is_row) (omega arith) c.mark_at-mark.ensures c.past-place-in_default.ensures c.in_default.in_default-own.keys3
+      (c.starts-cusums.ensures ∙ ap starting is_row),
+)

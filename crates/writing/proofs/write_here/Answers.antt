@@ -32,13 +32,13 @@ pub returns-in-UnitRecord-clause-position : goal.returns-in-UnitRecord-clause-po
 unfolding mark_for
 returns-in-UnitRecord-clause-position c =
     position_past_it c.requires c.mark_at.ensures c.entry_at.ensures c.in-UnitRecord.is c.past.ensures
-          c.write_unit-after.ensures.state
+    c.write_unit-after.ensures.state
 
 pub returns-in-Redesignation-clause-position : goal.returns-in-Redesignation-clause-position
 unfolding mark_for next units_of
 returns-in-Redesignation-clause-position c =
     position_past_it c.requires c.mark_at.ensures c.entry_at.ensures c.in-Redesignation.is c.past-in-Redesignation.ensures
-          c.after_redesignation.ensures
+    c.after_redesignation.ensures
 
 pub returns-in-Redesignation-clause-buffer : goal.returns-in-Redesignation-clause-buffer
 unfolding mark_for next units_of
@@ -49,7 +49,7 @@ pub returns-in-Break-clause-position : goal.returns-in-Break-clause-position
 unfolding mark_for next units_of
 returns-in-Break-clause-position c =
     position_past_it c.requires c.mark_at.ensures c.entry_at.ensures c.in-Break.is c.past-in-Break.ensures
-          c.after_break.ensures
+    c.after_break.ensures
 
 pub returns-in-Break-clause-buffer : goal.returns-in-Break-clause-buffer
 unfolding mark_for next units_of

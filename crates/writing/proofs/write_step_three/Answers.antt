@@ -20,21 +20,21 @@ recover_three-requires c =
 pub returns-then-ends_step_three-clause-state : goal.returns-then-ends_step_three-clause-state
 returns-then-ends_step_three-clause-state c =
     state_behind c.args.results.now c.requires.0 c.requires.1 c.in_force-lower.ensures c.step_in_force-stepped.ensures
-          c.graded_by-grading.ensures c.qualifies_with-qualifies.ensures c.after_unit-after.ensures
+    c.graded_by-grading.ensures c.qualifies_with-qualifies.ensures c.after_unit-after.ensures
 
 pub returns-then-ends_step_three-clause-buffer : goal.returns-then-ends_step_three-clause-buffer
 returns-then-ends_step_three-clause-buffer c =
     written_at_end c.args.results.now c.requires.0 c.requires.1 c.in_force-lower.ensures c.step_in_force-stepped.ensures
-          c.graded_by-grading.ensures c.qualifies_with-qualifies.ensures c.result_of.ensures c.write_at.ensures
-          c.ends_step_three.ensures c.if-ends_step_three.true c.recover_three.ensures
+    c.graded_by-grading.ensures c.qualifies_with-qualifies.ensures c.result_of.ensures c.write_at.ensures
+    c.ends_step_three.ensures c.if-ends_step_three.true c.recover_three.ensures
 
 pub returns-else-ends_step_three-clause-state : goal.returns-else-ends_step_three-clause-state
 returns-else-ends_step_three-clause-state c =
     state_behind c.args.results.now c.requires.0 c.requires.1 c.in_force-lower.ensures c.step_in_force-stepped.ensures
-          c.graded_by-grading.ensures c.qualifies_with-qualifies.ensures c.after_unit-after.ensures
+    c.graded_by-grading.ensures c.qualifies_with-qualifies.ensures c.after_unit-after.ensures
 
 pub returns-else-ends_step_three-clause-buffer : goal.returns-else-ends_step_three-clause-buffer
 returns-else-ends_step_three-clause-buffer c =
     written_going_on c.args.results.now c.requires.0 c.requires.1 c.in_force-lower.ensures c.step_in_force-stepped.ensures
-          c.graded_by-grading.ensures c.qualifies_with-qualifies.ensures c.result_of.ensures c.write_at.ensures
-          c.ends_step_three.ensures c.if-ends_step_three.false
+    c.graded_by-grading.ensures c.qualifies_with-qualifies.ensures c.result_of.ensures c.write_at.ensures
+    c.ends_step_three.ensures c.if-ends_step_three.false
