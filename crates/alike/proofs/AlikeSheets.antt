@@ -9,7 +9,7 @@ use native.Mathlib.Nat.{eq-or-lt_of_le}
 use native.Mathlib.Omega.{arith}
 use lib.Dec.{ltb, leb, eqb, lit<}
 use borrow.Author.Tests.{ltb-true, leb-true, leb-false}
-use Rattle.encoding.specs.Bytes.{byte, number}
+use Rattle.encoding.specs.Bytes.{byte}
 use Rattle.units.specs.declared.Plan.{Plan}
 use Rattle.units.specs.declared.Entry.{Entry}
 use Rattle.anchors.proofs.Fellows.{UnitBelow, Below}

@@ -10,7 +10,7 @@ use lib.Dec.{eqb, ltb}
 use lib.ListN.{length}
 use borrow.Author.Tests.{lt-ltb, le-ltb, eqb-true, eqb-false, eq-eqb}
 use Rattle.cusum.specs.declared.PlanNumbers.{PlanNumbers}
-use Rattle.cusum.specs.Step.{new_cusum, overshoot}
+use Rattle.cusum.specs.Step.{overshoot}
 use Rattle.cusum.proofs.Laws.{new_cusum_is, overshoot_is, overshoot_met}
 use Rattle.encoding.specs.Bytes.{byte}
 use Rattle.units.specs.Words.{substandard, has_plan, classes, worse, row_of, in_class, numbers_of, tenths_of, count_tenths, tenths_in}

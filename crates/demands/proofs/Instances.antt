@@ -10,7 +10,6 @@ use lib.ListN.{length, replicate}
 use Rattle.units.proofs.Lists.{in_none}
 use Rattle.anchors.specs.TwoInARow.{second_in_a_row}
 use Rattle.anchors.specs.Anchor.{class_fails_at, restart, failure, Latest}
-use Rattle.layout.specs.Layout.{offset}
 use Rattle.results.specs.Record.{result_size}
 use Rattle.outcome.specs.declared.Answer.{Answer}
 use Rattle.tally.specs.Accepted.{AcceptedAs, sheet_in}

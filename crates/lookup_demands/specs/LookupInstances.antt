@@ -1,6 +1,6 @@
 -- Look-ups once more on one to three records, proved from the theorems and not by computing: statements for fewer slices or codes, or
 -- without one of the parts used here, would no longer give these.
-use Rattle.std.specs.Prelude.{ℕ, ◌+◌, ◌≡◌, List, ◌∷◌, ◌++◌, take, replicate}
+use Rattle.std.specs.Prelude.{ℕ, ◌≡◌, List, ◌∷◌, ◌++◌, take, replicate}
 use Rattle.lookup.specs.declared.Part.{Part}
 use Rattle.lookup.specs.Lookup.{lookup, Handed, handed}
 use Rattle.lookup.specs.Reading.{records_read}

@@ -1,6 +1,6 @@
 -- Demand 1 for mold sheets: the answer is acceptance or a listed refusal, and which bytes of the buffer are kept. By the cases of the
 -- outcome; numbers ground by ground.
-use Prim.Native.Nat.{ℕ, ◌+◌, ◌*◌}
+use Prim.Native.Nat.{ℕ, ◌*◌}
 use mathlib.Core.Path.{◌≡◌, refl, sym, ◌∙◌, ap, subst⁻¹}
 use mathlib.Core.Bool.{Bool, true, false}
 use mathlib.Core.List.{List, ◌++◌}

@@ -25,7 +25,7 @@ use Rattle.rules.specs.Sheet.{standing_of}
 use Rattle.rules.specs.declared.Phase.TheVariants.{Designated}
 use Rattle.rules.specs.declared.State.{State}
 use Rattle.encoding.specs.Bytes.{byte}
-use Rattle.layout.specs.Layout.{mark_size, grade_offset, unit_size, mark_at, size_of, sample_unit_at, entry_of, entry_at, mark, units_before}
+use Rattle.layout.specs.Layout.{mark_size, grade_offset, unit_size, mark_at, size_of, sample_unit_at, entry_of, entry_at, units_before}
 use Rattle.layout.specs.Walk.{place_after, Walk, largest_offset, RoomPast}
 use Rattle.layout.specs.declared.Mark.{Mark}
 use Rattle.layout.specs.declared.Mark.TheVariants.{UnitMark, RedesignationMark, BreakMark, NoMark}

@@ -1,5 +1,4 @@
 -- The loop's invariant: the codes of the records before `i` are graded in every record.
-use Prim.Native.Nat.{◌-◌}
 use mathlib.Core.Path.{◌∙◌}
 use Rattle.codes.proofs.GradingPass.{pass_start, first_met, pass_met, pass_written, pass_end}
 use Rattle.codes.proofs.grade_codes.Goals as goal

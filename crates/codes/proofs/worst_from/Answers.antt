@@ -1,5 +1,4 @@
 -- The loop's invariant: `worst` is the worst of the records before `j`, and `j` has the code or is behind the last.
-use Prim.Native.Nat.{◌-◌}
 use native.Mathlib.Omega.{arith}
 use Rattle.codes.proofs.OneCode.{worst_start, worst_next}
 use Rattle.codes.proofs.worst_from.Goals as goal

@@ -1,5 +1,4 @@
 -- The loop's invariant: the records before `j` are written, and `j` has the code or is behind the last.
-use Prim.Native.Nat.{◌-◌}
 use mathlib.Core.Path.{refl}
 use Rattle.codes.proofs.OneCode.{written_start, written_next}
 use Rattle.codes.proofs.write_code.Goals as goal

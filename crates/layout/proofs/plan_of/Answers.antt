@@ -1,5 +1,4 @@
 -- `plan_of` is `plan_of`. The loop's invariant is `Filled`: the cells before this one are there.
-use Prim.Native.Nat.{◌-◌}
 use native.Mathlib.Omega.{arith}
 use Rattle.units.proofs.Lists.{fill_last}
 use Rattle.layout.specs.Layout.{plan_of}

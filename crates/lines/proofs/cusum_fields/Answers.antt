@@ -1,5 +1,5 @@
 -- The loop's invariant: of the CuSums and the newline, the fields from the class on and the newline are left to write.
-use Prim.Native.Nat.{◌+◌, ◌-◌}
+use Prim.Native.Nat.{◌+◌}
 use mathlib.Core.List.{[], ◌∷◌, map}
 use native.Mathlib.Omega.{arith}
 use lib.ListN.{drop, drop_of_length-le}

@@ -1,5 +1,4 @@
 -- The loop's invariant: what is found so far, with so many records read.
-use Prim.Native.Nat.{◌-◌}
 use mathlib.Core.Path.{sym, ◌∙◌}
 use borrow.Author.Rules.{rules}
 use borrow.Author.Tests.{eqb-true}

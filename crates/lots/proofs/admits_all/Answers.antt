@@ -1,5 +1,4 @@
 -- `admits_all` is `admits`. The loop's invariant: the classes that are left decide.
-use Prim.Native.Nat.{◌-◌}
 use mathlib.Core.Path.{refl, sym, ◌∙◌}
 use native.Mathlib.Omega.{arith}
 use lib.ListN.{length}

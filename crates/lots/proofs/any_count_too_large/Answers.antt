@@ -1,5 +1,4 @@
 -- `any_count_too_large` tests kind after kind; the loop's invariant is `Tested`: there is one if one is found, or one is left.
-use Prim.Native.Nat.{◌-◌}
 use mathlib.Core.Path.{ap}
 use native.Mathlib.Omega.{arith}
 use lib.Dec.{ltb}

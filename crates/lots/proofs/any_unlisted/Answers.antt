@@ -1,5 +1,5 @@
 -- `any_unlisted` tests AQL after AQL; the loop's invariant is `Tested`: there is one if one is found, or one is left.
-use Prim.Native.Nat.{ℕ, ◌-◌}
+use Prim.Native.Nat.{ℕ}
 use mathlib.Core.Path.{◌∙◌, ap}
 use native.Mathlib.Omega.{arith}
 use lib.Dec.{eqb}

@@ -1,6 +1,5 @@
 -- `check_records` is `check_from` from record 0. The loop's invariant: the next record stands behind the units that passed (`Stands`).
 -- The measure is what is left of the sheet.
-use Prim.Native.Nat.{◌-◌}
 use mathlib.Core.Path.{◌∙◌}
 use Rattle.mold.proofs.Checking.{stands_done, stands_refused, stands_on}
 use Rattle.mold.proofs.check_records.Goals as goal

@@ -1,5 +1,4 @@
 -- The loop's invariant: the records of the units before this one stand at the front of the buffer, and the CuSum is the one before it.
-use Prim.Native.Nat.{◌-◌}
 use mathlib.Core.Path.{◌≡◌, refl, ◌∙◌, ap}
 use native.Mathlib.Omega.{arith}
 use Rattle.cusum.specs.Step.{start_of}

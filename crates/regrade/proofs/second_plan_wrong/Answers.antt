@@ -1,6 +1,6 @@
 -- By its length, then by the number of the first ground that the plan meets.
 use mathlib.Core.Path.{ap}
-use mathlib.Core.Bool.{true, not}
+use mathlib.Core.Bool.{not}
 use lib.Dec.{eqb}
 use borrow.Author.Tests.{ne_eqb, eq-eqb}
 use Rattle.regrade.specs.Outcome.{second_plan_wrong}

@@ -1,5 +1,4 @@
 -- `any_start_above_limit` tests cell after cell; the loop's invariant is `Tested`: there is one if one is found, or one is left.
-use Prim.Native.Nat.{◌-◌}
 use native.Mathlib.Omega.{arith}
 use Rattle.units.proofs.Lists.{tested_next, tested_last}
 use Rattle.sheet.specs.Refusals.{any_numbers}

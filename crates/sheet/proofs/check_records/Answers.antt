@@ -1,6 +1,5 @@
 -- `check_records` is `check_from` from record 0. The loop's invariant: the place is that of the next record (`Stands`).
 -- The measure is what is left of the sheet; a record has two bytes or more.
-use Prim.Native.Nat.{◌-◌}
 use native.Mathlib.Omega.{arith}
 use Rattle.sheet.proofs.Checking.{stands_first, stands_done, stands_short, stands_refused, stands_whole, stands_room, stands_less, stands_on}
 use Rattle.sheet.proofs.check_records.Goals as goal

@@ -4,7 +4,6 @@ use mathlib.Core.Bool.{false≢true}
 use native.Mathlib.Omega.{arith}
 use Rattle.units.specs.Unit.{starting}
 use Rattle.units.specs.declared.Grading.{Grading}
-use Rattle.layout.specs.declared.Place.{Place}
 use Rattle.single_plan.proofs.Passing.{mark_within, fits_past, unit_within, room_for_record, past_unit, past_redesignation, past_break, further_none}
 use Rattle.single_plan.proofs.write_here.Goals as goal
 

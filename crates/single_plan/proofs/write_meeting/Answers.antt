@@ -1,6 +1,6 @@
 -- The invariant is `Further`: the passing has gone on from the start to the loop's place, each record by the law of its kind. The loop has the
 -- row of the designated grade alone, so that the invariant is about any table that has it.
-use Prim.Native.Nat.{ℕ, ◌*◌, ◌-◌}
+use Prim.Native.Nat.{ℕ, ◌*◌}
 use mathlib.Core.Path.{refl, sym, ◌∙◌, ap}
 use mathlib.Core.Bool.{false}
 use mathlib.Core.List.{List}

@@ -1,5 +1,5 @@
 -- By the laws of one digit and of more.
-use mathlib.Core.Path.{◌∙◌, ap}
+use mathlib.Core.Path.{ap}
 use native.Mathlib.Omega.{arith}
 use lib.ListN.{length}
 use Rattle.text.proofs.Decimals.{one_digit, more_digits, length_more}

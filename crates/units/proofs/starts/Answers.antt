@@ -1,5 +1,4 @@
 -- The loop's invariant: the CuSum of every class below this one stands at its S.
-use Prim.Native.Nat.{◌-◌}
 use native.Mathlib.Omega.{arith}
 use Rattle.units.specs.Unit.{starting}
 use Rattle.units.proofs.Lists.{fill_last}

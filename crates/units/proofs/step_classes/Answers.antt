@@ -1,7 +1,7 @@
 -- The loop's invariant: every class below this one has its new CuSum and its overshoot, and a class fails if one below did or one that
 -- is left does.
 use Rattle.units.proofs.step_classes.Invariants.{Stepped}
-use Prim.Native.Nat.{ℕ, ◌-◌, ◌≤◌}
+use Prim.Native.Nat.{ℕ, ◌≤◌}
 use mathlib.Core.Path.{◌≡◌, ap}
 use mathlib.Core.Bool.{Bool}
 use mathlib.Core.List.{List}
@@ -9,7 +9,6 @@ use native.Mathlib.Omega.{arith}
 use lib.ListN.{length}
 use Rattle.cusum.specs.declared.PlanNumbers.{PlanNumbers}
 use Rattle.cusum.specs.declared.Cusum.{Cusum}
-use Rattle.cusum.specs.Step.{fails, overshoot}
 use Rattle.units.specs.Words.{classes}
 use Rattle.units.specs.Unit.{stepped_in}
 use Rattle.units.proofs.Lists.{fill_next, fill_last, tested_next, tested_last}

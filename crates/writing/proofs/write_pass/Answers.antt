@@ -1,5 +1,4 @@
 -- The loop's invariant: the pass, graded once or again, has gone on from the opening to the position, which is before the record `done`.
-use Prim.Native.Nat.{◌-◌}
 use mathlib.Core.Path.{refl, ap}
 use native.Mathlib.Omega.{arith}
 use Rattle.layout.specs.declared.Place.{Place}
