@@ -4,7 +4,7 @@
  * again, under a second plan. In finished results it looks up what became of a code. A warehouse lot
  * it grades under the lot single sampling plan, from one sample.
  *
- * Link with libhatmuyon.a, which `rt staticlib hatmuyon` writes to target/staticlib (x86-64).
+ * Link with libhatmuyon.a, which `./archive` writes to target/staticlib (x86-64).
  * The archive needs no other library. The header is C99 and C++11.
  */
 #ifndef HATMUYON_H

@@ -22,7 +22,7 @@ fn main() {
         }
         Err(error) => {
             eprintln!("{}: {error}", archive.display());
-            eprintln!("run rt staticlib hatmuyon first, or set HATMUYON_ARCHIVE_DIR to the folder of libhatmuyon.a");
+            eprintln!("run ./archive at the top of the repository first, or set HATMUYON_ARCHIVE_DIR to the folder of libhatmuyon.a");
             std::process::exit(1);
         }
     }

@@ -57,8 +57,8 @@
 //! [`grade_lot`] grades a warehouse lot, which has no units and no result record: the answer is its
 //! grade. Refusal and ground of a lot are of types of their own, too.
 //!
-//! Gradings and look-ups are those of the proved library `libhatmuyon.a`, which `rt staticlib hatmuyon`
-//! writes (x86-64). The build links it from target/staticlib of the repository, or from the folder that
+//! Gradings and look-ups are those of the proved library `libhatmuyon.a`, which `./archive` at the top
+//! of the repository writes (x86-64). The build links it from target/staticlib of the repository, or from the folder that
 //! the environment variable `HATMUYON_ARCHIVE_DIR` names.
 //!
 //! # Versions

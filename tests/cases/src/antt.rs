@@ -86,7 +86,7 @@ impl<K: Kind> Case<K> {
     }
 
     pub fn field(&self) -> String {
-        field(self.name)
+        field_of_definition(self.name)
     }
 }
 
@@ -94,16 +94,37 @@ fn words(name: &str) -> impl Iterator<Item = &str> {
     name.split(' ').filter(|word| !["a", "the"].contains(word))
 }
 
-/// "a break in a run" as `breakInRun`.
+/// "a break in a run" as `break_in_run`. A word that begins with a digit stands right behind the one
+/// before it, and the last of several capitals begins a word: "AQLs at 6 units" is `aq_ls_at6_units`.
 pub fn definition(name: &str) -> String {
     let capital = |word: &str| word[..1].to_uppercase() + &word[1..];
-    let name = words(name).map(capital).collect::<String>();
-    name[..1].to_lowercase() + &name[1..]
+    let letters: Vec<char> = words(name).map(capital).collect::<String>().chars().collect();
+    let mut text = String::new();
+    for (at, letter) in letters.iter().enumerate() {
+        let before = at.checked_sub(1).map_or('_', |before| letters[before]);
+        let word_behind = letters.get(at + 1).is_some_and(char::is_ascii_lowercase);
+        let begins = before.is_ascii_lowercase()
+            || before.is_ascii_digit()
+            || before.is_ascii_uppercase() && word_behind;
+        if letter.is_ascii_uppercase() && begins {
+            text.push('_');
+        }
+        text.push(letter.to_ascii_lowercase());
+    }
+    text
 }
 
-/// "a break in a run" as `break-in-run`.
+/// "a break in a run" as `break_in_run`, "AQLs at 6 units" as `aqls_at_6_units`.
 pub fn field(name: &str) -> String {
-    words(name).map(str::to_lowercase).collect::<Vec<_>>().join("-")
+    words(name).map(str::to_lowercase).collect::<Vec<_>>().join("_")
+}
+
+/// The field that says what the definition of this name comes to: `break_in_run_holds`, since the
+/// definition is `break_in_run`. A name of one word has no ending.
+pub fn field_of_definition(name: &str) -> String {
+    let text = field(name);
+    let ending = if text.contains('_') && text == definition(name) { "_holds" } else { "" };
+    text + ending
 }
 
 /// What is graded: a sheet, and what is given with it.
@@ -205,9 +226,9 @@ pub fn graded<G: Given>(given: &G) -> Graded {
 pub fn abbreviations(outcome: &str) -> String {
     let mut text = String::new();
     for (name, form, word, size) in [
-        ("Graded", "List ℕ → ℕ → ℕ → List ℕ", "GradedBy", " resultSize"),
+        ("Graded", "List ℕ → ℕ → ℕ → List ℕ", "GradedBy", " result_size"),
         ("RefusedWith", "ℕ → List ℕ → ℕ", "RefusedBy", ""),
-        ("WithoutRoom", "ℕ → List ℕ → ℕ → ℕ", "WithoutRoomBy", " resultSize"),
+        ("WithoutRoom", "ℕ → List ℕ → ℕ → ℕ", "WithoutRoomBy", " result_size"),
     ] {
         text += &format!("\nabbrev pub {name} : {form} → Type 0\n");
         text += &format!("{name} = {word} {outcome}{size}\n");
@@ -264,7 +285,7 @@ pub fn results<K: Kind>(case: &Case<K>, graded: &Graded) -> String {
     let name = case.definition();
     let records = graded.records.iter().map(|(bytes, line)| (&bytes[..], line.as_str()));
     let gap = if graded.records.is_empty() { " " } else { "\n    " };
-    format!("unfoldable pub {name}Results : List ℕ\n{name}Results ={gap}{}\n", lines(records))
+    format!("unfoldable pub {name}_results : List ℕ\n{name}_results ={gap}{}\n", lines(records))
 }
 
 /// The field that says what a sheet comes to.
@@ -273,7 +294,7 @@ fn statement<G: Given>(given: &G, graded: &Graded) -> String {
     let (field, name) = (case.field(), case.definition());
     let Answer { number, units, offset } = graded.answer;
     let said = match case.expected {
-        Expected::Accepted(_) => format!("Graded {with}{name} {units} {offset} {name}Results"),
+        Expected::Accepted(_) => format!("Graded {with}{name} {units} {offset} {name}_results"),
         Expected::Number(..) => format!("RefusedWith {with}{number} {name} {offset}"),
         Expected::WithoutRoom(..) => format!("WithoutRoom {with}{number} {name} {units} {offset}"),
     };

@@ -16,7 +16,7 @@ pub fn plan_bytes(designated: u8, tenths: Tenths) -> Vec<u8> {
     Sheet { designated, table: table(tenths), records: Vec::new() }.bytes()
 }
 
-/// The plan with the largest S and L, designated A, which is printed as `largestPlan`.
+/// The plan with the largest S and L, designated A, which is printed as `largest_plan`.
 pub fn largest() -> Vec<u8> {
     plan_bytes(0, LARGEST)
 }

@@ -8,7 +8,7 @@
 #[path = "../antt.rs"]
 mod antt;
 
-use antt::{definition, field, part_lines, raw, shows, Part};
+use antt::{definition, field_of_definition, part_lines, raw, shows, Part};
 use grader::lookup::{self, FOUND, NOT_THERE, WRONG_LENGTH};
 use grader::peach::{p10, P10_LINES};
 use grader::RESULT_SIZE;
@@ -380,22 +380,21 @@ fn lines(case: &Case) -> (String, String) {
     let mut text = format!("\n{}{}", shows(case.shows), defined(&name, &case.results));
     let said = match case.expected {
         Expected::Found(_) => {
-            text += &format!("\n{}", defined(&format!("{name}Part"), &[record(&part)]));
-            format!("FoundWith {name} {code} {offset} {name}Part")
+            text += &format!("\n{}", defined(&format!("{name}_part"), &[record(&part)]));
+            format!("FoundWith {name} {code} {offset} {name}_part")
         }
         Expected::NotThere => format!("NotOnSheet {name} {code}"),
         Expected::Refused => format!("RefusedResults {name} {code}"),
     };
-    (text, format!("  pub {} : {said}\n", field(case.name)))
+    (text, format!("  pub {} : {said}\n", field_of_definition(case.name)))
 }
 
 const HEAD: &str = "\
 -- Look-ups in bytes, as one group: the record at the end. Each is held to the number, the offset and the bytes of the part that the
 -- independent grader gives for it (tests/grader, written from the papers alone), so that a rule which is wrong on one of them alike in a
 -- definition and in the code that meets it is refused here. This file is printed by tests/cases/src/bin/computed_lookups.rs.
-use Prim.Native.Nat.{ℕ}
-use mathlib.Core.List.{List, [], _∷_}
-use Rattle·lookup_demands·specs.specs.HandedBack.{FoundWith, NotOnSheet, RefusedResults}
+use Rattle.std.specs.Prelude.{ℕ, List, [], ◌∷◌}
+use Rattle.lookup_demands.specs.HandedBack.{FoundWith, NotOnSheet, RefusedResults}
 
 -- Behind each record its code, its portion grade byte and its code grade byte. Where nothing else is said, every byte behind these is its
 -- offset in the results, so that the part tells which record it is.

@@ -8,7 +8,7 @@
 #[path = "../antt.rs"]
 mod antt;
 
-use antt::{definition, field, shows};
+use antt::{definition, field_of_definition, shows};
 use grader::lot::{acceptance_number, check_lot, grade_lot, grounds};
 use grader::lot::{Lot, LotAnswer, AQLS, LOT_SIZE, MARK, MOST_DEFECTS, SAMPLE_UNITS};
 
@@ -618,16 +618,15 @@ fn lines(case: &Case) -> (String, String) {
         0 => format!("GradedLot {name} {grade}"),
         _ => format!("RefusedLot {name} {number}"),
     };
-    (text, format!("  pub {} : {said}\n", field(&case.name)))
+    (text, format!("  pub {} : {said}\n", field_of_definition(&case.name)))
 }
 
 const HEAD: &str = "\
 -- Lots in bytes, as one group: the record at the end. Each is held to the number and the grade that the independent grader gives for it
 -- (tests/grader, written from the papers alone), so that a rule which is wrong on one of them alike in a definition and in the code that
 -- meets it is refused here. This file is printed by tests/cases/src/bin/computed_lots.rs.
-use Prim.Native.Nat.{ℕ}
-use mathlib.Core.List.{List, [], _∷_}
-use Rattle·lots_demands·specs.specs.HeldLots.{GradedLot, RefusedLot}
+use Rattle.std.specs.Prelude.{ℕ, List, [], ◌∷◌}
+use Rattle.lots_demands.specs.HeldLots.{GradedLot, RefusedLot}
 
 -- AQLs of critical, severe, major and total stand behind the bytes of each grade; in the names of lots they are in tenths.
 ";

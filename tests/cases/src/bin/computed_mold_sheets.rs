@@ -387,11 +387,10 @@ const HEAD: &str = "\
 -- Mold sheets in bytes, as one group: the record at the end. Each is held to the answer and the result bytes that the independent grader
 -- gives for it (tests/grader, written from the papers alone), so that a rule which is wrong on one of them alike in a definition and in
 -- the code that meets it is refused here. This file is printed by tests/cases/src/bin/computed_mold_sheets.rs.
-use Prim.Native.Nat.{ℕ}
-use mathlib.Core.List.{List, [], _∷_}
-use Rattle·outcome.specs.Held.{GradedBy, RefusedBy, WithoutRoomBy}
-use Rattle·mold.specs.Results.{resultSize}
-use Rattle·mold.specs.Outcome.{moldOutcome}
+use Rattle.std.specs.Prelude.{ℕ, List, [], ◌∷◌}
+use Rattle.outcome.specs.Held.{GradedBy, RefusedBy, WithoutRoomBy}
+use Rattle.mold.specs.Results.{result_size}
+use Rattle.mold.specs.Outcome.{mold_outcome}
 ";
 
 /// Behind the abbreviations.
@@ -407,5 +406,5 @@ pub record MoldSheets : Type 0 where
 
 fn main() {
     let (text, fields) = antt::sheets(&groups());
-    print!("{}", [HEAD, &abbreviations("moldOutcome"), RECORDS, &text, FOOT, &fields].concat());
+    print!("{}", [HEAD, &abbreviations("mold_outcome"), RECORDS, &text, FOOT, &fields].concat());
 }

@@ -9,7 +9,7 @@ mod antt;
 #[path = "../plans.rs"]
 mod plans;
 
-use antt::{abbreviations, graded, part_lines, raw, Expected, Given, Part};
+use antt::{abbreviations, field, graded, part_lines, raw, Expected, Given, Part};
 use grader::peach::peach;
 use grader::sheet::{Record, Sheet, Unit};
 use grader::{regrade, Answer, RESULT_SIZE};
@@ -146,23 +146,23 @@ fn recorded() -> Vec<u8> {
 }
 
 fn buyer(designated: u8) -> Plan {
-    let text = format!("buyer{}", GRADES[usize::from(designated)]);
+    let text = format!("buyer_{}", GRADES[usize::from(designated)].to_ascii_lowercase());
     Plan { bytes: plan_bytes(designated, BUYER), text }
 }
 
 fn manual() -> Plan {
-    Plan { bytes: plan_bytes(B, MANUAL), text: "manualPlan".to_string() }
+    Plan { bytes: plan_bytes(B, MANUAL), text: "manual_plan".to_string() }
 }
 
 /// That of the computed sheets.
 fn largest() -> Plan {
-    Plan { bytes: plans::largest(), text: "largestPlan".to_string() }
+    Plan { bytes: plans::largest(), text: "largest_plan".to_string() }
 }
 
 impl Plan {
     /// The plan of a sheet: that under which sheets are recorded, with the bytes that differ from it.
     fn of(bytes: &[u8]) -> Plan {
-        let mut plan = Plan { bytes: recorded(), text: "recordedPlan".to_string() };
+        let mut plan = Plan { bytes: recorded(), text: "recorded_plan".to_string() };
         for (at, &byte) in bytes.iter().enumerate() {
             if byte != plan.bytes[at] {
                 plan = plan.set(at, byte);
@@ -307,7 +307,7 @@ fn groups() -> Vec<Group> {
         Group { name: "BreakSheets", field: "breaks", title: "breaks restart", cases: breaks() },
         Group {
             name: "SecondPlanSheets",
-            field: "second-plans",
+            field: "second_plans",
             title: "the second plan's grade, numbers and lower grades",
             cases: second_plans(),
         },
@@ -319,7 +319,7 @@ fn groups() -> Vec<Group> {
         },
         Group {
             name: "FewerSheets",
-            field: "fewer-defects",
+            field: "fewer_defects",
             title: "a pair, alike but for defects, with two failures in a row and a redesignation",
             cases: fewer_defects(),
         },
@@ -1033,6 +1033,9 @@ fn wrong_plans() -> Vec<WrongPlan> {
     ]
 }
 
+/// Names of second plans that are definitions of other sheets: the field's name has their ending.
+const NAMED_ELSEWHERE: [&str; 2] = ["no byte", "start above the limit"];
+
 /// The record of the second plans that are refused, with 18 at offset 0.
 fn wrong_plan_sheets(groups: &[Group]) -> String {
     let mut text = "\n-- ---- second plans that are refused: 18, also in a buffer without room\n\n\
@@ -1046,7 +1049,9 @@ fn wrong_plan_sheets(groups: &[Group]) -> String {
         let expected = Expected::Number(18, Some(0));
         let regrading = case(name, shows, sheet.bytes(), Vec::new(), plan, expected);
         let Answer { number, offset, .. } = graded(&regrading).answer;
-        let (field, with, sheet) = (regrading.sheet.field(), regrading.with(), sheet.definition());
+        let field =
+            if NAMED_ELSEWHERE.contains(&name) { regrading.sheet.field() } else { field(name) };
+        let (with, sheet) = (regrading.with(), sheet.definition());
         text += &format!("  -- {shows}\n");
         text += &format!("  pub {field} : RefusedWith {with}{number} {sheet} {offset}\n");
     }
@@ -1060,19 +1065,17 @@ const HEAD: &str = "\
 -- bytes that the independent grader gives for it (tests/grader, written from the papers alone), so that a rule which is wrong on one of
 -- them alike in a definition and in the code that meets it is refused here. This file is printed by
 -- tests/cases/src/bin/computed_regradings.rs.
-use Prim.Native.Nat.{ℕ}
-use mathlib.Core.List.{List, [], _∷_, _++_}
-use lib.ListN.{take, set}
-use Rattle·results.specs.Record.{resultSize}
-use Rattle·outcome.specs.Outcome.{Outcome}
-use Rattle·outcome.specs.Held.{GradedBy, RefusedBy, WithoutRoomBy}
-use Rattle·regrade.specs.Outcome.{regradeOutcome}
-use Rattle·computed.specs.FurtherSheets.{largestPlan}
+use Rattle.std.specs.Prelude.{ℕ, List, [], ◌∷◌, ◌++◌, take, set}
+use Rattle.results.specs.Record.{result_size}
+use Rattle.outcome.specs.Outcome.{Outcome}
+use Rattle.outcome.specs.Held.{GradedBy, RefusedBy, WithoutRoomBy}
+use Rattle.regrade.specs.Outcome.{regrade_outcome}
+use Rattle.computed.specs.FurtherSheets.{largest_plan}
 
 module _ (plan : List ℕ) where
   -- what a sheet comes to under this second plan
   abbrev pub under : List ℕ → List ℕ → Outcome
-  under bytes buffer = regradeOutcome bytes plan buffer
+  under bytes buffer = regrade_outcome bytes plan buffer
 ";
 
 /// Behind the abbreviations.
@@ -1092,7 +1095,7 @@ pub record RegradeSheets : Type 0 where
 ";
 
 /// Behind the fields of the groups.
-const WRONG_PLANS: &str = "  pub wrong-plans : WrongPlanSheets\n";
+const WRONG_PLANS: &str = "  pub wrong_plans : WrongPlanSheets\n";
 
 fn plans() -> String {
     let numbers = recorded().into_iter().zip(buyer(A).bytes).skip(3).collect::<Vec<_>>();
@@ -1100,15 +1103,15 @@ fn plans() -> String {
     assert!(numbers.chunks(2).all(differ), "another number in every place");
     [
         "\n-- the one under which the sheets are recorded: the peach plan of paper 01, designated A\n",
-        &plan_lines("recordedPlan", &recorded()),
+        &plan_lines("recorded_plan", &recorded()),
         "\n-- a buyer's, designated A: another number in every place\n",
-        &plan_lines("buyerA", &buyer(A).bytes),
+        &plan_lines("buyer_a", &buyer(A).bytes),
         "\n-- designated B\n",
         &buyer_lines(B),
         "\n-- designated C\n",
         &buyer_lines(C),
         "\n-- the buyer's in appendix 7 of source document 000, designated B\n",
-        &plan_lines("manualPlan", &manual().bytes),
+        &plan_lines("manual_plan", &manual().bytes),
     ]
     .concat()
 }

@@ -9,7 +9,9 @@ mod antt;
 #[path = "../plans.rs"]
 mod plans;
 
-use antt::{abbreviations, elements, graded, part_lines, raw, results, shows, Expected, Part};
+use antt::{
+    abbreviations, elements, field, graded, part_lines, raw, results, shows, Expected, Part,
+};
 use grader::peach::peach;
 use grader::sheet::{Numbers, Record, Sheet, Unit, MOST_UNITS};
 use grader::{Answer, RESULT_SIZE};
@@ -239,13 +241,13 @@ fn groups() -> Vec<Group> {
         },
         Group {
             name: "StepThreeSheets",
-            field: "step-three",
+            field: "step_three_holds",
             title: "units in step 3, its end and recovery",
             cases: step_three(),
         },
         Group {
             name: "LowerPlanSheets",
-            field: "lower-plans",
+            field: "lower_plans",
             title: "two units in a row that fail the lower plan, and failures that are not two in a row",
             cases: lower_plans(),
         },
@@ -257,7 +259,7 @@ fn groups() -> Vec<Group> {
         },
         Group {
             name: "FewerDefectSheets",
-            field: "fewer-defects",
+            field: "fewer_defects",
             title: "sheets with a defect fewer than another",
             cases: fewer(),
         },
@@ -952,7 +954,7 @@ fn fewer() -> Vec<Case> {
     vec![
         accepted(
             "one minor defect fewer",
-            "`breakBetweenFailures` with 2 minor defects in its last unit, and not 3.",
+            "`break_between_failures` with 2 minor defects in its last unit, and not 3.",
             plan(),
             &[fails(1), BREAK, fails(2), unit(3, [0, 0, 3, 2])],
             "BBfA BBfA AAmA",
@@ -976,7 +978,7 @@ fn fewer() -> Vec<Case> {
         ),
         accepted(
             "no defect in place of one",
-            "`rawValueAtLimit` with no defect in its last unit, and not 1: it meets.",
+            "`raw_value_at_limit` with no defect in its last unit, and not 1: it meets.",
             plan_with(&[(A, TOTAL, [9, 9, 40])]),
             &[minor(1, 4), minor(2, 0)],
             "AAmA AAmA",
@@ -1197,16 +1199,13 @@ const HEAD: &str = "\
 -- Further sheets in bytes beside the worked cases, as one group: the record at the end. Each is held to the answer and the result bytes
 -- that the independent grader gives for it (tests/grader, written from the papers alone), so that a rule which is wrong on one of them
 -- alike in a definition and in the code that meets it is refused here. This file is printed by tests/cases/src/bin/computed_sheets.rs.
-use Prim.Native.Nat.{ℕ, zero, suc}
-use mathlib.Core.Path.{_≡_}
-use mathlib.Core.List.{List, [], _∷_, _++_}
-use lib.ListN.{take, set}
-use Rattle·results.specs.Record.{resultSize}
-use Rattle·outcome.specs.Held.{GradedBy, RefusedBy, WithoutRoomBy}
-use Rattle·tally.specs.Outcome.{outcome}
-use Rattle·text.specs.Ascii.{ascii}
-use Rattle·lines.specs.Lines.{linesOf, printed}
-use Rattle·computed·specs.specs.WorkedCases.{peachPlan}
+use Rattle.std.specs.Prelude.{ℕ, zero, suc, ◌≡◌, List, [], ◌∷◌, ◌++◌, take, set}
+use Rattle.results.specs.Record.{result_size}
+use Rattle.outcome.specs.Held.{GradedBy, RefusedBy, WithoutRoomBy}
+use Rattle.tally.specs.Outcome.{outcome}
+use Rattle.text.specs.Ascii.{ascii}
+use Rattle.lines.specs.Lines.{lines_of, printed}
+use Rattle.computed.specs.WorkedCases.{peach_plan}
 ";
 
 /// Behind the abbreviations.
@@ -1245,13 +1244,13 @@ fn overshoots_in(results: &[u8]) -> Vec<Overshoot> {
 /// The plan with the largest S and L, or the peach plan with the bytes that differ from it.
 fn plan_text(bytes: &[u8]) -> String {
     if bytes == largest() {
-        return "largestPlan".to_string();
+        return "largest_plan".to_string();
     }
     let peach = plan();
     let kept = if bytes.len() == peach.len() {
-        "peachPlan".to_string()
+        "peach_plan".to_string()
     } else {
-        format!("take {} peachPlan", bytes.len())
+        format!("take {} peach_plan", bytes.len())
     };
     let others = bytes.iter().zip(&peach).enumerate().filter(|(_, (byte, old))| byte != old);
     let set = |text: String, (at, (byte, _)): (usize, (&u8, &u8))| {
@@ -1300,7 +1299,7 @@ fn printed_lines(case: &Case) -> String {
     let printed = grader::print(&case.bytes());
     let line = |line: &str| format!("ascii \"{line}\\n\"");
     let texts = printed.lines().map(line).collect::<Vec<_>>().join("\n    ++ ");
-    format!("unfoldable pub {name}Lines : List ℕ\n{name}Lines =\n    {texts}\n")
+    format!("unfoldable pub {name}_lines : List ℕ\n{name}_lines =\n    {texts}\n")
 }
 
 /// What is printed for some of the sheets, and for the records of twelve units.
@@ -1315,23 +1314,25 @@ fn printed(groups: &[Group]) -> String {
         record += &match case.expected {
             Expected::Accepted(..) => {
                 text += &format!("\n{}", printed_lines(case));
-                format!("{name}Lines\n")
+                format!("{name}_lines\n")
             }
             _ => format!("ascii {:?}\n", grader::print(&case.bytes())),
         };
     }
     let case = twelve_units();
-    let (field, name, graded) = (case.field(), case.definition(), graded(&case));
+    let (field, name, graded) = (field(case.name), case.definition(), graded(&case));
     text += &format!("\n{}{}", shows(case.shows), results(&case, &graded));
     text += &format!("\n{}", printed_lines(&case));
-    record +=
-        &format!("  pub {field} : linesOf {name}Results {} ≡ {name}Lines\n", graded.answer.units);
+    record += &format!(
+        "  pub {field} : lines_of {name}_results {} ≡ {name}_lines\n",
+        graded.answer.units
+    );
     text + &record
 }
 
 fn file(groups: &[Group]) -> String {
     let (text, fields) = antt::sheets(groups);
-    let largest = plan_lines("largestPlan", &largest());
+    let largest = plan_lines("largest_plan", &largest());
     let words = abbreviations("outcome");
     [HEAD, &words, LARGEST, &largest, REPEATED, &text, &printed(groups), FOOT, &fields].concat()
 }
