@@ -1,56 +1,37 @@
 // Reads a sheet from standard input and prints a line a unit, or the refusal. The text is whole before any of it is written, in one
-// go; if the input cannot be read, nothing is printed.
+// go; if the input cannot be read, nothing is printed, and the program ends with the error.
 #![tactic(auto)]
+ghost use Rattle.std.specs.Prelude.{◌<◌, ◌≤◌, IfOk, length, take};
+ghost use Rattle.std.specs.Io.KnownBytes.{Consumes, IsAtEnd};
 
-ghost use Rattle.std.specs.Prelude.{◌≤◌, length};
+use std::io;
+use std::io::Read;
 
-use libc::{STDIN_FILENO, STDOUT_FILENO};
 use lines::TEXT_SIZE;
 use text::LARGEST_INPUT;
 
-// How many bytes were read, and whether a read failed.
-#[derive(Clone, Copy)]
-struct Reading {
-    bytes: usize,
-    failed: bool,
-}
-
-// Reads to the end of the input, as far as there is room. (io::read_full does not tell a failed read from the end.)
-fn read_input(room: &mut [u8]) -> Reading
-    ensures { result.bytes ≤ length room.new }
+// Reads to the end of the input, as far as there is room, and answers how many bytes were read, or the error of a read that failed.
+// (io::Read::read_exact does not tell how many bytes stand before the end.)
+fn read_input<R: Read>(input: &mut R, room: &mut [u8]) -> io::Result<usize>
+    ensures inside { IfOk result (λ bytes. bytes ≤ length room.new) }
+    ensures front { IfOk result (λ bytes. Consumes (R.remaining input.old) (R.remaining input.new) (take bytes room.new)) }
+    ensures whole { IfOk result (λ bytes. bytes < length room.new → IsAtEnd (R.remaining input.new)) }
 {
     let mut bytes: usize = 0;
     while bytes < room.len() {
-        let got = libc::read(STDIN_FILENO, &mut room[bytes..]);
-        if got < 0 {
-            return Reading {
-                bytes: bytes,
-                failed: true,
-            };
-        }
-        let more = io::count(got, &room[bytes..]);
+        let more = input.read(&mut room[bytes..])?;
         if more == 0 {
-            return Reading {
-                bytes: bytes,
-                failed: false,
-            };
+            return Ok(bytes);
         }
         bytes += more;
     }
-    Reading {
-        bytes: bytes,
-        failed: false,
-    }
+    Ok(bytes)
 }
 
-fn main() {
+fn main(rt: HostRuntime) -> io::Result<()> {
     let mut input = [0u8; LARGEST_INPUT + 1];
-    let reading = read_input(&mut input);
-    if reading.failed {
-        return;
-    }
-    let bytes = reading.bytes;
+    let bytes = read_input(&mut rt.reader(), &mut input)?;
     let mut text = [0u8; TEXT_SIZE];
     let end = lines::print_into(&input[..bytes], &mut text);
-    io::write_all(STDOUT_FILENO, &text[..end]);
+    rt.write_all(&text[..end])
 }
