@@ -1,13 +1,13 @@
 // Reads a sheet from standard input and prints a line a unit, or the refusal. The text is whole before any of it is written, in one
 // go; if the input cannot be read, nothing is printed, and the program ends with the error.
 #![tactic(auto)]
+
 ghost use Rattle.std.specs.Prelude.{◌<◌, ◌≤◌, IfOk, length, take};
 ghost use Rattle.std.specs.Io.KnownBytes.{Consumes, IsAtEnd};
 
+use lines::TEXT_SIZE;
 use std::io;
 use std::io::Read;
-
-use lines::TEXT_SIZE;
 use text::LARGEST_INPUT;
 
 // Reads to the end of the input, as far as there is room, and answers how many bytes were read, or the error of a read that failed.
