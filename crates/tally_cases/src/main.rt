@@ -13,7 +13,7 @@ use layout::NUMBER_SIZE;
 use lines::TEXT_SIZE;
 use mold_lines::MOLD_TEXT_SIZE;
 use std::io;
-use std::io::{BufWriter, Read, Write};
+use std::io::{Read, Write};
 use text::{LARGEST_INPUT, letter_of};
 
 // No test has more cases.
@@ -208,14 +208,13 @@ fn print_case(input: &mut impl Read, out: &mut impl Write, number: u64) -> io::R
     print_sheet(input, out, kind, &sheet[..size])
 }
 
-// What is printed is kept back until there is much of it or no case is left.
 fn main(rt: HostRuntime) -> io::Result<()> {
     let mut input = rt.reader();
-    let mut out = BufWriter::new(rt.alloc(), io::writer(&rt))?;
+    let mut out = io::writer(&rt);
     for number in 1..MOST_CASES {
         if !print_case(&mut input, &mut out, number)? {
             break;
         }
     }
-    out.flush()
+    Ok(())
 }
