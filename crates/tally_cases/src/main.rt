@@ -3,13 +3,17 @@
 // sheet, as the printing program prints it; 1 a mold sheet; 2 a tally sheet graded again under a second plan, which stands behind the sheet,
 // its length (four bytes) before it; 3 a look-up: finished results in place of a sheet, and behind them the code (two bytes); 4 a warehouse
 // lot in place of a sheet. A sheet, a second plan, results and a lot have any length up to one byte more than is taken for a sheet. A case of
-// another kind or with more bytes ends the program.
+// another kind or with more bytes ends the program. So does a read or a write that fails, with its error.
 #![tactic(auto)]
+
+ghost use Rattle.std.specs.Prelude.{◌≤◌, IfOk, length};
 
 use encoding::number_at;
 use layout::NUMBER_SIZE;
 use lines::TEXT_SIZE;
 use mold_lines::MOLD_TEXT_SIZE;
+use std::io;
+use std::io::{Read, Write};
 use text::{LARGEST_INPUT, letter_of};
 
 // No test has more cases.
@@ -38,167 +42,179 @@ const LENGTH_SIZE: usize = 2 * NUMBER_SIZE;
 
 const NUMBERS: usize = 65536;
 
-// Reads the kind of a case, or that none is left.
-fn read_kind() -> u8 {
-    let mut kind = [0u8; 1];
-    let got = io::read_full(libc::STDIN_FILENO, &mut kind);
-    if got < 1 {
-        return NO_CASE;
+// Reads until the room is full or the input ends, and answers how many bytes were read, or the error of a read that failed.
+// (io::Read::read_exact does not tell how many bytes stand before the end.)
+fn read_full(input: &mut impl Read, room: &mut [u8]) -> io::Result<usize>
+    ensures { IfOk result (λ bytes. bytes ≤ length room.new) }
+{
+    let mut bytes: usize = 0;
+    while bytes < room.len() {
+        let more = input.read(&mut room[bytes..])?;
+        if more == 0 {
+            return Ok(bytes);
+        }
+        bytes += more;
     }
-    kind[0]
+    Ok(bytes)
+}
+
+// Reads the kind of a case, or that none is left.
+fn read_kind(input: &mut impl Read) -> io::Result<u8> {
+    let mut kind = [0u8; 1];
+    let got = read_full(input, &mut kind)?;
+    if got < 1 {
+        return Ok(NO_CASE);
+    }
+    Ok(kind[0])
 }
 
 // Reads a length, or that there is none.
-fn read_length() -> usize {
+fn read_length(input: &mut impl Read) -> io::Result<usize> {
     let mut length = [0u8; LENGTH_SIZE];
-    let got = io::read_full(libc::STDIN_FILENO, &mut length);
+    let got = read_full(input, &mut length)?;
     if got < LENGTH_SIZE {
-        return NO_BYTES;
+        return Ok(NO_BYTES);
     }
     let high = number_at(&length, 0);
     let low = number_at(&length, NUMBER_SIZE);
-    high as usize * NUMBERS + low as usize
+    Ok(high as usize * NUMBERS + low as usize)
 }
 
 // Reads a length and as many bytes, and answers how many there are, or that they are not there or have no room.
-fn read_bytes(room: &mut [u8]) -> usize {
-    let length = read_length();
+fn read_bytes(input: &mut impl Read, room: &mut [u8]) -> io::Result<usize> {
+    let length = read_length(input)?;
     if room.len() < length {
-        return NO_BYTES;
+        return Ok(NO_BYTES);
     }
-    io::read_full(libc::STDIN_FILENO, &mut room[..length])
+    read_full(input, &mut room[..length])
 }
 
-fn print_number(number: u64) {
-    io::write_all(libc::STDOUT_FILENO, b"case ");
-    io::print_decimal(libc::STDOUT_FILENO, number);
-    io::write_all(libc::STDOUT_FILENO, b"\n");
+fn print_number(out: &mut impl Write, number: u64) -> io::Result<()> {
+    writeln!(out, "case {number}")
 }
 
-fn print_tally(sheet: &[u8]) {
+fn print_tally(out: &mut impl Write, sheet: &[u8]) -> io::Result<()> {
     let mut text = [0u8; TEXT_SIZE];
     let end = lines::print_into(sheet, &mut text);
-    io::write_all(libc::STDOUT_FILENO, &text[..end]);
+    out.write_all(&text[..end])
 }
 
-fn print_mold(sheet: &[u8]) {
+fn print_mold(out: &mut impl Write, sheet: &[u8]) -> io::Result<()> {
     let mut text = [0u8; MOLD_TEXT_SIZE];
     let end = mold_lines::print_mold_into(sheet, &mut text);
-    io::write_all(libc::STDOUT_FILENO, &text[..end]);
+    out.write_all(&text[..end])
 }
 
 // Reads the second plan, and prints the regrading; false where there is no such plan.
-fn print_regrading(sheet: &[u8]) -> bool {
+fn print_regrading(input: &mut impl Read, out: &mut impl Write, sheet: &[u8]) -> io::Result<bool> {
     let mut plan = [0u8; ROOM];
-    let size = read_bytes(&mut plan);
+    let size = read_bytes(input, &mut plan)?;
     if ROOM < size {
-        return false;
+        return Ok(false);
     }
     let mut text = [0u8; TEXT_SIZE];
     let end = regrade_lines::print_regrading_into(sheet, &plan[..size], &mut text);
-    io::write_all(libc::STDOUT_FILENO, &text[..end]);
-    true
+    out.write_all(&text[..end])?;
+    Ok(true)
 }
 
 // The place of the part in the results, and its bytes.
-fn print_found(offset: usize, part: &[u8]) {
-    io::write_all(libc::STDOUT_FILENO, b"found ");
-    io::print_decimal(libc::STDOUT_FILENO, offset as u64);
-    let mut i: usize = 0;
-    while i < part.len() {
-        io::write_all(libc::STDOUT_FILENO, b" ");
-        io::print_decimal(libc::STDOUT_FILENO, part[i] as u64);
-        i += 1;
+fn print_found(out: &mut impl Write, offset: usize, part: &[u8]) -> io::Result<()> {
+    write!(out, "found {offset}")?;
+    for byte in part {
+        write!(out, " {byte}")?;
     }
-    io::write_all(libc::STDOUT_FILENO, b"\n");
+    out.write_all(b"\n")
 }
 
 // A refusal of results or of a lot: the offset is 0.
-fn print_refused(number: u32) {
-    io::write_all(libc::STDOUT_FILENO, b"refused ");
-    io::print_decimal(libc::STDOUT_FILENO, number as u64);
-    io::write_all(libc::STDOUT_FILENO, b" 0\n");
+fn print_refused(out: &mut impl Write, number: u32) -> io::Result<()> {
+    writeln!(out, "refused {number} 0")
 }
 
 // The number says that nothing is found: the code is not there, or the results are refused.
-fn print_not_found(number: u32) {
+fn print_not_found(out: &mut impl Write, number: u32) -> io::Result<()> {
     if number == 1 {
-        io::write_all(libc::STDOUT_FILENO, b"not on this sheet\n");
-        return;
+        return out.write_all(b"not on this sheet\n");
     }
-    print_refused(number);
+    print_refused(out, number)
 }
 
 // Reads the code, and prints the look-up; false where there is no code.
-fn print_lookup(results: &[u8]) -> bool {
+fn print_lookup(input: &mut impl Read, out: &mut impl Write, results: &[u8]) -> io::Result<bool> {
     let mut bytes = [0u8; NUMBER_SIZE];
-    let got = io::read_full(libc::STDIN_FILENO, &mut bytes);
+    let got = read_full(input, &mut bytes)?;
     if got < NUMBER_SIZE {
-        return false;
+        return Ok(false);
     }
     let code = number_at(&bytes, 0);
     let mut number: u32 = 0;
     let part = lookup::find(results, code, &mut number);
     if number == 0 {
-        print_found(lookup::find_place(results, code).offset, part);
+        print_found(out, lookup::find_place(results, code).offset, part)?;
     } else {
-        print_not_found(number);
+        print_not_found(out, number)?;
     }
-    true
+    Ok(true)
 }
 
-fn print_lot(lot: &[u8]) {
+fn print_lot(out: &mut impl Write, lot: &[u8]) -> io::Result<()> {
     let answer = lots::grade_lot(lot);
     if answer.number != 0 {
-        print_refused(answer.number);
-        return;
+        return print_refused(out, answer.number);
     }
     let letter = [letter_of(b"ABC", b'S', answer.grade)];
-    io::write_all(libc::STDOUT_FILENO, b"lot ");
-    io::write_all(libc::STDOUT_FILENO, &letter);
-    io::write_all(libc::STDOUT_FILENO, b"\n");
+    out.write_all(b"lot ")?;
+    out.write_all(&letter)?;
+    out.write_all(b"\n")
 }
 
-fn print_sheet(kind: u8, sheet: &[u8]) -> bool {
+fn print_sheet(
+    input: &mut impl Read,
+    out: &mut impl Write,
+    kind: u8,
+    sheet: &[u8],
+) -> io::Result<bool> {
     if kind == TALLY {
-        print_tally(sheet);
-        return true;
+        print_tally(out, sheet)?;
+        return Ok(true);
     }
     if kind == MOLD {
-        print_mold(sheet);
-        return true;
+        print_mold(out, sheet)?;
+        return Ok(true);
     }
     if kind == REGRADING {
-        return print_regrading(sheet);
+        return print_regrading(input, out, sheet);
     }
     if kind == LOOKUP {
-        return print_lookup(sheet);
+        return print_lookup(input, out, sheet);
     }
-    print_lot(sheet);
-    true
+    print_lot(out, sheet)?;
+    Ok(true)
 }
 
 // Prints one case; false where none is left, or it is none of these.
-fn print_case(number: u64) -> bool {
-    let kind = read_kind();
+fn print_case(input: &mut impl Read, out: &mut impl Write, number: u64) -> io::Result<bool> {
+    let kind = read_kind(input)?;
     if LOT < kind {
-        return false;
+        return Ok(false);
     }
     let mut sheet = [0u8; ROOM];
-    let size = read_bytes(&mut sheet);
+    let size = read_bytes(input, &mut sheet)?;
     if ROOM < size {
-        return false;
+        return Ok(false);
     }
-    print_number(number);
-    print_sheet(kind, &sheet[..size])
+    print_number(out, number)?;
+    print_sheet(input, out, kind, &sheet[..size])
 }
 
-fn main() {
-    let mut number: u64 = 1;
-    while number < MOST_CASES {
-        if !print_case(number) {
-            return;
+fn main(rt: HostRuntime) -> io::Result<()> {
+    let mut input = rt.reader();
+    let mut out = io::writer(&rt);
+    for number in 1..MOST_CASES {
+        if !print_case(&mut input, &mut out, number)? {
+            break;
         }
-        number += 1;
     }
+    Ok(())
 }
