@@ -25,7 +25,7 @@ use Rattle.regrade_demands.specs.RegradeSheets.{recorded_plan, buyer_b, largest_
 use Rattle.regrade_demands.specs.RegradeInstances.{more_left}
 use Rattle.regrade_demands.proofs.RegradeGrounds.{regrade_refusals}
 use Rattle.regrade_demands.proofs.RegradeSheets.{regrade_sheets}
-use Rattle.regrade_demands.proofs.RegradeInstances.{four_accepted, more_accepted}
+use Rattle.regrade_demands.proofs.RegradePair.{four_accepted, more_accepted}
 use Rattle.computed.specs.WorkedCases.{peach_plan, peach_units, peach, peach_results}
 use Rattle.computed.specs.FurtherSheets.{break_between_failures, break_between_failures_results, every_kind_of_record, every_kind_of_record_results, every_lower_plan, every_lower_plan_results, one_minor_defect_fewer, one_minor_defect_fewer_results, one_severe_defect_fewer, one_severe_defect_fewer_results, raw_value_at_limit, raw_value_at_limit_results, no_defect_in_place_of_one, no_defect_in_place_of_one_results, largest_plan, largest_cusums, largest_cusums_results}
 use Rattle.demands.specs.Instances.{left, peach_left, every_kind_left, lower_plans_left, peach_standings, every_kind_standings, peach_planned, lower_plans_planned, every_kind_planned, standing_byte, CourseInstance, LowerPlansInstance, CodeInstance, LargestInstance, LargestNumber, FewerInstance, FewerTwiceInstance, FewerMeetsInstance, many_defects, units_and_breaks, FitInstance, LookupInstance, Instances}

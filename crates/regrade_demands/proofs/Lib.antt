@@ -7,5 +7,6 @@ pub mod RegradeLargest
 pub mod RegradeFewer
 pub mod RegradeSheets
 pub mod RegradeText
+pub mod RegradePair
 pub mod RegradeInstances
 pub mod RegradeDemands

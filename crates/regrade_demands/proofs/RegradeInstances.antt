@@ -13,79 +13,29 @@ use Rattle.encoding.specs.Bytes.{wide_number}
 use Rattle.units.specs.Words.{classes}
 use Rattle.anchors.specs.Anchor.{tenths_at, tenths_from}
 use Rattle.results.specs.Record.{result_size}
-use Rattle.outcome.specs.declared.Answer.{Answer}
-use Rattle.outcome.specs.Outcome.{Outcome, accepted_as, refused_as, refusal}
-use Rattle.tally.specs.Accepted.{UnitAt}
+use Rattle.outcome.specs.Outcome.{Outcome, refused_as, refusal}
 use Rattle.answers.specs.Grounds.{start_in, tolerance_in, limit_in, IsRedesignation, IsBreak}
 use Rattle.courses.specs.Course.{ten_times_count, prerequisite}
-use Rattle.alike.proofs.OneFewer.{alike_but_place, no_more_but_place}
-use Rattle.alike.specs.Alike.{InCount}
 use Rattle.regrade.specs.Outcome.{regrade_outcome}
 use Rattle.regrade.proofs.Computing.{computing}
-use Rattle.regrade_demands.specs.RegradeAccepted.{RegradedAs, second_designated, fails_regraded_at, regraded_sheet}
+use Rattle.regrade_demands.specs.RegradeAccepted.{second_designated, fails_regraded_at, regraded_sheet}
 use Rattle.regrade_demands.specs.RegradeRecords.{RuleTwoBy, UnitFailsRegraded, BestLowerUnder, RegradeCourse, RegradedByRules}
 use Rattle.regrade_demands.specs.RegradeLargest.{at_failure}
-use Rattle.regrade_demands.specs.RegradeFewer.{NoWorseAt}
 use Rattle.regrade_demands.specs.RegradeSheets.{recorded_plan, buyer_a, buyer_b, two_failures_before_redesignation, two_failures_before_redesignation_results, five_minor_defects_fewer, five_minor_defects_fewer_results, failure_of_second_plan}
-use Rattle.regrade_demands.specs.RegradeInstances.{more_left, fewer_left, OneOfFour, record0, record1, record3, record5, RecordedInstance, NoWorseInstance, RegradeInstances}
+use Rattle.regrade_demands.specs.RegradeInstances.{more_left, OneOfFour, record0, record1, record3, record5, RecordedInstance, NoWorseInstance, RegradeInstances}
 use Rattle.regrade_demands.proofs.RegradeAnswers.{regrade_answered}
 use Rattle.regrade_demands.proofs.RegradeGrounds.{regrade_refusals}
 use Rattle.regrade_demands.proofs.RegradeRecords.{regrade_graded}
 use Rattle.regrade_demands.proofs.RegradeLargest.{regrade_largest_form}
-use Rattle.regrade_demands.proofs.RegradeFewer.{regrade_fewer_defects}
 use Rattle.regrade_demands.proofs.RegradeSheets.{regrade_sheets}
-
-abbrev more : List ℕ
-more = two_failures_before_redesignation
-
-abbrev fewer : List ℕ
-fewer = five_minor_defects_fewer
-
-abbrev pub four_accepted : Answer
-four_accepted = accepted_as 4 136
-
-pub more_accepted : (buffer : List ℕ) → result_size * 4 ≤ length buffer → RegradedAs more buyer_b buffer four_accepted (more_left buffer)
-more_accepted buffer holds = record { promise = sym (regrade_sheets.fewer_defects.two_failures_before_redesignation_holds buffer holds); accepted = refl }
-
-fewer_accepted : (buffer : List ℕ) → result_size * 4 ≤ length buffer → RegradedAs fewer buyer_b buffer four_accepted (fewer_left buffer)
-fewer_accepted buffer holds = record { promise = sym (regrade_sheets.fewer_defects.five_minor_defects_fewer_holds buffer holds); accepted = refl }
-
-unit_at : (i : ℕ) → OneOfFour i → UnitAt more i
-unfolding computing recorded_plan two_failures_before_redesignation
-unit_at i record0 = record { inside = lit< tt; is_unit = refl }
-unit_at i record1 = record { inside = lit< tt; is_unit = refl }
-unit_at i record3 = record { inside = lit< tt; is_unit = refl }
-unit_at i record5 = record { inside = lit< tt; is_unit = refl }
-
-unit_of_fewer : (i : ℕ) → OneOfFour i → UnitAt fewer i
-unfolding computing recorded_plan five_minor_defects_fewer
-unit_of_fewer i record0 = record { inside = lit< tt; is_unit = refl }
-unit_of_fewer i record1 = record { inside = lit< tt; is_unit = refl }
-unit_of_fewer i record3 = record { inside = lit< tt; is_unit = refl }
-unit_of_fewer i record5 = record { inside = lit< tt; is_unit = refl }
+use Rattle.regrade_demands.proofs.RegradePair.{more, fewer, four_accepted, more_accepted, unit_at, unit_of_fewer, compared}
 
 -- ---- the pair
 
 module _ (buffer buffer' : List ℕ) (holds : result_size * 4 ≤ length buffer) (holds' : result_size * 4 ≤ length buffer') where
-  -- the minor count of record 1
-  in_count : InCount fewer 100
-  unfolding computing recorded_plan five_minor_defects_fewer
-  in_count = record { i = 1; unit = unit_of_fewer 1 record1; from = lit< tt; to = lit< tt }
-
-  compared : (i : ℕ) → UnitAt fewer i → NoWorseAt fewer more buyer_b (fewer_left buffer) (more_left buffer') i
-  unfolding recorded_plan two_failures_before_redesignation five_minor_defects_fewer
-  compared =
-      regrade_fewer_defects fewer more buyer_b buffer buffer' four_accepted four_accepted (fewer_left buffer) (more_left buffer')
-      (record {
-        first = fewer_accepted buffer holds;
-        second = more_accepted buffer' holds';
-        alike = alike_but_place fewer more 100 9 refl (lit< tt) (lit< tt) in_count;
-        no_more = no_more_but_place fewer more 100 9 refl (lit< tt) (lit< tt) in_count;
-      })
-
   no_worse : (i : ℕ) → OneOfFour i → NoWorseInstance buffer buffer' i
   no_worse i one =
-      let here = compared i (unit_of_fewer i one) in
+      let here = compared buffer buffer' holds holds' i (unit_of_fewer i one) in
       record { cusums = here.cusums; overshoots = here.overshoots; failures = here.failures; portions = here.portions; codes = here.codes }
 
 -- ---- the course of the sheet in total, S 2.5, T 9.5, L 6, with 14, 14, 9 and 12 defects; 14 are admitted under C, T+L 23
