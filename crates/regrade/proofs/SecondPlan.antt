@@ -15,18 +15,18 @@ use Rattle.sheet.specs.Refusals.{plan_refusal}
 use Rattle.sheet.proofs.Ranges.{designated_le}
 use Rattle.regrade.specs.Outcome.{second_plan_wrong}
 
-not-false : (test : Bool) → not test ≡ false → test ≡ true
-not-false true e = refl
-not-false false e = sym e
+not_false : (test : Bool) → not test ≡ false → test ≡ true
+not_false true e = refl
+not_false false e = sym e
 
 module _ (plan : List ℕ) (right : second_plan_wrong plan ≡ false) where
   pub plan_length : length plan ≡ plan_size
   unfolding second_plan_wrong
-  plan_length = eqb-true (length plan) plan_size (not-false _ (or_first (not (eqb (length plan) plan_size)) _ right))
+  plan_length = eqb-true (length plan) plan_size (not_false _ (or_first (not (eqb (length plan) plan_size)) _ right))
 
   pub plan_passes : plan_refusal plan ≡ 0
   unfolding second_plan_wrong
-  plan_passes = eqb-true (plan_refusal plan) 0 (not-false _ (or_second (not (eqb (length plan) plan_size)) _ right))
+  plan_passes = eqb-true (plan_refusal plan) 0 (not_false _ (or_second (not (eqb (length plan) plan_size)) _ right))
 
   -- its designated grade has a plan
   pub designated_planned : has_plan (plan_of plan).designated ≡ true

@@ -22,14 +22,14 @@ number_field-after_code-requires c =
 pub letter_fields-after_letters-requires : goal.letter_fields-after_letters-requires
 letter_fields-after_letters-requires c =
     let args = c.args in
-    let code-length = ap (λ (n : ℕ). length (decimal n)) c.number_at-code.ensures in
-    (omega arith, omega (arith, length_unit_line args.results.now args.j, code-length))
+    let code_length = ap (λ (n : ℕ). length (decimal n)) c.number_at-code.ensures in
+    (omega arith, omega (arith, length_unit_line args.results.now args.j, code_length))
 
 pub cusum_fields-requires : goal.cusum_fields-requires
 cusum_fields-requires c =
     let args = c.args in
-    let code-length = ap (λ (n : ℕ). length (decimal n)) c.number_at-code.ensures in
-    (omega arith, omega (arith, length_unit_line args.results.now args.j, code-length))
+    let code_length = ap (λ (n : ℕ). length (decimal n)) c.number_at-code.ensures in
+    (omega arith, omega (arith, length_unit_line args.results.now args.j, code_length))
 
 pub returns : goal.returns
 unfolding rest_of_line line_with line_of

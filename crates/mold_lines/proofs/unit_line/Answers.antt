@@ -22,12 +22,12 @@ number_field-after_code-requires c =
 pub result_fields-requires : goal.result_fields-requires
 result_fields-requires c =
     let args = c.args in
-    let code-length = ap (λ (unit : MoldUnit). length (decimal unit.code)) c.mold_unit_at-code.ensures in (
+    let code_length = ap (λ (unit : MoldUnit). length (decimal unit.code)) c.mold_unit_at-code.ensures in (
       c.requires.1,
       omega (
         arith,
         length_line args.sheet.now args.results.now args.j,
-        code-length,
+        code_length,
         c.number_field-after_code.ensures.ends,
         c.decimal-after_number.ensures.ends,
         c.requires.2,

@@ -18,19 +18,19 @@ pub unit_line-end-requires : goal.unit_line-end-requires
 unit_line-end-requires c =
     let sheet = c.args.sheet.now in
     let results = c.args.results.now in
-    let sheet-bytes : (at : ℕ) → byte sheet at < 256 = λ at. omega (arith, c.type_inv.sheet at) in
-    let result-bytes : (at : ℕ) → byte results at < 256 = λ at. omega (arith, c.type_inv.results at) in
-    (omega arith, omega arith, omega (arith, short_line sheet results sheet-bytes result-bytes c.loop-j.j (omega arith)))
+    let sheet_bytes : (at : ℕ) → byte sheet at < 256 = λ at. omega (arith, c.type_inv.sheet at) in
+    let result_bytes : (at : ℕ) → byte results at < 256 = λ at. omega (arith, c.type_inv.results at) in
+    (omega arith, omega arith, omega (arith, short_line sheet results sheet_bytes result_bytes c.loop-j.j (omega arith)))
 
 pub loop-j-preserved : goal.loop-j-preserved
 loop-j-preserved c =
     let sheet = c.args.sheet.now in
     let results = c.args.results.now in
-    let sheet-bytes : (at : ℕ) → byte sheet at < 256 = λ at. omega (arith, c.type_inv.sheet at) in
-    let result-bytes : (at : ℕ) → byte results at < 256 = λ at. omega (arith, c.type_inv.results at) in
+    let sheet_bytes : (at : ℕ) → byte sheet at < 256 = λ at. omega (arith, c.type_inv.sheet at) in
+    let result_bytes : (at : ℕ) → byte results at < 256 = λ at. omega (arith, c.type_inv.results at) in
     let loop = c.loop-j in (
       search rules,
       search rules,
-      omega (arith, c.unit_line-end.ensures.ends, short_line sheet results sheet-bytes result-bytes loop.j (omega arith)),
+      omega (arith, c.unit_line-end.ensures.ends, short_line sheet results sheet_bytes result_bytes loop.j (omega arith)),
       line_next (mold_line_of sheet results) loop.j loop.invariant.3 c.unit_line-end.ensures,
     )

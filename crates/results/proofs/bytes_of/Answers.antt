@@ -10,7 +10,7 @@ use Rattle.results.specs.declared.ResultRecord.{ResultRecord}
 use Rattle.results.specs.Record.{overshoots_offset, overshoot_width, result_bytes, class_bytes}
 use Rattle.results.proofs.bytes_of.Goals as goal
 
-bytes-are : (grade : ℕ) (result : ResultRecord) {critical severe major total : List ℕ}
+bytes_are : (grade : ℕ) (result : ResultRecord) {critical severe major total : List ℕ}
     → critical ≡ bytes_of overshoot_width (overshoot_for result.overshoots 0)
     → severe ≡ bytes_of overshoot_width (overshoot_for result.overshoots 1)
     → major ≡ bytes_of overshoot_width (overshoot_for result.overshoots 2)
@@ -22,11 +22,11 @@ bytes-are : (grade : ℕ) (result : ResultRecord) {critical severe major total :
     ∷ byte total 0 ∷ byte total 1 ∷ byte total 2 ∷ byte total 3 ∷ [])
     ≡ result_bytes grade result
 unfolding result_bytes class_bytes bytes_of
-bytes-are grade result first second third fourth = rw (first, second, third, fourth)
+bytes_are grade result first second third fourth = rw (first, second, third, fourth)
 
 pub returns : goal.returns
 unfolding result_bytes class_bytes bytes_of
 returns c =
     let args = c.args in
-    bytes-are args.grade args.res
+    bytes_are args.grade args.res
     c.four_bytes-over_critical.ensures c.four_bytes-over_severe.ensures c.four_bytes-over_major.ensures c.four_bytes-over_total.ensures

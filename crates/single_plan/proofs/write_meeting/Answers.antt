@@ -23,6 +23,8 @@ loop-place-init c =
 pub mark_at-mark-requires : goal.mark_at-mark-requires
 mark_at-mark-requires c = mark_within c.loop-place.invariant.0 (omega arith)
 
+-- ---- a unit
+
 pub sample_unit_at-unit-requires : goal.sample_unit_at-unit-requires
 sample_unit_at-unit-requires c =
     unit_within c.loop-place.invariant.0 (omega arith) c.mark_at-mark.ensures c.in-UnitMark.is
@@ -39,11 +41,11 @@ past-place-requires c =
 pub loop-place-preserved-in-UnitMark : goal.loop-place-preserved-in-UnitMark
 loop-place-preserved-in-UnitMark c =
     let designated = c.args.designated in
-    let met-grading : Grading =
+    let met_grading : Grading =
     record { cusums = c.step_classes-stepped.result.cusums; overshoots = no_overshoots; fails = false; grade = designated } in
     let recorded : Grading → List ℕ = λ (g : Grading). result_bytes ungraded (result_under designated c.sample_unit_at-unit.result g) in (
       walk_past c.loop-place.invariant.0 (omega arith) c.mark_at-mark.ensures c.past-place.ensures,
-      ap length c.write_graded.ensures ∙ length-sets c.loop-place.results (result_size * c.loop-place.place.units) (recorded met-grading)
+      ap length c.write_graded.ensures ∙ length-sets c.loop-place.results (result_size * c.loop-place.place.units) (recorded met_grading)
           ∙ c.loop-place.invariant.1,
       λ table is_row.
           let met = met_is table _ _ c.sample_unit_at-unit.result c.requires.planned is_row c.step_classes-stepped.ensures c.if-stepped.false in
@@ -53,7 +55,7 @@ loop-place-preserved-in-UnitMark c =
           ∙ ap (λ (g : Grading). sets c.loop-place.results (result_size * c.loop-place.place.units) (recorded g)) met),
     )
 
--- ---- a redesignation
+-- ---- a break
 
 pub past-place-requires-in_default : goal.past-place-requires-in_default
 past-place-requires-in_default c =

@@ -14,15 +14,16 @@ use Rattle.units.proofs.Lists.{all_hit, all_miss, all_end}
 use borrow.Author.Rules.{rules}
 use Rattle.units.proofs.none_above.Goals as goal
 
-one-test : (limits : Bool) (row : List PlanNumbers) (counts : List ℕ)
+-- one test for T+L and for T
+one_test : (limits : Bool) (row : List PlanNumbers) (counts : List ℕ)
     → cond limits (admits row counts) (within_tolerance row counts) ≡ none_above (bound limits) row counts
 unfolding admits within_tolerance
-one-test true row counts = refl
-one-test false row counts = refl
+one_test true row counts = refl
+one_test false row counts = refl
 
 pub loop-class-init : goal.loop-class-init
 unfolding none_above
-loop-class-init c = (search rules, one-test c.args.limits c.args.row c.args.tenths)
+loop-class-init c = (search rules, one_test c.args.limits c.args.row c.args.tenths)
 
 pub returns-then-highest_of-tenths : goal.returns-then-highest_of-tenths
 returns-then-highest_of-tenths c =

@@ -13,8 +13,6 @@ use Rattle.units.proofs.none_above.Given as goal
 abbrev pub bound : Bool → PlanNumbers → ℕ
 bound limits numbers = cond limits (numbers.tolerance + numbers.limit) numbers.tolerance
 
--- one test for T+L and for T
-
 abbrev pub invariant-loop-class : goal.invariant-loop-class
 invariant-loop-class l = (l.class ≤ length classes)
     × (cond l.limits (admits l.row l.tenths) (within_tolerance l.row l.tenths)

@@ -14,12 +14,12 @@ use Rattle.units.specs.Unit.{stepped_in}
 use Rattle.units.proofs.Lists.{fill_next, fill_last, tested_next, tested_last}
 use Rattle.units.proofs.step_classes.Goals as goal
 
-all-stepped : (row : List PlanNumbers) (cusums : List Cusum) {counts counts' : List ℕ} {new : List Cusum} {over : List ℕ} {failed : Bool} {class : ℕ}
+all_stepped : (row : List PlanNumbers) (cusums : List Cusum) {counts counts' : List ℕ} {new : List Cusum} {over : List ℕ} {failed : Bool} {class : ℕ}
     → counts ≡ counts' → Stepped row cusums counts new over failed class → length classes ≤ class
     → record { cusums = new; overshoots = over; fails = failed } ≡ stepped_in row cusums counts'
 unfolding stepped_in
-all-stepped row cusums same (filled, over-filled, tested) past =
-    rw (← same, fill_last filled past, fill_last over-filled past, tested_last tested past)
+all_stepped row cusums same (filled, over_filled, tested) past =
+    rw (← same, fill_last filled past, fill_last over_filled past, tested_last tested past)
 
 pub loop-class-preserved : goal.loop-class-preserved
 loop-class-preserved c =
@@ -30,4 +30,4 @@ loop-class-preserved c =
     )
 
 pub returns : goal.returns
-returns c = all-stepped _ _ c.tenths_of-tenths.ensures c.loop-class.invariant (omega arith)
+returns c = all_stepped _ _ c.tenths_of-tenths.ensures c.loop-class.invariant (omega arith)

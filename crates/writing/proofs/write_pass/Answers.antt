@@ -22,7 +22,7 @@ write_next-position-requires c =
 pub loop-done-smaller-then-done-records : goal.loop-done-smaller-then-done-records
 loop-done-smaller-then-done-records c =
     let on = (going_met _ _ _ c.args.designated c.args.results.now _ _ c.args.again c.loop-done.invariant.0 _ _ c.past_meeting-position.ensures).1 in
-    let is-done = c.loop-done.invariant.1 in
+    let is_done = c.loop-done.invariant.1 in
     omega arith
 
 pub loop-done-preserved-then-done-records : goal.loop-done-preserved-then-done-records
@@ -39,5 +39,5 @@ loop-done-preserved c =
 
 pub returns : goal.returns
 returns c =
-    let is-done = c.loop-done.invariant.1 in
+    let is_done = c.loop-done.invariant.1 in
     going_done _ _ _ _ _ _ _ c.args.again c.loop-done.invariant.0 (omega arith)

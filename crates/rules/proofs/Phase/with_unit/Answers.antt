@@ -9,16 +9,16 @@ use Rattle.rules.specs.declared.Phase.TheVariants.{StepThree}
 use Rattle.rules.specs.StepThree.{ends_step_three, with_unit}
 use Rattle.rules.proofs.Phase.with_unit.Goals as goal
 
-run-below-two : {phase : Phase} {lower run : ℕ} {qualifies : Bool} → phase ≡ StepThree lower run → qualifies ≡ true
+run_below_two : {phase : Phase} {lower run : ℕ} {qualifies : Bool} → phase ≡ StepThree lower run → qualifies ≡ true
     → ends_step_three phase qualifies ≡ false → run < 2
 unfolding ends_step_three
-run-below-two {phase} {lower} {run} in-phase qualifying Going-on =
+run_below_two {phase} {lower} {run} in-phase qualifying Going-on =
     leb-false 2 run (sym (ap₂ ends_step_three in-phase qualifying) ∙ Going-on)
 
 pub overflow_add-result : goal.overflow_add-result
 overflow_add-result c =
     let below_two : c.in-StepThree.run' < 2 =
-    run-below-two c.in-StepThree.is c.if-qualifies.true c.requires in
+    run_below_two c.in-StepThree.is c.if-qualifies.true c.requires in
     omega arith
 
 pub returns-then-qualifies : goal.returns-then-qualifies
