@@ -70,8 +70,8 @@ module _ (sheet : Sheet) (apart : FailingNeverQualifies sheet) (i : ℕ) where
     unfolding next
     unit_keeps e =
         let one = or_first (lower_plan_starts_at sheet i) (third_in_a_row sheet i) e in
-        let Going-on = or_second (lower_plan_starts_at sheet i) (third_in_a_row sheet i) e in
-        rw (unit_passes table state (graded_at sheet i unit) (qualifies_in table state unit) (sym ends_is ∙ Going-on) (starts_is sheet i unit is_unit ∙ one))
+        let going_on = or_second (lower_plan_starts_at sheet i) (third_in_a_row sheet i) e in
+        rw (unit_passes table state (graded_at sheet i unit) (qualifies_in table state unit) (sym ends_is ∙ going_on) (starts_is sheet i unit is_unit ∙ one))
         (with_unit_in_force state.designated state.phase (qualifies_in table state unit), refl)
 
   -- ---- any record

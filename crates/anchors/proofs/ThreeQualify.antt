@@ -43,13 +43,13 @@ qualifying_inside table state unit e = (and_both (in_step_three state.phase) _ e
 longer : (phase : Phase) (qualifies : Bool) (least : ℕ) → qualifies ≡ true → RunAtLeast least phase → RunAtLeast (suc least) (with_unit phase qualifies)
 unfolding RunAtLeast with_unit
 longer Designated qualifies least qualifying run = absurd run
-longer (StepThree lower run) true least qualifying at_least_lem = omega arith
-longer (StepThree lower run) false least qualifying at_least_lem = absurd (false≢true qualifying)
+longer (StepThree lower run) true least qualifying at_least = omega arith
+longer (StepThree lower run) false least qualifying at_least = absurd (false≢true qualifying)
 
 ends_from_two : (phase : Phase) (qualifies : Bool) → qualifies ≡ true → RunAtLeast 2 phase → ends_step_three phase qualifies ≡ true
 unfolding RunAtLeast ends_step_three
 ends_from_two Designated qualifies qualifying run = absurd run
-ends_from_two (StepThree lower run) qualifies qualifying at_least_lem = rw qualifying (le-leb 2 run at_least_lem)
+ends_from_two (StepThree lower run) qualifies qualifying at_least = rw qualifying (le-leb 2 run at_least)
 
 -- ---- by their places
 
@@ -79,7 +79,7 @@ module _ (sheet : Sheet) (apart : FailingNeverQualifies sheet) where
   run_longer : (i least : ℕ) → unit_qualifies_at sheet i ≡ true → RunAtLeast least (before sheet i).phase → in_step_three (before sheet (suc i)).phase ≡ true
       → RunAtLeast (suc least) (before sheet (suc i)).phase
   unfolding before next
-  run_longer i least e at_least_lem =
+  run_longer i least e at_least =
       let (unit, is_unit, qualifies) = qualifying_unit sheet i e in
       let state : State = before sheet i in
       subst⁻¹ (λ (entry : Entry). Grows (next sheet.table state entry)) is_unit
@@ -89,7 +89,7 @@ module _ (sheet : Sheet) (apart : FailingNeverQualifies sheet) where
       (λ ends two.
       let fails = (and_both (is_failure state.previous) _ (sym (two_in_a_row_is state.previous _) ∙ two)).1 in
       absurd (true≢false (sym qualifies ∙ apart i unit fails)))
-      (λ ends two inside. longer state.phase (qualifies_in sheet.table state unit) least qualifies at_least_lem))
+      (λ ends two inside. longer state.phase (qualifies_in sheet.table state unit) least qualifies at_least))
     where
       Grows : State → Type 0
       Grows behind = in_step_three behind.phase ≡ true → RunAtLeast (suc least) behind.phase

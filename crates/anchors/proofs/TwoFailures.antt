@@ -268,9 +268,9 @@ module _ (sheet : Sheet) where
       → lower_plan_starts_at sheet (suc i) ≡ true → ends_step_three (before sheet (suc i)).phase (qualifies_at sheet (suc i) second) ≡ false
       → (before sheet (suc (suc i))).phase ≡ StepThree (worse (graded_at sheet i first).grade (graded_at sheet (suc i) second).grade) 0
   unfolding before next restarted worse_of_two
-  lower_is_worse i first second is_first is_second starts Going-on =
+  lower_is_worse i first second is_first is_second starts going_on =
       let state : State = before sheet (suc i) in
-      let started = unit_starts_lower sheet.table state (graded_at sheet (suc i) second) (qualifies_at sheet (suc i) second) Going-on
+      let started = unit_starts_lower sheet.table state (graded_at sheet (suc i) second) (qualifies_at sheet (suc i) second) going_on
       (starts_is (suc i) second is_second ∙ starts) in
       ap (λ (entry : Entry). (next sheet.table state entry).phase) is_second
       ∙ ap (λ (behind : State). behind.phase) started

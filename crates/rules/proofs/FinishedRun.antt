@@ -43,13 +43,13 @@ run_back : (phase : Phase) (qualifies : Bool) (lower run : ℕ) → ends_step_th
     → with_unit phase qualifies ≡ StepThree lower (suc run)
     → (qualifies ≡ true) × (phase ≡ StepThree lower run) × (run < 2)
 unfolding ends_step_three with_unit
-run_back Designated qualifies lower run Going-on e = let z : ◌≡◌ {A = ℕ} 0 1 = cc in absurd (omega arith)
-run_back (StepThree lower' run') false lower run Going-on e = let z : ◌≡◌ {A = ℕ} 0 (suc run) = cc in absurd (omega arith)
-run_back (StepThree lower' run') true lower run Going-on e =
+run_back Designated qualifies lower run going_on e = let z : ◌≡◌ {A = ℕ} 0 1 = cc in absurd (omega arith)
+run_back (StepThree lower' run') false lower run going_on e = let z : ◌≡◌ {A = ℕ} 0 (suc run) = cc in absurd (omega arith)
+run_back (StepThree lower' run') true lower run going_on e =
     let more : run' + 1 ≡ suc run = cc in
     let same_run : run' ≡ run = omega arith in
     let same_lower : lower' ≡ lower = cc in
-    (refl, cc, omega (arith, leb-false 2 run' Going-on))
+    (refl, cc, omega (arith, leb-false 2 run' going_on))
 
 module _ (table : Table) (state : State) where
   -- in step 3 after one qualifying unit or more: what the record just before was

@@ -35,13 +35,13 @@ module _ (table : Table) (state : State) (grading : Grading) (qualifies : Bool) 
       → after_unit table state grading qualifies
       ≡ restarted table state.designated (StepThree (worse_of_two state.previous grading.grade) 0)
   unfolding after_unit pick
-  unit_starts_lower Going-on two = rw (Going-on, two)
+  unit_starts_lower going_on two = rw (going_on, two)
 
   pub unit_passes : ends_step_three state.phase qualifies ≡ false → two_in_a_row state.previous grading.fails ≡ false
       → after_unit table state grading qualifies
       ≡ state_of state.designated (failure_after grading.fails grading.grade) (with_unit state.phase qualifies) grading.cusums
   unfolding after_unit pick
-  unit_passes Going-on one = rw (Going-on, one)
+  unit_passes going_on one = rw (going_on, one)
 
   -- what holds in each of the three cases
   pub unit_by : (P : State → Type 0)

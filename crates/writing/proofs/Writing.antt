@@ -136,7 +136,7 @@ module _ {bytes : List ℕ} {n : ℕ} {table : Table} {place : Place} {state : S
 
     -- in step 3, where it does not end
     pub step_three_goes_on : ends_step_three state.phase (qualifies_in table state unit) ≡ false → OneMore sheet i results behind
-    step_three_goes_on Going-on = unit_added (ends_is ∙ Going-on)
+    step_three_goes_on going_on = unit_added (ends_is ∙ going_on)
 
   -- ---- where step 3 ends at it, the two units right before it are those of the finished run
 
@@ -278,7 +278,7 @@ module _ {bytes : List ℕ} {n : ℕ} {table : Table} {place : Place} {state : S
     stored_as = stored ∙ ap (λ (r : ResultRecord). sets results (result_size * place.units) (result_bytes ungraded r)) is_result
 
     pub written_going_on : test ≡ false → OneMore (sheet_of bytes n) place.index results added
-    written_going_on Going-on = step_three_goes_on here grading grades results added refl stored_as (ends_as_tested is_test ∙ Going-on)
+    written_going_on going_on = step_three_goes_on here grading grades results added refl stored_as (ends_as_tested is_test ∙ going_on)
 
     pub written_at_end : test ≡ true → {behind : List ℕ} → behind ≡ three_recovered bytes place state.designated added
         → OneMore (sheet_of bytes n) place.index results behind

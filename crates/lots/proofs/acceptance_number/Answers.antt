@@ -8,12 +8,14 @@ use Rattle.lots.proofs.acceptance_number.Goals as goal
 pub returns-then-column-ge-SAMPLE_UNITS_LISTED : goal.returns-then-column-ge-SAMPLE_UNITS_LISTED
 unfolding acceptance_number
 returns-then-column-ge-SAMPLE_UNITS_LISTED c =
-    rw (← c.place_of_aql-row.ensures, ← c.place_of_sample_units-column.ensures) (sym (behind_column c.place_of_aql-row.result c.place_of_sample_units-column.result c.if-column-ge-SAMPLE_UNITS_LISTED.true))
+    rw (← c.place_of_aql-row.ensures, ← c.place_of_sample_units-column.ensures)
+    (sym (behind_column c.place_of_aql-row.result c.place_of_sample_units-column.result c.if-column-ge-SAMPLE_UNITS_LISTED.true))
 
 pub returns-then-row-ge-AQLS_LISTED : goal.returns-then-row-ge-AQLS_LISTED
 unfolding acceptance_number
 returns-then-row-ge-AQLS_LISTED c =
-    rw (← c.place_of_aql-row.ensures, ← c.place_of_sample_units-column.ensures) (sym (behind_row c.place_of_aql-row.result c.place_of_sample_units-column.result c.if-row-ge-AQLS_LISTED.true))
+    rw (← c.place_of_aql-row.ensures, ← c.place_of_sample_units-column.ensures)
+    (sym (behind_row c.place_of_aql-row.result c.place_of_sample_units-column.result c.if-row-ge-AQLS_LISTED.true))
 
 pub returns : goal.returns
 unfolding acceptance_number

@@ -1,5 +1,4 @@
 -- Byte for byte the definition, by computation.
--- four bytes of each overshoot in their place
 use Prim.Native.Nat.{ℕ}
 use mathlib.Core.Path.{◌≡◌}
 use mathlib.Core.List.{List, [], ◌∷◌, ◌++◌}
@@ -10,6 +9,7 @@ use Rattle.results.specs.declared.ResultRecord.{ResultRecord}
 use Rattle.results.specs.Record.{overshoots_offset, overshoot_width, result_bytes, class_bytes}
 use Rattle.results.proofs.bytes_of.Goals as goal
 
+-- four bytes of each overshoot in their place
 bytes_are : (grade : ℕ) (result : ResultRecord) {critical severe major total : List ℕ}
     → critical ≡ bytes_of overshoot_width (overshoot_for result.overshoots 0)
     → severe ≡ bytes_of overshoot_width (overshoot_for result.overshoots 1)

@@ -12,8 +12,8 @@ use Rattle.rules.proofs.Phase.with_unit.Goals as goal
 run_below_two : {phase : Phase} {lower run : ℕ} {qualifies : Bool} → phase ≡ StepThree lower run → qualifies ≡ true
     → ends_step_three phase qualifies ≡ false → run < 2
 unfolding ends_step_three
-run_below_two {phase} {lower} {run} in-phase qualifying Going-on =
-    leb-false 2 run (sym (ap₂ ends_step_three in-phase qualifying) ∙ Going-on)
+run_below_two {phase} {lower} {run} in_phase qualifying going_on =
+    leb-false 2 run (sym (ap₂ ends_step_three in_phase qualifying) ∙ going_on)
 
 pub overflow_add-result : goal.overflow_add-result
 overflow_add-result c =
