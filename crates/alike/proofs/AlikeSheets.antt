@@ -9,6 +9,7 @@ use native.Mathlib.Nat.{eq-or-lt_of_le}
 use native.Mathlib.Omega.{arith}
 use lib.Dec.{ltb, leb, eqb, lit<}
 use borrow.Author.Tests.{ltb-true, leb-true, leb-false}
+use Rattle.std.proofs.Common.{Option, Some, None}
 use Rattle.encoding.specs.Bytes.{byte}
 use Rattle.units.specs.declared.Plan.{Plan}
 use Rattle.units.specs.declared.Entry.{Entry}
@@ -16,7 +17,7 @@ use Rattle.anchors.proofs.Fellows.{UnitBelow, Below}
 use Rattle.anchors.proofs.SideBySide.{NoRedesignation}
 use Rattle.layout.specs.Layout.{plan_size, number_size, grade_offset, code_offset, count_offset, recoverable_offset, tolerance_offset, limit_offset, table_offset, plan_numbers_size, cells, counts_offset, kinds, prerequisite_offset, unit_size, plan_of, mark_of, mark_at, size_of, sample_unit_at, entry_of, offset, mark, entry_at}
 use Rattle.layout.specs.declared.Mark.{Mark}
-use Rattle.layout.specs.declared.Mark.TheVariants.{UnitMark, RedesignationMark, BreakMark, NoMark}
+use Rattle.layout.specs.declared.Mark.TheVariants.{UnitMark, RedesignationMark, BreakMark}
 use Rattle.layout.proofs.Offsets.{size_ge, offset_lt, offset_ge, inside_unit, inside_redesignation}
 use Rattle.sheet.proofs.Accepted.{Facts}
 use Rattle.tally.specs.Outcome.{records_in}
@@ -39,7 +40,7 @@ in_order i j = go (leb i j) refl
 
 -- a byte of record i that is in none of its own counts is in no count
 outside_counts : (bytes : List ℕ) (i place : ℕ) → place < size_of (mark bytes i)
-    → (mark bytes i ≡ UnitMark → counts_offset ≤ place → place < prerequisite_offset → ⊥) → InCount bytes (offset bytes i + place) → ⊥
+    → (mark bytes i ≡ Some UnitMark → counts_offset ≤ place → place < prerequisite_offset → ⊥) → InCount bytes (offset bytes i + place) → ⊥
 unfolding size_of
 outside_counts bytes i place own out count = go (in_order i count.i)
   where
@@ -93,7 +94,7 @@ module _ (bytes bytes' : List ℕ) (alike : Alike bytes bytes') where
 
   -- a byte of record i outside its counts
   same_byte : (i place at : ℕ) → at ≡ offset bytes i + place → place < size_of (mark bytes i)
-      → (mark bytes i ≡ UnitMark → counts_offset ≤ place → place < prerequisite_offset → ⊥) → byte bytes at ≡ byte bytes' at
+      → (mark bytes i ≡ Some UnitMark → counts_offset ≤ place → place < prerequisite_offset → ⊥) → byte bytes at ≡ byte bytes' at
   same_byte i place at e own out = alike.same_bytes at (λ count. outside_counts bytes i place own out (rw e at count))
 
   same_mark : (i : ℕ) → mark bytes i ≡ mark_at bytes' (offset bytes i)
@@ -126,15 +127,15 @@ module _ (bytes bytes' : List ℕ) (alike : Alike bytes bytes') where
   -- the fellow of a unit is a unit
   pub unit_fellow : Facts bytes' (records_in bytes') → (i : ℕ) → UnitAt bytes i → UnitAt bytes' i
   unit_fellow facts' i at =
-      let is_unit : mark bytes' i ≡ UnitMark = sym (same_marks i) ∙ at.is_unit in
+      let is_unit : mark bytes' i ≡ Some UnitMark = sym (same_marks i) ∙ at.is_unit in
       record { inside = inside_unit bytes' (records_in bytes') facts'.end i is_unit; is_unit = is_unit }
 
   module _ (facts : Facts bytes (records_in bytes)) where
-    unit_at : (i : ℕ) → mark bytes i ≡ UnitMark → UnitAt bytes i
+    unit_at : (i : ℕ) → mark bytes i ≡ Some UnitMark → UnitAt bytes i
     unit_at i e = record { inside = inside_unit bytes (records_in bytes) facts.end i e; is_unit = e }
 
     module _ (no_more : NoMore bytes bytes') where
-      below_unit : (i : ℕ) → mark bytes i ≡ UnitMark → UnitBelow (sample_unit_at bytes (offset bytes i)) (sample_unit_at bytes' (offset bytes i))
+      below_unit : (i : ℕ) → mark bytes i ≡ Some UnitMark → UnitBelow (sample_unit_at bytes (offset bytes i)) (sample_unit_at bytes' (offset bytes i))
       unfolding sample_unit_at size_of
       below_unit i e =
           let size : size_of (mark bytes i) ≡ unit_size = ap size_of e in
@@ -157,13 +158,13 @@ module _ (bytes bytes' : List ℕ) (alike : Alike bytes bytes') where
             same_recoverable = ap (λ (x : ℕ). eqb x 1) (same recoverable_offset (offset bytes i + recoverable_offset) refl (lit< tt) (λ from to. omega arith));
           }
 
-      below_by : (i : ℕ) (m : Mark) → mark bytes i ≡ m → Below (entry_of bytes (offset bytes i) m) (entry_of bytes' (offset bytes i) m)
+      below_by : (i : ℕ) (m : Option Mark) → mark bytes i ≡ m → Below (entry_of bytes (offset bytes i) m) (entry_of bytes' (offset bytes i) m)
       unfolding Below entry_of size_of
-      below_by i UnitMark e = below_unit i e
-      below_by i RedesignationMark e =
-          same_byte i grade_offset (offset bytes i + grade_offset) refl (subst⁻¹ (λ (m : Mark). grade_offset < size_of m) e (lit< tt)) (λ is_unit from to. omega arith)
-      below_by i BreakMark e = tt
-      below_by i NoMark e = tt
+      below_by i (Some UnitMark) e = below_unit i e
+      below_by i (Some RedesignationMark) e =
+          same_byte i grade_offset (offset bytes i + grade_offset) refl (subst⁻¹ (λ (m : Option Mark). grade_offset < size_of m) e (lit< tt)) (λ is_unit from to. omega arith)
+      below_by i (Some BreakMark) e = tt
+      below_by i None e = tt
 
       -- each record and its fellow are alike but for the counts, none of which exceeds its fellow
       pub fellows_below : (i : ℕ) → Below (entry_at bytes i) (entry_at bytes' i)
@@ -174,13 +175,13 @@ module _ (bytes bytes' : List ℕ) (alike : Alike bytes bytes') where
 
 -- ---- a sheet without redesignation
 
-module _ (bytes : List ℕ) (facts : Facts bytes (records_in bytes)) (none : (i : ℕ) → i < records_in bytes → mark bytes i ≡ RedesignationMark → ⊥) where
-  no_redesignation_by : (i : ℕ) (m : Mark) → mark bytes i ≡ m → NoRedesignation (entry_of bytes (offset bytes i) m)
+module _ (bytes : List ℕ) (facts : Facts bytes (records_in bytes)) (none : (i : ℕ) → i < records_in bytes → mark bytes i ≡ Some RedesignationMark → ⊥) where
+  no_redesignation_by : (i : ℕ) (m : Option Mark) → mark bytes i ≡ m → NoRedesignation (entry_of bytes (offset bytes i) m)
   unfolding NoRedesignation entry_of
-  no_redesignation_by i UnitMark e = tt
-  no_redesignation_by i RedesignationMark e = none i (inside_redesignation bytes (records_in bytes) facts.end i e) e
-  no_redesignation_by i BreakMark e = tt
-  no_redesignation_by i NoMark e = tt
+  no_redesignation_by i (Some UnitMark) e = tt
+  no_redesignation_by i (Some RedesignationMark) e = none i (inside_redesignation bytes (records_in bytes) facts.end i e) e
+  no_redesignation_by i (Some BreakMark) e = tt
+  no_redesignation_by i None e = tt
 
   pub no_redesignations : (i : ℕ) → NoRedesignation (entry_at bytes i)
   unfolding entry_at

@@ -1,10 +1,7 @@
 -- Demand 3's second half over records: two sheets with one plan, alike but for fewer counts in the first, graded side by side.
 -- While the second has not failed two in a row both stay under the designated plan; by induction on the records.
-use Prim.Native.Nat.{ℕ, zero, suc, ◌+◌, ◌≤◌, ◌<◌}
-use mathlib.Core.Path.{◌≡◌, refl, sym, ◌∙◌, ap, ap₂, subst₂}
-use mathlib.Core.Bool.{Bool, true, false, ◌&&◌, true≢false, false≢true}
-use mathlib.Core.List.{List}
-use native.Mathlib.Omega.{arith}
+use Rattle.std.proofs.Common.{Option, is_some, ℕ, zero, suc, ◌+◌, ◌≤◌, ◌<◌, ◌≡◌, refl, sym, ◌∙◌, ap, ap₂, subst₂, Bool, true, false, ◌&&◌, true≢false, List, arith}
+use mathlib.Core.Bool.{false≢true}
 use Rattle.cusum.specs.declared.Cusum.{Cusum}
 use Rattle.units.specs.Words.{substandard, Table, row_of, tenths_of}
 use Rattle.units.specs.Unit.{starting, class_cusum, class_overshoot, unit_fails, grading_of, portion_grade_of}
@@ -18,11 +15,10 @@ use Rattle.rules.specs.StepThree.{in_step_three, in_force_in, two_in_a_row, fail
 use Rattle.rules.specs.Sheet.{Sheet, before, in_force_at, step_three_ends_at, in_finished_run, recovered, portion_grade, code_grade}
 use Rattle.anchors.specs.TwoInARow.{fails_in_force, fails_designated, unit_fails_at, unit_fails_before, second_in_a_row}
 use Rattle.anchors.specs.Anchor.{fails_at, class_fails_at}
-use Rattle.rules.specs.declared.Previous.{Previous}
 use Rattle.rules.specs.declared.Phase.{Phase}
 use Rattle.rules.specs.declared.Phase.TheVariants.{Designated}
 use Rattle.rules.specs.declared.State.{State}
-use Rattle.rules.proofs.Steps.{state_of, unit_passes, is_failure, two_in_a_row_is, failure_is}
+use Rattle.rules.proofs.Steps.{state_of, unit_passes, two_in_a_row_is, failure_is}
 use Rattle.anchors.proofs.Fellows.{UnitBelow, Below, worst_mono}
 
 -- ---- what is compared
@@ -41,16 +37,16 @@ record Both (designated : ℕ) (just_failed : Bool) (first second : State) : Typ
   second_designated_holds : second.designated ≡ designated
   first_phase : first.phase ≡ Designated
   second_phase : second.phase ≡ Designated
-  no_new_failure : is_failure first.previous ≡ true → is_failure second.previous ≡ true
-  remembered : is_failure second.previous ≡ true → just_failed ≡ true
+  no_new_failure : is_some first.previous ≡ true → is_some second.previous ≡ true
+  remembered : is_some second.previous ≡ true → just_failed ≡ true
   no_higher : NoHigher first.cusums second.cusums
 
 and_then_false : (b c : Bool) → (b && c) ≡ false → b ≡ true → c ≡ false
 and_then_false true c e h = e
 and_then_false false c e h = absurd (false≢true h)
 
-no_two : (previous : Previous) (fails : Bool) → (is_failure previous ≡ true → fails ≡ false) → two_in_a_row previous fails ≡ false
-no_two previous fails none = two_in_a_row_is previous fails ∙ go (is_failure previous) none
+no_two : (previous : Option ℕ) (fails : Bool) → (is_some previous ≡ true → fails ≡ false) → two_in_a_row previous fails ≡ false
+no_two previous fails none = two_in_a_row_is previous fails ∙ go (is_some previous) none
   where
     go : (failed : Bool) → (failed ≡ true → fails ≡ false) → (failed && fails) ≡ false
     go true none = none refl
@@ -58,10 +54,10 @@ no_two previous fails none = two_in_a_row_is previous fails ∙ go (is_failure p
 
 module _ (table : Table) (designated : ℕ) where
   -- under the designated plan, where the unit does not fail behind one that failed
-  passes : (previous : Previous) (cusums : List Cusum) (unit : SampleUnit) →
+  passes : (previous : Option ℕ) (cusums : List Cusum) (unit : SampleUnit) →
       let state = state_of designated previous Designated cusums in
       let grading = grading_of table designated cusums (tenths_of unit) in
-      (is_failure previous ≡ true → grading.fails ≡ false)
+      (is_some previous ≡ true → grading.fails ≡ false)
       → next table state (UnitRecord unit) ≡ state_of designated (failure_after grading.fails grading.grade) Designated grading.cusums
   unfolding next graded in_force_in ends_step_three with_unit
   passes previous cusums unit none =
@@ -71,7 +67,7 @@ module _ (table : Table) (designated : ℕ) where
 
   -- at the start of the designated plan
   at_start_holds : Both designated false (restarted table designated Designated) (restarted table designated Designated)
-  unfolding restarted is_failure
+  unfolding restarted
   at_start_holds =
       record {
         first_designated = refl;
@@ -84,8 +80,8 @@ module _ (table : Table) (designated : ℕ) where
       }
 
   -- a record of each
-  record_beside : (p p' : Previous) (cs cs' : List Cusum) (just_failed : Bool) (e e' : Entry)
-      → (is_failure p ≡ true → is_failure p' ≡ true) → (is_failure p' ≡ true → just_failed ≡ true) → NoHigher cs cs'
+  record_beside : (p p' : Option ℕ) (cs cs' : List Cusum) (just_failed : Bool) (e e' : Entry)
+      → (is_some p ≡ true → is_some p' ≡ true) → (is_some p' ≡ true → just_failed ≡ true) → NoHigher cs cs'
       → Below e e' → NoRedesignation e
       → (just_failed && fails_designated table (state_of designated p' Designated cs') e') ≡ false
       → Both designated (fails_designated table (state_of designated p' Designated cs') e')
@@ -94,9 +90,9 @@ module _ (table : Table) (designated : ℕ) where
   record_beside p p' cs cs' just_failed (UnitRecord u) (UnitRecord v) new remembered lower below none two =
       let fewer = counts_fewer u v below.fewer in
       let fails_too = unit_fails_mono table designated cs cs' (tenths_of u) (tenths_of v) lower fewer in
-      let second_once : is_failure p' ≡ true → unit_fails table designated cs' (tenths_of v) ≡ false =
+      let second_once : is_some p' ≡ true → unit_fails table designated cs' (tenths_of v) ≡ false =
       λ failed. and_then_false just_failed _ two (remembered failed) in
-      let first_once : is_failure p ≡ true → unit_fails table designated cs (tenths_of u) ≡ false =
+      let first_once : is_some p ≡ true → unit_fails table designated cs (tenths_of u) ≡ false =
       λ failed. not_too (unit_fails table designated cs (tenths_of u)) (unit_fails table designated cs' (tenths_of v)) fails_too (second_once (new failed)) in
       subst₂ (λ (first second : State). Both designated (unit_fails table designated cs' (tenths_of v)) first second)
       (sym (passes p cs u first_once)) (sym (passes p' cs' v second_once))

@@ -1,11 +1,9 @@
 -- Step 3 ends at a record exactly if that is the third of three units in a row that qualify, told by their places, on a sheet where no
 -- unit that fails qualifies. One way by the finished run; the other by the run, which each qualifying unit that does not end step 3
 -- makes one longer: behind it no lower plan starts, as it does not fail.
-use Prim.Native.Nat.{ℕ, zero, suc, ◌≤◌}
-use mathlib.Core.Path.{◌≡◌, refl, sym, ◌∙◌, ap, subst⁻¹}
-use mathlib.Core.Bool.{Bool, true, false, ◌&&◌, true≢false, false≢true}
-use native.Mathlib.Omega.{arith}
-use borrow.Author.Tests.{le-leb}
+use Rattle.std.proofs.Common.{is_some, ℕ, zero, suc, ◌≤◌, ◌≡◌, refl, sym, ◌∙◌, ap, Bool, true, false, ◌&&◌, true≢false, arith, le-leb}
+use mathlib.Core.Path.{subst⁻¹}
+use mathlib.Core.Bool.{false≢true}
 use Rattle.units.specs.Words.{Table}
 use Rattle.units.specs.Records.{is_unit_that}
 use Rattle.units.specs.declared.SampleUnit.{SampleUnit}
@@ -19,7 +17,7 @@ use Rattle.anchors.specs.ThreeInARow.{record_qualifies, unit_qualifies_at, third
 use Rattle.rules.specs.declared.Phase.{Phase}
 use Rattle.rules.specs.declared.Phase.TheVariants.{Designated, StepThree}
 use Rattle.rules.specs.declared.State.{State}
-use Rattle.rules.proofs.Steps.{unit_by, is_failure, two_in_a_row_is}
+use Rattle.rules.proofs.Steps.{unit_by, two_in_a_row_is}
 use Rattle.rules.proofs.FailingUnits.{FailingNeverQualifies}
 use Rattle.rules.proofs.FinishedRun.{Qualifying, finished_run}
 
@@ -87,7 +85,7 @@ module _ (sheet : Sheet) (apart : FailingNeverQualifies sheet) where
       unit_by sheet.table state (graded sheet.table state unit) (qualifies_in sheet.table state unit) Grows
       (λ ends inside. absurd (false≢true inside))
       (λ ends two.
-      let fails = (and_both (is_failure state.previous) _ (sym (two_in_a_row_is state.previous _) ∙ two)).1 in
+      let fails = (and_both (is_some state.previous) _ (sym (two_in_a_row_is state.previous _) ∙ two)).1 in
       absurd (true≢false (sym qualifies ∙ apart i unit fails)))
       (λ ends two inside. longer state.phase (qualifies_in sheet.table state unit) least qualifies at_least))
     where

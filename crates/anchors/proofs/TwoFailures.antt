@@ -1,10 +1,9 @@
 -- A lower plan starts behind a unit exactly if it is the second of two in a row that fail the plan in force, told by their places: of the
 -- designated plan, and step 3 begins; of the lower plan in step 3, and another one starts, unless step 3 ends there. The lower grade is
 -- then the worse of their defect grades. The state remembers the record just before: a failure that no lower plan has started behind.
-use Prim.Native.Nat.{ℕ, zero, suc}
-use mathlib.Core.Path.{◌≡◌, refl, sym, ◌∙◌, ap, subst⁻¹}
-use mathlib.Core.Bool.{Bool, true, false, not, ◌&&◌, ◌||◌, false≢true, true≢false}
-use mathlib.Core.List.{List}
+use Rattle.std.proofs.Common.{Option, None, Some, is_some, ℕ, zero, suc, ◌≡◌, refl, sym, ◌∙◌, ap, Bool, true, false, not, ◌&&◌, ◌||◌, true≢false, List}
+use mathlib.Core.Path.{subst⁻¹}
+use mathlib.Core.Bool.{false≢true}
 use Rattle.cusum.specs.declared.Cusum.{Cusum}
 use Rattle.units.proofs.Tests.{and_true, and_false, and_both, or_false}
 use Rattle.units.specs.Words.{worse, Table, tenths_of}
@@ -17,12 +16,10 @@ use Rattle.units.specs.declared.Entry.TheVariants.{UnitRecord, Redesignation, Br
 use Rattle.rules.specs.StepThree.{in_step_three, in_force_in, two_in_a_row, worse_of_two, failure_after, ends_step_three, with_unit, without_run, restarted, graded, qualifies_in, after_unit, after_redesignation, after_break, next}
 use Rattle.rules.specs.Sheet.{Sheet, before, graded_at, qualifies_at}
 use Rattle.anchors.specs.TwoInARow.{fails_in_force, fails_designated, fails_lower, unit_fails_at, unit_fails_before, second_in_a_row, unit_fails_lower_at, second_at_lower, lower_plan_starts_at}
-use Rattle.rules.specs.declared.Previous.{Previous}
-use Rattle.rules.specs.declared.Previous.TheVariants.{NoFailure, Failure}
 use Rattle.rules.specs.declared.Phase.{Phase}
 use Rattle.rules.specs.declared.Phase.TheVariants.{Designated, StepThree}
 use Rattle.rules.specs.declared.State.{State}
-use Rattle.rules.proofs.Steps.{state_of, unit_starts_lower, unit_by, redesignation_restarts, redesignation_by, is_failure, two_in_a_row_is, failure_is, with_unit_in_step_three, without_run_in_step_three, keeps_is, ends_none}
+use Rattle.rules.proofs.Steps.{state_of, unit_starts_lower, unit_by, redesignation_restarts, redesignation_by, two_in_a_row_is, failure_is, with_unit_in_step_three, without_run_in_step_three, keeps_is, ends_none}
 
 -- ---- failing in step 3 and outside it
 
@@ -44,21 +41,21 @@ fails_neither table state entry none = rw none (and_false (not (in_step_three st
 -- ---- what the state remembers of the record just before
 
 -- outside step 3 a failure of the designated plan, in it one of the lower plan that is not the second of two
-unfoldable Remembers : Phase → Previous → Bool → Bool → Type 0
-Remembers Designated previous failed failed_lower = is_failure previous ≡ failed
-Remembers (StepThree lower run) previous failed failed_lower = is_failure previous ≡ failed_lower
+unfoldable Remembers : Phase → Option ℕ → Bool → Bool → Type 0
+Remembers Designated previous failed failed_lower = is_some previous ≡ failed
+Remembers (StepThree lower run) previous failed failed_lower = is_some previous ≡ failed_lower
 
 abbrev Recalls : Bool → Bool → State → Type 0
 Recalls failed failed_lower behind = Remembers behind.phase behind.previous failed failed_lower
 
-none_remembered : (phase : Phase) → Remembers phase NoFailure false false
-unfolding Remembers is_failure
+none_remembered : (phase : Phase) → Remembers phase None false false
+unfolding Remembers
 none_remembered Designated = refl
 none_remembered (StepThree lower run) = refl
 
 -- ---- a unit right behind that record
 
-module _ (table : Table) (designated : ℕ) (previous : Previous) (cusums : List Cusum) (failed failed_lower : Bool) (unit : SampleUnit) where
+module _ (table : Table) (designated : ℕ) (previous : Option ℕ) (cusums : List Cusum) (failed failed_lower : Bool) (unit : SampleUnit) where
   abbrev at : Phase → State
   at phase = state_of designated previous phase cusums
 
@@ -96,7 +93,7 @@ module _ (table : Table) (designated : ℕ) (previous : Previous) (cusums : List
 
   after_unit_by : (phase : Phase) → Remembers phase previous failed failed_lower
       → RecallsUnit phase (after_unit table (at phase) (graded table (at phase) unit) (qualifies_in table (at phase) unit))
-  unfolding Remembers restarted is_failure with_unit ends_step_three fails_designated fails_lower in_step_three
+  unfolding Remembers restarted with_unit ends_step_three fails_designated fails_lower in_step_three
   after_unit_by Designated remembers =
       let grading : Grading = graded table (at Designated) unit in
       unit_by table (at Designated) grading (qualifies_in table (at Designated) unit) (RecallsUnit Designated)
@@ -143,16 +140,16 @@ after_record table state failed failed_lower Break remembers =
     rw (not_designated, not_lower) (unfold restarted in none_remembered (without_run state.phase))
 
 -- what a unit leaves to be remembered is its own failure
-behind_failure : (table : Table) (state : State) (grading : Grading) (qualifies : Bool) → is_failure (after_unit table state grading qualifies).previous ≡ true
-    → (after_unit table state grading qualifies).previous ≡ Failure grading.grade
-unfolding restarted is_failure failure_after
+behind_failure : (table : Table) (state : State) (grading : Grading) (qualifies : Bool) → is_some (after_unit table state grading qualifies).previous ≡ true
+    → (after_unit table state grading qualifies).previous ≡ Some grading.grade
+unfolding restarted failure_after
 behind_failure table state grading qualifies =
-    unit_by table state grading qualifies (λ (behind : State). is_failure behind.previous ≡ true → behind.previous ≡ Failure grading.grade)
+    unit_by table state grading qualifies (λ (behind : State). is_some behind.previous ≡ true → behind.previous ≡ Some grading.grade)
     (λ ends none. absurd (false≢true none))
     (λ ends two none. absurd (false≢true none))
     (λ ends one failed. go grading.fails failed)
   where
-    go : (fails : Bool) → is_failure (failure_after fails grading.grade) ≡ true → failure_after fails grading.grade ≡ Failure grading.grade
+    go : (fails : Bool) → is_some (failure_after fails grading.grade) ≡ true → failure_after fails grading.grade ≡ Some grading.grade
     go true failed = refl
     go false failed = absurd (false≢true failed)
 
@@ -249,19 +246,19 @@ module _ (sheet : Sheet) where
 
   -- right behind a unit, where a lower plan starts behind the next one, that unit's defect grade is remembered
   first_remembered : (i : ℕ) (first second : SampleUnit) → sheet.entry i ≡ UnitRecord first → sheet.entry (suc i) ≡ UnitRecord second
-      → lower_plan_starts_at sheet (suc i) ≡ true → (before sheet (suc i)).previous ≡ Failure (graded_at sheet i first).grade
+      → lower_plan_starts_at sheet (suc i) ≡ true → (before sheet (suc i)).previous ≡ Some (graded_at sheet i first).grade
   unfolding before next
   first_remembered i first second is_first is_second starts =
       let state : State = before sheet i in
       let behind : State = before sheet (suc i) in
-      let two : (is_failure behind.previous && (graded_at sheet (suc i) second).fails) ≡ true
+      let two : (is_some behind.previous && (graded_at sheet (suc i) second).fails) ≡ true
       = sym (two_in_a_row_is behind.previous _) ∙ starts_is (suc i) second is_second ∙ starts in
-      let failed : is_failure behind.previous ≡ true = (and_both (is_failure behind.previous) _ two).0 in
+      let failed : is_some behind.previous ≡ true = (and_both (is_some behind.previous) _ two).0 in
       let same : before sheet (suc i) ≡ after_unit sheet.table state (graded_at sheet i first) (qualifies_at sheet i first)
       = ap (next sheet.table state) is_first in
       ap (λ (behind : State). behind.previous) same
       ∙ behind_failure sheet.table state (graded_at sheet i first) (qualifies_at sheet i first)
-      (sym (ap (λ (behind : State). is_failure behind.previous) same) ∙ failed)
+      (sym (ap (λ (behind : State). is_some behind.previous) same) ∙ failed)
 
   -- where a lower plan starts, and step 3 does not end, the phase is step 3 at the worse of the two defect grades, with no run
   pub lower_is_worse : (i : ℕ) (first second : SampleUnit) → sheet.entry i ≡ UnitRecord first → sheet.entry (suc i) ≡ UnitRecord second
@@ -274,5 +271,5 @@ module _ (sheet : Sheet) where
       (starts_is (suc i) second is_second ∙ starts) in
       ap (λ (entry : Entry). (next sheet.table state entry).phase) is_second
       ∙ ap (λ (behind : State). behind.phase) started
-      ∙ ap (λ (previous : Previous). StepThree (worse_of_two previous (graded_at sheet (suc i) second).grade) 0)
+      ∙ ap (λ (previous : Option ℕ). StepThree (worse_of_two previous (graded_at sheet (suc i) second).grade) 0)
       (first_remembered i first second is_first is_second starts)

@@ -5,6 +5,7 @@ use mathlib.Core.Path.{◌≡◌, refl, ap}
 use mathlib.Core.List.{List}
 use native.Mathlib.Nat.{add-zero}
 use native.Mathlib.Omega.{arith}
+use Rattle.std.proofs.Common.{Some}
 use Rattle.encoding.specs.Bytes.{byte, number, wide_number}
 use Rattle.layout.specs.Layout.{size_of, offset, units_in, units_before}
 use Rattle.layout.specs.declared.Mark.TheVariants.{UnitMark, RedesignationMark, BreakMark}
@@ -49,12 +50,12 @@ records bytes =
       first = refl;
       no_unit_yet = refl;
       behind_unit = λ i e.
-          let is_unit = is_unit_mark bytes i e in (offset_behind bytes i UnitMark is_unit, units_behind bytes i UnitMark is_unit);
+          let is_unit = is_unit_mark bytes i e in (offset_behind bytes i (Some UnitMark) is_unit, units_behind bytes i (Some UnitMark) is_unit);
       behind_redesignation = λ i e.
           let is_new = is_redesignation_mark bytes i e in
-          (offset_behind bytes i RedesignationMark is_new, omega (arith, units_behind bytes i RedesignationMark is_new));
+          (offset_behind bytes i (Some RedesignationMark) is_new, omega (arith, units_behind bytes i (Some RedesignationMark) is_new));
       behind_break = λ i e.
-          let is_break_holds = is_break_mark bytes i e in (offset_behind bytes i BreakMark is_break_holds, omega (arith, units_behind bytes i BreakMark is_break_holds));
+          let is_break_holds = is_break_mark bytes i e in (offset_behind bytes i (Some BreakMark) is_break_holds, omega (arith, units_behind bytes i (Some BreakMark) is_break_holds));
     }
 
 -- a number of four bytes by the places of its bytes

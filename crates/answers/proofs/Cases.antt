@@ -12,8 +12,7 @@ use borrow.Author.Tests.{ltb-true, ltb-false}
 use Rattle.units.specs.Conditions.{pick}
 use Rattle.layout.specs.Layout.{units_before}
 use Rattle.sheet.specs.Refusals.{verdict}
-use Rattle.sheet.specs.declared.Verdict.{Verdict}
-use Rattle.sheet.specs.declared.Verdict.TheVariants.{Accepted, Refused}
+use Rattle.sheet.specs.Verdict.{Verdict, Accepted, Refused}
 use Rattle.sheet.proofs.Accepted.{Facts, facts}
 use Rattle.sheet.proofs.Listed.{refusal_listed}
 use Rattle.results.specs.Record.{result_size}

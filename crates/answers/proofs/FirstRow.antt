@@ -8,6 +8,7 @@ use native.Mathlib.Omega.{arith}
 use lib.Dec.{ltb, lit<}
 use lib.ListN.{length}
 use borrow.Author.Tests.{ltb-true, ltb-false}
+use Rattle.std.proofs.Common.{Option}
 use Rattle.encoding.specs.Bytes.{byte, number}
 use Rattle.layout.specs.Layout.{mark_size, grade_offset, kinds, count_offset, prerequisite_offset, recoverable_offset, unit_size, redesignation_size, offset, mark, units_before}
 use Rattle.layout.specs.declared.Mark.{Mark}
@@ -151,7 +152,7 @@ module _ (bytes : List ℕ) (i : ℕ) where
   condition11 : RecordRow bytes i 11 → DesignatedJustBefore bytes i (new_grade bytes i)
   condition11 (row11 (is_new, h)) = h
 
-  record_by : at + mark_size ≤ length bytes → (m : Mark) → Marked (number bytes at) m
+  record_by : at + mark_size ≤ length bytes → (m : Option Mark) → Marked (number bytes at) m
       → First rows (RecordRow bytes i) 5 (refusal_by bytes at (units_before bytes i) (designated_before bytes i) m)
   unfolding refusal_by unit_refusal redesignation_refusal rows_above
   record_by whole m (as_unit e) =

@@ -9,7 +9,7 @@ use lib.ListN.{length}
 use Rattle.layout.specs.Layout.{offset, units_before}
 use Rattle.layout.proofs.Offsets.{offset_order, offset_same, offset_ge}
 use Rattle.sheet.specs.Refusals.{plan_refusal, record_refusal}
-use Rattle.sheet.specs.declared.Verdict.{Verdict}
+use Rattle.sheet.specs.Verdict.{Verdict}
 use Rattle.sheet.proofs.Accepted.{Facts, Says, verdict_says}
 use Rattle.results.specs.Record.{result_size}
 use Rattle.outcome.specs.declared.Answer.{Answer}

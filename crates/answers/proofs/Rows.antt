@@ -10,6 +10,7 @@ use native.Mathlib.Omega.{arith}
 use lib.Dec.{ltb, eqb, lit<}
 use lib.ListN.{length}
 use borrow.Author.Tests.{eqb-true, eqb-false}
+use Rattle.std.proofs.Common.{Option, Some, None}
 use Rattle.cusum.specs.declared.PlanNumbers.{PlanNumbers}
 use Rattle.encoding.specs.Bytes.{number}
 use Rattle.units.specs.Conditions.{any, pick}
@@ -19,7 +20,7 @@ use Rattle.units.proofs.Lists.{map_at}
 use Rattle.units.proofs.Classes.{cell_at}
 use Rattle.layout.specs.Layout.{table_offset, plan_numbers_size, table_size, plan_size, kinds, count_offset, plan_numbers_at, plan_of, sample_unit_at, mark_of, mark_at, offset, mark, entry_of, entry_at}
 use Rattle.layout.specs.declared.Mark.{Mark}
-use Rattle.layout.specs.declared.Mark.TheVariants.{UnitMark, RedesignationMark, BreakMark, NoMark}
+use Rattle.layout.specs.declared.Mark.TheVariants.{UnitMark, RedesignationMark, BreakMark}
 use Rattle.sheet.specs.Refusals.{no_plan_record, any_numbers, too_large, start_above_limit, smaller, smaller_in_class, count_too_large, designated_before}
 use Rattle.answers.specs.Grounds as table
 use Rattle.grounds.specs.Tells.{Tells}
@@ -102,27 +103,27 @@ module _ (bytes : List ℕ) where
 -- ---- a record
 
 -- a mark by its two bytes
-pub data Marked (two : ℕ) : Mark → Type 0 where
-  as_unit : two ≡ 0x5355 → Marked two UnitMark
-  as_redesignation : two ≡ 0x5244 → Marked two RedesignationMark
-  as_break : two ≡ 0x424B → Marked two BreakMark
-  as_none : (two ≡ 0x5355 → ⊥) → (two ≡ 0x5244 → ⊥) → (two ≡ 0x424B → ⊥) → Marked two NoMark
+pub data Marked (two : ℕ) : Option Mark → Type 0 where
+  as_unit : two ≡ 0x5355 → Marked two (Some UnitMark)
+  as_redesignation : two ≡ 0x5244 → Marked two (Some RedesignationMark)
+  as_break : two ≡ 0x424B → Marked two (Some BreakMark)
+  as_none : (two ≡ 0x5355 → ⊥) → (two ≡ 0x5244 → ⊥) → (two ≡ 0x424B → ⊥) → Marked two None
 
 marked_by : (two : ℕ) → Marked two (mark_of two)
 unfolding mark_of pick
 marked_by two = go (eqb two 0x5355) refl (eqb two 0x5244) refl (eqb two 0x424B) refl
   where
     go : (u : Bool) → eqb two 0x5355 ≡ u → (r : Bool) → eqb two 0x5244 ≡ r → (b : Bool) → eqb two 0x424B ≡ b
-        → Marked two (pick u UnitMark (pick r RedesignationMark (pick b BreakMark NoMark)))
+        → Marked two (pick u (Some UnitMark) (pick r (Some RedesignationMark) (pick b (Some BreakMark) None)))
     go true eu r er b eb = as_unit (eqb-true two 0x5355 eu)
     go false eu true er b eb = as_redesignation (eqb-true two 0x5244 er)
     go false eu false er true eb = as_break (eqb-true two 0x424B eb)
     go false eu false er false eb = as_none (eqb-false two 0x5355 eu) (eqb-false two 0x5244 er) (eqb-false two 0x424B eb)
 
-unit_bytes : {two : ℕ} → Marked two UnitMark → two ≡ 0x5355
+unit_bytes : {two : ℕ} → Marked two (Some UnitMark) → two ≡ 0x5355
 unit_bytes (as_unit e) = e
 
-redesignation_bytes : {two : ℕ} → Marked two RedesignationMark → two ≡ 0x5244
+redesignation_bytes : {two : ℕ} → Marked two (Some RedesignationMark) → two ≡ 0x5244
 redesignation_bytes (as_redesignation e) = e
 
 module _ (bytes : List ℕ) where
@@ -131,22 +132,22 @@ module _ (bytes : List ℕ) where
   marked i = marked_by (number bytes (offset bytes i))
 
   -- the mark of a record from its bytes, and back
-  pub is_unit_mark : (i : ℕ) → table.IsUnit bytes i → mark bytes i ≡ UnitMark
+  pub is_unit_mark : (i : ℕ) → table.IsUnit bytes i → mark bytes i ≡ Some UnitMark
   unfolding mark_at mark_of pick
   is_unit_mark i = ap mark_of
 
-  pub is_redesignation_mark : (i : ℕ) → table.IsRedesignation bytes i → mark bytes i ≡ RedesignationMark
+  pub is_redesignation_mark : (i : ℕ) → table.IsRedesignation bytes i → mark bytes i ≡ Some RedesignationMark
   unfolding mark_at mark_of pick
   is_redesignation_mark i = ap mark_of
 
-  pub is_break_mark : (i : ℕ) → table.IsBreak bytes i → mark bytes i ≡ BreakMark
+  pub is_break_mark : (i : ℕ) → table.IsBreak bytes i → mark bytes i ≡ Some BreakMark
   unfolding mark_at mark_of pick
   is_break_mark i = ap mark_of
 
-  pub unit_mark_is : (i : ℕ) → mark bytes i ≡ UnitMark → table.IsUnit bytes i
+  pub unit_mark_is : (i : ℕ) → mark bytes i ≡ Some UnitMark → table.IsUnit bytes i
   unit_mark_is i e = unit_bytes (subst (Marked (number bytes (offset bytes i))) e (marked i))
 
-  pub redesignation_mark_is : (i : ℕ) → mark bytes i ≡ RedesignationMark → table.IsRedesignation bytes i
+  pub redesignation_mark_is : (i : ℕ) → mark bytes i ≡ Some RedesignationMark → table.IsRedesignation bytes i
   redesignation_mark_is i e = redesignation_bytes (subst (Marked (number bytes (offset bytes i))) e (marked i))
 
   -- 8, of the unit at an offset
@@ -173,7 +174,7 @@ module _ (bytes : List ℕ) where
   -- ---- the grade designated just before a record
 
   -- of the record before: a redesignation names it, any other keeps it
-  next_designated : (i : ℕ) → (m : Mark) → Marked (number bytes (offset bytes i)) m → (designated : ℕ)
+  next_designated : (i : ℕ) → (m : Option Mark) → Marked (number bytes (offset bytes i)) m → (designated : ℕ)
       → (table.IsRedesignation bytes i × (designated_by designated (entry_of bytes (offset bytes i) m) ≡ table.new_grade bytes i))
       ⊎ ((table.IsRedesignation bytes i → ⊥) × (designated_by designated (entry_of bytes (offset bytes i) m) ≡ designated))
   unfolding designated_by entry_of

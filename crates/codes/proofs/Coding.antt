@@ -7,7 +7,8 @@ use mathlib.Core.List.{List, [], ◌++◌, append_assoc, append-nil}
 use native.Mathlib.Nat.{add-zero}
 use native.Mathlib.Numerals.{add-one}
 use native.Mathlib.Omega.{arith}
-use lib.ListN.{length, set, length-append}
+use lib.ListN.{length, take, drop, set}
+use Rattle.std.proofs.lemmas.List.{take_at, drop_at}
 use Rattle.units.specs.Words.{worse, substandard}
 use Rattle.units.specs.Records.{units_of, units_among, portion_grade_with, worst_before}
 use Rattle.units.specs.declared.SampleUnit.{SampleUnit}
@@ -19,7 +20,7 @@ use Rattle.results.specs.Record.{result_size, code_grade_offset, result_bytes, c
 use Rattle.results.specs.Written.{bytes_by, written}
 use Rattle.results.proofs.Stores.{set_behind}
 use Rattle.results.proofs.Written.{length_written, portion_written, code_grade_written, code_written}
-use Rattle.codes.specs.Codes.{ungraded, portion_grade_if, worst_in, with_code_grades, codes_graded, Ungraded}
+use Rattle.codes.specs.Codes.{result_records, ungraded, portion_grade_if, worst_in, with_code_grades, codes_graded, Ungraded}
 
 -- what is recorded of a unit can be graded by code: the unit's own code, in two bytes, and a portion grade
 pub record Gradable (unit : SampleUnit) (result : ResultRecord) : Type 0 where
@@ -139,20 +140,30 @@ module _ (recording : ℕ → SampleUnit → ResultRecord) (entry : ℕ → Entr
       ap (λ (code : ℕ). worst_in buffer code (units_among entry n)) (code_read_back i inside unit is_unit)
       ∙ worst_is unit.code n (omega arith))
 
--- ---- as the code has it: a buffer with what the records have written, no code graded yet, and so many units
+-- ---- as the code has it: the records at the start of a buffer with what the records have written, no code graded yet, and so many units
 
 module _ (recording : ℕ → SampleUnit → ResultRecord) (entry : ℕ → Entry) (n : ℕ) (rest : List ℕ)
     (gradable : (i : ℕ) → i < n → (unit : SampleUnit) → entry i ≡ UnitRecord unit → Gradable unit (recording i unit))
     {units : ℕ} (counted : units ≡ units_among entry n)
     {raw : List ℕ} (is_raw : raw ≡ written recording (λ code. ungraded) entry n ++ rest) where
-  -- the pass can begin
-  pub ready_for_codes : (result_size * units ≤ length raw) × Ungraded raw units
-  ready_for_codes =
-      subst₂ (λ (l : List ℕ) (k : ℕ). (result_size * k ≤ length l) × Ungraded l k) (sym is_raw) (sym counted) (
-        simp length-append (omega (arith, length_written recording (λ code. ungraded) entry n)),
-        ungraded_yet recording entry n rest gradable,
-      )
+  abbrev graded_by : (ℕ → ℕ) → List ℕ
+  graded_by grade = written recording grade entry n
 
-  pub codes_done : codes_graded raw units
-      ≡ written recording (λ code. worst_before (λ i unit. (recording i unit).portion) entry code n) entry n ++ rest
-  codes_done = ap₂ codes_graded is_raw counted ∙ codes_are recording entry n rest gradable
+  size_is : length (graded_by (λ code. ungraded)) ≡ result_size * units
+  size_is = length_written recording (λ code. ungraded) entry n ∙ ap (λ many. result_size * many) (sym counted)
+
+  records_are : take (result_size * units) raw ≡ graded_by (λ code. ungraded) ++ []
+  records_are = rw (is_raw, ← size_is, append-nil) (take_at (graded_by (λ code. ungraded)) rest _ refl)
+
+  many_are : result_records (take (result_size * units) raw) ≡ units_among entry n
+  many_are = omega (arith, ap length records_are ∙ ap length (append-nil (graded_by (λ code. ungraded))) ∙ size_is, counted)
+
+  -- the pass can begin
+  pub ready_for_codes : Ungraded (take (result_size * units) raw) (result_records (take (result_size * units) raw))
+  ready_for_codes = subst₂ Ungraded (sym records_are) (sym many_are) (ungraded_yet recording entry n [] gradable)
+
+  pub codes_done : codes_graded (take (result_size * units) raw) (result_records (take (result_size * units) raw)) ++ drop (result_size * units) raw
+      ≡ graded_by (λ code. worst_before (λ i unit. (recording i unit).portion) entry code n) ++ rest
+  codes_done =
+      ap₂ ◌++◌ (ap₂ codes_graded records_are many_are ∙ codes_are recording entry n [] gradable ∙ append-nil (graded_by _))
+      (rw is_raw (drop_at (graded_by (λ code. ungraded)) rest (result_size * units) size_is))

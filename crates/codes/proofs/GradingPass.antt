@@ -1,19 +1,21 @@
 -- The pass over the records that grades each code where it is first met: what the code grades are once i records are passed.
 -- A worst grade is a grade, which `ungraded` is not, so a record's own byte tells whether its code was met; the rest is by cases on two codes being equal.
-use Prim.Native.Nat.{ℕ, zero, suc, ◌+◌, ◌*◌, ◌<◌, ◌≤◌}
+use Prim.Native.Nat.{ℕ, zero, suc, ◌+◌, ◌*◌, ◌/◌, ◌<◌, ◌≤◌}
 use mathlib.Core.Path.{◌≡◌, refl, sym, ◌∙◌, ap}
 use mathlib.Core.Bool.{Bool, true, false, cond, ◌||◌, false≢true}
-use mathlib.Core.List.{List}
+use mathlib.Core.List.{List, []}
 use native.Mathlib.Numerals.{add-one}
 use native.Mathlib.Omega.{arith}
 use borrow.Author.Tests.{ltb-true, ltb-false, eqb-true, eqb-false, eq-eqb, ne_eqb}
 use lib.Dec.{ltb, eqb}
-use lib.ListN.{length}
+use lib.ListN.{length, get_or}
 use Rattle.units.specs.Words.{substandard}
 use Rattle.units.proofs.Tests.{or_false, or_true}
-use Rattle.results.specs.Record.{result_size, code_in, portion_grade_in, code_grade_in}
-use Rattle.codes.specs.Codes.{ungraded, portion_grade_if, worst_in, with_code_grades, codes_graded, Ungraded}
-use Rattle.codes.specs.OneCode.{FirstWithCode, grade_with}
+use Rattle.encoding.specs.Bytes.{byte}
+use Rattle.results.specs.Record.{result_size, code_grade_offset, code_in, portion_grade_in}
+use Rattle.codes.specs.Codes.{result_records, ungraded, portion_grade_if, worst_in, with_code_grades, codes_graded, Ungraded}
+use Rattle.codes.specs.OneCode.{records_in, code_of, FirstWithCode, grade_with}
+use Rattle.codes.proofs.Records.{field_at, code_at}
 use Rattle.codes.proofs.CodeGrades.{length_graded, code_kept, worst_kept, grade_written, nothing_written, same_written, written_over}
 
 -- ---- a worst portion grade is a grade
@@ -102,44 +104,58 @@ module _ (old : List ℕ) (n i : ℕ) where
 
 -- ---- the pass
 
--- the buffer once i of its n records are passed
-pub record Passed (old : List ℕ) (n i : ℕ) (results : List ℕ) : Type 0 where
-  pub within : i ≤ n
+-- the buffer once i of its records are passed
+pub record Passed (old : List ℕ) (i : ℕ) (results : List ℕ) : Type 0 where
+  pub within : i ≤ result_records old
   pub same_size : length results ≡ length old
-  pub graded : results ≡ with_code_grades (grade_after old n i) old n
+  pub graded : results ≡ with_code_grades (grade_after old (result_records old) i) old (result_records old)
 
-passed_from : {old : List ℕ} {n i : ℕ} {results : List ℕ} → i ≤ n → results ≡ with_code_grades (grade_after old n i) old n
-    → Passed old n i results
-passed_from {old} {n} {i} within graded =
-    record { within = within; same_size = ap length graded ∙ length_graded (grade_after old n i) old n; graded = graded }
+passed_from : {old : List ℕ} {i : ℕ} {results : List ℕ} → i ≤ result_records old
+    → results ≡ with_code_grades (grade_after old (result_records old) i) old (result_records old) → Passed old i results
+passed_from {old} {i} within graded =
+    record {
+      within = within;
+      same_size = ap length graded ∙ length_graded (grade_after old (result_records old) i) old (result_records old);
+      graded = graded;
+    }
 
-pub pass_start : (old : List ℕ) (n : ℕ) → Ungraded old n → Passed old n 0 old
+pub pass_start : (old : List ℕ) → Ungraded old (result_records old) → Passed old 0 old
 unfolding grade_after met
-pass_start old n start =
-    passed_from (omega arith) (sym (nothing_written (grade_after old n 0) old n (λ j below. sym (start.no_code_grade j below))))
+pass_start old start =
+    passed_from (omega arith)
+    (sym (nothing_written (grade_after old (result_records old) 0) old (result_records old) (λ j below. sym (start.no_code_grade j below))))
 
 grade_last : (old : List ℕ) (n j : ℕ) → j < n → grade_after old n n j ≡ worst_in old (code_in old j) n
 unfolding grade_after
 grade_last old n j below = rw (met_own old n j below)
 
-pub pass_end : {old : List ℕ} {n i : ℕ} {results : List ℕ} → Passed old n i results → n ≤ i → results ≡ codes_graded old n
+pub pass_end : {old : List ℕ} {i : ℕ} {results : List ℕ} → Passed old i results → result_records old ≤ i → results ≡ codes_graded old (result_records old)
 unfolding codes_graded
-pass_end {old} {n} {i} passed past =
-    let end : i ≡ n = omega arith in
+pass_end {old} {i} passed past =
+    let n = result_records old in
+    let end : i ≡ n = omega (arith, passed.within) in
     passed.graded ∙ rw end (same_written (grade_after old n n) (λ j. worst_in old (code_in old j) n) old n (grade_last old n))
 
 -- record i, when those before it are passed
-module _ {old : List ℕ} {n i : ℕ} {results : List ℕ} (start : (result_size * n ≤ length old) × Ungraded old n)
-    (passed : Passed old n i results) (below : i < n) where
-  own_byte : code_grade_in results i ≡ cond (met old (code_in old i) i) (worst_in old (code_in old i) n) ungraded
+module _ {old : List ℕ} {i : ℕ} {results : List ℕ} {records : List (List ℕ)} (start : Ungraded old (result_records old)) (passed : Passed old i results)
+    (below : i < result_records old) (are : records ≡ records_in results) where
+  abbrev n : ℕ
+  n = result_records old
+
+  same_many : result_records results ≡ n
+  same_many = ap (λ size. size / result_size) passed.same_size
+
+  own_byte : byte (get_or records i []) code_grade_offset ≡ cond (met old (code_in old i) i) (worst_in old (code_in old i) n) ungraded
   unfolding grade_after
-  own_byte = rw passed.graded (grade_written (grade_after old n i) old n i start.0 below)
+  own_byte =
+      rw (are, field_at results i code_grade_offset (omega (arith, same_many)) (omega arith), passed.graded)
+      (grade_written (grade_after old n i) old n i (omega arith) below)
 
   code_same : (j : ℕ) → code_in results j ≡ code_in old j
   code_same j = rw passed.graded (code_kept (grade_after old n i) old n j)
 
   -- its code is graded
-  pub pass_met : {new : List ℕ} → new ≡ results → (code_grade_in results i ≡ ungraded → ⊥) → Passed old n (i + 1) new
+  pub pass_met : {new : List ℕ} → new ≡ results → (byte (get_or records i []) code_grade_offset ≡ ungraded → ⊥) → Passed old (i + 1) new
   pass_met same done =
       let own : met old (code_in old i) i ≡ true =
       tells_met (met old (code_in old i) i) (worst_in old (code_in old i) n) (λ e. done (own_byte ∙ e)) in
@@ -147,17 +163,20 @@ module _ {old : List ℕ} {n i : ℕ} {results : List ℕ} (start : (result_size
       (same ∙ passed.graded ∙ same_written (grade_after old n i) (grade_after old n (i + 1)) old n (λ j inside. grade_met old n i own j))
 
   -- its code is not graded yet
-  module _ {code : ℕ} (own_code : code ≡ code_in results i) where
-    pub first_met : code_grade_in results i ≡ ungraded → FirstWithCode results code i n
+  module _ {code : ℕ} (own_code : code ≡ code_of (get_or records i [])) where
+    code_here : code ≡ code_in results i
+    code_here = own_code ∙ rw are (code_at results i (omega (arith, same_many)))
+
+    pub first_met : byte (get_or records i []) code_grade_offset ≡ ungraded → FirstWithCode results code i (result_records results)
     first_met not_graded =
         let not_met : met old (code_in old i) i ≡ false =
-        tells_not_met (met old (code_in old i) i) (worst_in old (code_in old i) n) (worst_is_grade old (code_in old i) n start.1.portion_grade_holds)
+        tells_not_met (met old (code_in old i) i) (worst_in old (code_in old i) n) (worst_is_grade old (code_in old i) n start.portion_grade_holds)
         (sym own_byte ∙ not_graded) in
         record {
-          inside = omega (arith, start.0);
-          before_end = below;
-          has_code_holds = sym own_code;
-          none_before = λ j earlier e. none_met old (code_in old i) i not_met j earlier (sym (code_same j) ∙ e ∙ own_code ∙ code_same i);
+          inside = omega arith;
+          before_end = omega (arith, same_many);
+          has_code_holds = sym code_here;
+          none_before = λ j earlier e. none_met old (code_in old i) i not_met j earlier (sym (code_same j) ∙ e ∙ code_here ∙ code_same i);
         }
 
     grade_new : (grade : ℕ) → grade ≡ worst_in results code n → (j : ℕ) → j < n
@@ -166,20 +185,21 @@ module _ {old : List ℕ} {n i : ℕ} {results : List ℕ} (start : (result_size
     grade_new grade worst j inside =
         rw (
           worst,
-          own_code,
+          code_here,
           code_same i,
           code_same j,
           passed.graded,
           worst_kept (grade_after old n i) old n (code_in old i) n,
-          grade_written (grade_after old n i) old n j start.0 inside,
+          grade_written (grade_after old n i) old n j (omega arith) inside,
         )
         (grade_next old n i j)
 
-    pub pass_written : {grade : ℕ} {new : List ℕ} → grade ≡ worst_in results code n
-        → new ≡ with_code_grades (grade_with results code grade) results n → Passed old n (i + 1) new
+    pub pass_written : {grade : ℕ} {new : List ℕ} → grade ≡ worst_in results code (result_records results)
+        → new ≡ with_code_grades (grade_with results code grade) results (result_records results) → Passed old (i + 1) new
     pass_written {grade} worst written =
         passed_from (omega arith)
         (written
+        ∙ ap (with_code_grades (grade_with results code grade) results) same_many
         ∙ ap (λ (l : List ℕ). with_code_grades (grade_with results code grade) l n) passed.graded
         ∙ written_over (grade_with results code grade) (grade_after old n i) old n
-        ∙ same_written (grade_with results code grade) (grade_after old n (i + 1)) old n (grade_new grade worst))
+        ∙ same_written (grade_with results code grade) (grade_after old n (i + 1)) old n (grade_new grade (worst ∙ ap (worst_in results code) same_many)))

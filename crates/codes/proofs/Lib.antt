@@ -1,5 +1,7 @@
 pub mod Coding
+pub mod Records
 mod CodeGrades
-mod Next
+mod Parts
+pub mod Next
 mod OneCode
 mod GradingPass

@@ -1,7 +1,11 @@
 -- Code grades over the result records in a buffer: the worst portion grade among all records with a code, adjoining or not.
-use Rattle.std.specs.Prelude.{ℕ, zero, suc, ◌+◌, ◌*◌, ◌<◌, ◌≤◌, ◌≡◌, cond, List, eqb, set}
+use Rattle.std.specs.Prelude.{ℕ, zero, suc, ◌+◌, ◌*◌, ◌/◌, ◌<◌, ◌≤◌, ◌≡◌, cond, List, eqb, length, set}
 use Rattle.units.specs.Words.{worse, substandard}
 use Rattle.results.specs.Record.{result_size, code_grade_offset, code_in, portion_grade_in, code_grade_in}
+
+-- how many records there are
+abbrev pub result_records : List ℕ → ℕ
+result_records results = length results / result_size
 
 -- stands for the code grade in a record whose code is not graded yet; no grade
 abbrev pub ungraded : ℕ

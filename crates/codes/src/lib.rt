@@ -1,125 +1,96 @@
 // Code grades over the result records in a buffer: each code gets the worst portion grade among all records that have it.
 #![tactic(auto)]
 
-ghost use Rattle.std.specs.Prelude.{◌≡◌, ◌+◌, ◌*◌, ◌≤◌, length};
-ghost use Rattle.results.specs.Record.{result_size};
-ghost use Rattle.codes.specs.Codes.{worst_in, with_code_grades, codes_graded, Ungraded};
-ghost use Rattle.codes.specs.OneCode.{FirstWithCode, NextWith, grade_with};
+ghost use Rattle.std.specs.Prelude.{◌≡◌, eqb, length};
+ghost use Rattle.codes.specs.Codes.{result_records, worst_in, with_code_grades, codes_graded, Ungraded};
+ghost use Rattle.codes.specs.OneCode.{records_in, code_of, NextWith, FirstWithCode, grade_with};
 
 use results::{CODE_GRADE_OFFSET, CODE_OFFSET, PORTION_GRADE_OFFSET, RESULT_SIZE};
 use units::worse_of;
 
-// In place of the code grade while the code is not graded.
+// In place of the code grade while the code is not graded: a byte of the record, as there is no memory beside the buffer.
 pub const UNGRADED: u8 = 255;
 
-// The first of two records that has this code, or the record behind them.
-fn next_of_two(results: &[u8], code: u16, from: usize) -> usize
-    requires { result_size * (from + 2) ≤ length results.now }
-    ensures { NextWith results.now code from (from + 2) result }
+// A result record as it stands in a buffer.
+pub type Record = [u8; RESULT_SIZE];
+
+// A loop over so many records in a row has a fixed length: with none of the code it is twice as fast as one over all records.
+const IN_A_ROW: usize = 8;
+
+// The records in a buffer; bytes behind the last whole one are none.
+pub fn records_of(results: &[u8]) -> &[Record]
+    ensures records { result.now ≡ records_in results.now }
+    ensures many { length result.now ≡ result_records results.now }
 {
-    if encoding::holds_at(results, RESULT_SIZE * from + CODE_OFFSET, code) {
-        return from;
-    }
-    if encoding::holds_at(results, RESULT_SIZE * (from + 1) + CODE_OFFSET, code) {
-        return from + 1;
-    }
-    from + 2
+    results.as_chunks::<RESULT_SIZE>().0
 }
 
-// The same for four records.
-fn next_of_four(results: &[u8], code: u16, from: usize) -> usize
-    requires { result_size * (from + 4) ≤ length results.now }
-    ensures { NextWith results.now code from (from + 4) result }
+pub fn has_code(bytes: &Record, code: u16) -> bool
+    ensures { result ≡ eqb (code_of bytes.now) code }
 {
-    let next = next_of_two(results, code, from);
-    if next != from + 2 {
-        return next;
-    }
-    next_of_two(results, code, from + 2)
+    encoding::holds_at(bytes, CODE_OFFSET, code)
 }
 
-// The same for eight records: a loop that tests eight in a row is faster than one that tests one or four.
-fn next_of_eight(results: &[u8], code: u16, from: usize) -> usize
-    requires { result_size * (from + 8) ≤ length results.now }
-    ensures { NextWith results.now code from (from + 8) result }
+// The first of these records that has this code, one looked at after the other.
+fn next_one_by_one(records: &[Record], code: u16) -> Option<usize>
+    ensures { NextWith records.now code result }
 {
-    let next = next_of_four(results, code, from);
-    if next != from + 4 {
-        return next;
-    }
-    next_of_four(results, code, from + 4)
+    records.iter().position(|record| has_code(record, code))
 }
 
-// The same for few records, one by one.
-fn next_of_few(results: &[u8], code: u16, from: usize, units: usize) -> usize
-    requires { (result_size * units ≤ length results.now) × (from ≤ units) }
-    ensures { NextWith results.now code from units result }
+// The first of these records that has this code.
+pub fn next_with(records: &[Record], code: u16) -> Option<usize>
+    ensures { NextWith records.now code result }
 {
-    let mut j = from;
-    while j < units {
-        if encoding::holds_at(results, RESULT_SIZE * j + CODE_OFFSET, code) {
-            return j;
+    let (rows, rest) = records.as_chunks::<IN_A_ROW>();
+    for (row, in_a_row) in rows.iter().enumerate() {
+        if let Some(next) = next_one_by_one(in_a_row, code) {
+            return Some(IN_A_ROW * row + next);
         }
-        j += 1;
     }
-    j
-}
-
-// The first record from this one on that has this code, or the number of units if none has.
-pub fn next_with(results: &[u8], code: u16, from: usize, units: usize) -> usize
-    requires { (result_size * units ≤ length results.now) × (from ≤ units) }
-    ensures { NextWith results.now code from units result }
-{
-    let mut j = from;
-    while units - j >= 8 {
-        let next = next_of_eight(results, code, j);
-        if next != j + 8 {
-            return next;
-        }
-        j += 8;
-    }
-    next_of_few(results, code, j, units)
+    let next = next_one_by_one(rest, code)?;
+    Some(IN_A_ROW * rows.len() + next)
 }
 
 // The worst portion grade of a code that is first met in this record.
-fn worst_from(results: &[u8], code: u16, first: usize, units: usize) -> u8
-    requires { FirstWithCode results.now code first units }
-    ensures { result ≡ worst_in results.now code units }
+fn worst_from(results: &[u8], code: u16, first: usize) -> u8
+    requires { FirstWithCode results.now code first (result_records results.now) }
+    ensures { result ≡ worst_in results.now code (result_records results.now) }
 {
-    let mut worst: u8 = 0;
-    let mut j = first;
-    while j < units {
-        worst = worse_of(worst, results[RESULT_SIZE * j + PORTION_GRADE_OFFSET]);
-        j = next_with(results, code, j + 1, units);
+    let mut worst = 0;
+    let mut rest = &records_of(results)[first..];
+    while let Some(next) = next_with(rest, code) {
+        worst = worse_of(worst, rest[next][PORTION_GRADE_OFFSET]);
+        rest = &rest[next + 1..];
     }
     worst
 }
 
 // Stores the grade of a code that is first met in this record.
-fn write_code(results: &mut [u8], code: u16, grade: u8, first: usize, units: usize)
-    requires { FirstWithCode results.old code first units }
-    ensures { results.new ≡ with_code_grades (grade_with results.old code grade) results.old units }
+fn write_code(results: &mut [u8], code: u16, grade: u8, first: usize)
+    requires { FirstWithCode results.old code first (result_records results.old) }
+    ensures { results.new ≡ with_code_grades (grade_with results.old code grade) results.old (result_records results.old) }
 {
-    let mut j = first;
-    while j < units {
-        results[RESULT_SIZE * j + CODE_GRADE_OFFSET] = grade;
-        j = next_with(&results[..], code, j + 1, units);
+    let mut from = first;
+    while let Some(next) = next_with(&records_of(&results[..])[from..], code) {
+        let record = from + next;
+        results[RESULT_SIZE * record + CODE_GRADE_OFFSET] = grade;
+        from = record + 1;
     }
 }
 
 // Grades every code. A record whose code is graded tells so; for a code first met the records from there on are read once for
 // the worst portion grade, and once to write it.
-pub fn grade_codes(results: &mut [u8], units: usize)
-    requires { (result_size * units ≤ length results.old) × Ungraded results.old units }
-    ensures { results.new ≡ codes_graded results.old units }
+pub fn grade_codes(results: &mut [u8])
+    requires { Ungraded results.old (result_records results.old) }
+    ensures { results.new ≡ codes_graded results.old (result_records results.old) }
 {
-    let mut i: usize = 0;
-    while i < units {
-        if results[RESULT_SIZE * i + CODE_GRADE_OFFSET] == UNGRADED {
-            let code = encoding::number_at(&results[..], RESULT_SIZE * i + CODE_OFFSET);
-            let grade = worst_from(&results[..], code, i, units);
-            write_code(results, code, grade, i, units);
+    for first in 0..results.len() / RESULT_SIZE {
+        let record = &records_of(&results[..])[first];
+        if record[CODE_GRADE_OFFSET] == UNGRADED {
+            let code = encoding::number_at(record, CODE_OFFSET);
+            let grade = worst_from(&results[..], code, first);
+            write_code(results, code, grade, first);
         }
-        i += 1;
     }
 }

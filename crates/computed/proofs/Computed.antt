@@ -6,7 +6,7 @@ use lib.ListN.{length}
 use borrow.Author.Tests.{lt-ltb, le-ltb}
 use Rattle.units.specs.Conditions.{pick}
 use Rattle.sheet.specs.Refusals.{verdict}
-use Rattle.sheet.specs.declared.Verdict.TheVariants.{Accepted}
+use Rattle.sheet.specs.Verdict.{Accepted}
 use Rattle.results.specs.Record.{result_size}
 use Rattle.outcome.specs.Outcome.{refusal}
 use Rattle.tally.specs.Outcome.{acceptance, outcome_by, outcome}

@@ -9,13 +9,14 @@ use lib.Dec.{ltb, leb, lit<}
 use lib.ListN.{length, get_or-append}
 use lib.Seq.{get_or-append-add}
 use borrow.Author.Tests.{lt-ltb, le-ltb, lt-leb, ne_eqb}
+use Rattle.std.proofs.Common.{Some}
 use Rattle.encoding.specs.Bytes.{byte, number}
 use Rattle.units.specs.Conditions.{pick}
 use Rattle.layout.specs.Layout.{plan_size, count_offset, prerequisite_offset, recoverable_offset, unit_size, sample_unit_at, mark_of, mark_at, size_of, units_in, offset, mark, units_before}
 use Rattle.layout.specs.declared.Mark.TheVariants.{UnitMark}
 use Rattle.sheet.specs.LeftToRight.{left_to_right}
 use Rattle.sheet.specs.Refusals.{most_units, refused_if, plan_refusal, count_too_large, unit_refusal, refusal_by, refusal_at, designated_before, record_refusal, check_from, verdict}
-use Rattle.sheet.specs.declared.Verdict.TheVariants.{Refused}
+use Rattle.sheet.specs.Verdict.{Refused}
 use Rattle.sheet.proofs.Grounds.{refusal_by_mark}
 use Rattle.sheet.proofs.Computing.{computing}
 use Rattle.outcome.specs.Outcome.{refusal}
@@ -81,7 +82,7 @@ module _ (behind : List ℕ) where
       let next : place i + k + 1 ≡ place i + (k + 1) = omega arith in
       rw (next, full_unit i k h (omega arith), full_unit i (k + 1) h inside)
 
-  unit_mark : (i : ℕ) → i < most_units → mark_at full (place i) ≡ UnitMark
+  unit_mark : (i : ℕ) → i < most_units → mark_at full (place i) ≡ Some UnitMark
   unfolding mark_at mark_of pick
   unit_mark i h =
       let first : place i + 0 ≡ place i = omega arith in
@@ -108,7 +109,7 @@ module _ (behind : List ℕ) where
   stands zero h = (refl, refl)
   stands (suc i) h =
       let before = stands i (omega arith) in
-      let unit : mark full i ≡ UnitMark = rw before.0 (unit_mark i h) in
+      let unit : mark full i ≡ Some UnitMark = rw before.0 (unit_mark i h) in
       (rw (unit, before.0) (omega arith), rw (unit, before.1) (omega arith))
 
   passes : (i : ℕ) → i < most_units → record_refusal full i ≡ 0
@@ -144,7 +145,7 @@ module _ (behind : List ℕ) where
 
   -- a unit stands behind them: refused with 7 if it is cut short, else with 12
   module _ (unit : number behind 0 ≡ number one_record 0) where
-    behind_mark : mark_at full (place most_units) ≡ UnitMark
+    behind_mark : mark_at full (place most_units) ≡ Some UnitMark
     unfolding mark_at mark_of pick
     behind_mark = rw (full_behind 0, full_behind 1, unit)
 

@@ -9,6 +9,7 @@ use native.Mathlib.Omega.{arith}
 use lib.Dec.{ltb, leb, eqb}
 use lib.ListN.{length, get_or}
 use borrow.Author.Tests.{ltb-true, ltb-false}
+use Rattle.std.proofs.Common.{Option, Some, None}
 use Rattle.cusum.specs.Step.{fails}
 use Rattle.cusum.proofs.Laws.{fails_true, fails_false}
 use Rattle.encoding.specs.Bytes.{number}
@@ -27,7 +28,7 @@ use Rattle.anchors.proofs.Trails.{tenths_of_one}
 use Rattle.rules.proofs.GradedClasses.{cusum_graded}
 use Rattle.layout.specs.Layout.{mark_size, sample_unit_at, offset, mark, entry_of, entry_at, units_before}
 use Rattle.layout.specs.declared.Mark.{Mark}
-use Rattle.layout.specs.declared.Mark.TheVariants.{UnitMark, RedesignationMark, BreakMark, NoMark}
+use Rattle.layout.specs.declared.Mark.TheVariants.{UnitMark, RedesignationMark, BreakMark}
 use Rattle.layout.proofs.Units.{entry_unit, unit_mark}
 use Rattle.layout.proofs.Offsets.{offset_order, inside_unit}
 use Rattle.sheet.specs.Refusals.{designated_before, refused_if, refusal_by, refusal_at, record_refusal}
@@ -363,7 +364,7 @@ module _ (bytes : List ℕ) (facts : Facts bytes (records_in bytes)) where
       told (tells_restart_redesignation i is_redesignation) (at_redesignation is_redesignation other)
 
   -- every record of the sheet has a mark, and so it is of one of the three kinds
-  has_mark : (i : ℕ) → i < records_in bytes → mark bytes i ≡ NoMark → ⊥
+  has_mark : (i : ℕ) → i < records_in bytes → mark bytes i ≡ None → ⊥
   unfolding record_refusal refusal_at refused_if refusal_by
   has_mark i inside none = go (ltb (length bytes) (offset bytes i + mark_size)) (facts.within i inside).1
     where
@@ -376,11 +377,11 @@ module _ (bytes : List ℕ) (facts : Facts bytes (records_in bytes)) where
   pub kind : (i : ℕ) → i < records_in bytes → UnitAt bytes i ⊎ (IsRedesignation bytes i ⊎ IsBreak bytes i)
   kind i inside = go (mark bytes i) refl (marked bytes i)
     where
-      go : (m : Mark) → mark bytes i ≡ m → Marked (number bytes (offset bytes i)) m → UnitAt bytes i ⊎ (IsRedesignation bytes i ⊎ IsBreak bytes i)
-      go UnitMark e (as_unit _) = inl (record { inside = inside; is_unit = e })
-      go RedesignationMark e (as_redesignation is_redesignation) = inr (inl is_redesignation)
-      go BreakMark e (as_break is_break_holds) = inr (inr is_break_holds)
-      go NoMark e (as_none _ _ _) = absurd (has_mark i inside e)
+      go : (m : Option Mark) → mark bytes i ≡ m → Marked (number bytes (offset bytes i)) m → UnitAt bytes i ⊎ (IsRedesignation bytes i ⊎ IsBreak bytes i)
+      go (Some UnitMark) e (as_unit _) = inl (record { inside = inside; is_unit = e })
+      go (Some RedesignationMark) e (as_redesignation is_redesignation) = inr (inl is_redesignation)
+      go (Some BreakMark) e (as_break is_break_holds) = inr (inr is_break_holds)
+      go None e (as_none _ _ _) = absurd (has_mark i inside e)
 
   -- the records of the sheet, and the units among them, by the bytes
   pub inside_iff : (i : ℕ) → (i < records_in bytes) ↔ (offset bytes i < length bytes)

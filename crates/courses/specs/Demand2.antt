@@ -1,6 +1,6 @@
 -- Demand 2: an accepted sheet gets, unit by unit, exactly the CuSums, overshoots, portion grades, recoveries and code grades of the
 -- rules. (No sheet is refused unless a listed ground applies: `Demand2Grounds` in `Grounds`.)
-use Rattle.std.specs.Prelude.{ℕ, suc, ◌+◌, ◌<◌, ◌≤◌, ◌≡◌, true, false, List, [], ◌∷◌, ◌++◌, ◌↔◌, length}
+use Rattle.std.specs.Prelude.{ℕ, suc, ◌+◌, ◌<◌, ◌≤◌, ◌≡◌, true, false, List, [], ◌∷◌, ◌++◌, ◌↔◌, length, Some}
 use Rattle.encoding.specs.Bytes.{byte, number}
 use Rattle.units.specs.Words.{substandard, classes, worse}
 use Rattle.rules.specs.Sheet.{in_force_at}
@@ -77,7 +77,7 @@ pub record WorstOfCode (bytes results : List ℕ) (i : ℕ) : Type 0 where
 pub record SameRecords (bytes : List ℕ) : Type 0 where
   pub inside : (i : ℕ) → (i < records_in bytes) ↔ (offset bytes i < length bytes)
   pub unit : (i : ℕ) → UnitAt bytes i ↔ ((offset bytes i < length bytes) × IsUnit bytes i)
-  pub redesignation : (i : ℕ) → (mark bytes i ≡ RedesignationMark) ↔ IsRedesignation bytes i
+  pub redesignation : (i : ℕ) → (mark bytes i ≡ Some RedesignationMark) ↔ IsRedesignation bytes i
 
 -- words that demand 3 takes from the definitions mean what the course says: a class fails, the second of two failures of the designated
 -- plan, a restart, the grade of the plan in force, its S, T and L; and what the bytes say: the counts of a class from a record on

@@ -1,47 +1,38 @@
 -- Laws of a CuSum's step: rule 2 in natural numbers, that it is monotone, that a CuSum is at most its L, where a class that fails or
 -- meets stands, and how far over it is. Through the raw value as a difference of naturals, and omega.
-use Prim.Native.Nat.{ℕ, ◌+◌, ◌-◌, ◌≤◌, ◌<◌, min}
-use mathlib.Core.Path.{◌≡◌, refl, sym, ◌∙◌, ap}
-use mathlib.Core.Bool.{Bool, true, false, cond}
-use native.Mathlib.Omega.{arith}
+use Rattle.std.proofs.Common.{ℕ, ◌+◌, ◌-◌, ◌≤◌, ◌<◌, min, ◌≡◌, sym, ◌∙◌, ap, true, false, ℤ, pos, negsuc, ◌+ℤ◌, ◌-ℤ◌, arith}
+use Rattle.std.proofs.lemmas.Bool.Decides.{nat_tests}
+use Rattle.std.proofs.lemmas.Int.{ints}
 use lib.Dec.{ltb}
-use lib.IntN.{ℤ, pos, negsuc, ◌+ℤ◌, ◌-ℤ◌}
+use borrow.Author.Differences.{up}
 use borrow.Author.Tests.{ltb-true, ltb-false, lt-ltb, le-ltb}
 use Rattle.cusum.specs.Integers.{maxℤ}
 use Rattle.cusum.specs.Step.{raw_value, above_limit, cusum_of, overshoot_of, fails, new_cusum, overshoot, step_of}
 use Rattle.cusum.specs.LargestForm.{tenths_less_t}
 use Rattle.cusum.specs.declared.PlanNumbers.{PlanNumbers}
 use Rattle.cusum.specs.declared.Cusum.{Cusum}
-use Rattle.cusum.proofs.Integers.{up, down, eq_of, plus_is, less_is, difference_is, up_max, down_max, one_side}
+use Rattle.cusum.proofs.Integers.{one_side, max_is}
 
 -- ---- the same in natural numbers
 
 above_limit_is : (l : PlanNumbers) (r : ℤ) → above_limit l r ≡ ltb l.limit (up r)
-unfolding above_limit up
-above_limit_is l (pos r) = refl
-above_limit_is l (negsuc r) = sym (le-ltb l.limit 0 (omega arith))
+unfolding above_limit
+above_limit_is l (pos r) = grind (arith, nat_tests)
+above_limit_is l (negsuc r) = grind (arith, nat_tests)
 
 cusum_of_is : (l : PlanNumbers) (r : ℤ) → cusum_of l r ≡ min l.limit (up r)
-unfolding cusum_of up
-cusum_of_is l (pos r) = go (ltb l.limit r) refl
-  where
-    go : (t : Bool) → ltb l.limit r ≡ t → cond t l.limit r ≡ min l.limit r
-    go true e = omega (arith, ltb-true l.limit r e)
-    go false e = omega (arith, ltb-false l.limit r e)
+unfolding cusum_of
+cusum_of_is l (pos r) = grind (arith, nat_tests)
 cusum_of_is l (negsuc r) = omega arith
 
 overshoot_of_is : (l : PlanNumbers) (r : ℤ) → overshoot_of l r ≡ up r - l.limit
-unfolding overshoot_of up
-overshoot_of_is l (pos r) = go (ltb l.limit r) refl
-  where
-    go : (t : Bool) → ltb l.limit r ≡ t → cond t (r - l.limit) 0 ≡ r - l.limit
-    go true e = refl
-    go false e = omega (arith, ltb-false l.limit r e)
+unfolding overshoot_of
+overshoot_of_is l (pos r) = grind (arith, nat_tests)
 overshoot_of_is l (negsuc r) = omega arith
 
 raw_value_up : (l : PlanNumbers) (old c : ℕ) → up (raw_value l old c) ≡ old + c - l.tolerance
 unfolding raw_value
-raw_value_up l old c = omega (arith, difference_is (old + c) l.tolerance, one_side (pos (old + c) -ℤ pos l.tolerance))
+raw_value_up l old c = omega (arith, ints, one_side (pos (old + c) -ℤ pos l.tolerance))
 
 pub new_cusum_is : (l : PlanNumbers) (old c : ℕ) → new_cusum l old c ≡ min l.limit (old + c - l.tolerance)
 unfolding new_cusum
@@ -78,34 +69,19 @@ failed_at l o c e = omega (arith, new_cusum_is l o c, fails_true l o c e)
 
 -- a class that meets: the larger of zero and the raw value
 pub met_at : (l : PlanNumbers) (o c : ℕ) → fails l o c ≡ false → pos (new_cusum l o c) ≡ maxℤ (pos 0) (pos o +ℤ tenths_less_t l c)
-unfolding tenths_less_t up down
-met_at l o c e =
-    let d = pos c -ℤ pos l.tolerance in
-    let x = pos o +ℤ d in
-    let sum = plus_is (pos o) d in
-    let difference = difference_is c l.tolerance in
-    let sign = one_side x in
-    eq_of (pos (new_cusum l o c)) (maxℤ (pos 0) x) (omega (arith, new_cusum_is l o c, fails_false l o c e, up_max (pos 0) x, down_max (pos 0) x))
+unfolding tenths_less_t
+met_at l o c e = omega (arith, ints, new_cusum_is l o c, fails_false l o c e, max_is)
 
 -- ---- the overshoot
 
 -- a class fails exactly if its overshoot is above zero
 pub fails_by_overshoot : (l : PlanNumbers) (o c : ℕ) → fails l o c ≡ ltb 0 (overshoot l o c)
-fails_by_overshoot l o c = go (fails l o c) refl
-  where
-    go : (failed : Bool) → fails l o c ≡ failed → failed ≡ ltb 0 (overshoot l o c)
-    go true e = sym (lt-ltb 0 (overshoot l o c) (omega (arith, overshoot_is l o c, fails_true l o c e)))
-    go false e = sym (le-ltb 0 (overshoot l o c) (omega (arith, overshoot_is l o c, fails_false l o c e)))
+fails_by_overshoot l o c = rw (fails_is l o c, overshoot_is l o c) (grind (arith, nat_tests))
 
 -- it is the raw value less L where the class fails
 pub overshoot_failed : (l : PlanNumbers) (o c : ℕ) → fails l o c ≡ true → pos (overshoot l o c) ≡ raw_value l o c -ℤ pos l.limit
-unfolding raw_value up down
-overshoot_failed l o c e =
-    let sum = o + c in
-    let raw = pos sum -ℤ pos l.tolerance in
-    let less = raw -ℤ pos l.limit in
-    eq_of (pos (overshoot l o c)) less
-    (omega (arith, overshoot_is l o c, fails_true l o c e, difference_is sum l.tolerance, less_is raw l.limit, one_side raw, one_side less))
+unfolding raw_value
+overshoot_failed l o c e = omega (arith, ints, overshoot_is l o c, fails_true l o c e)
 
 -- and zero where it met
 pub overshoot_met : (l : PlanNumbers) (o c : ℕ) → fails l o c ≡ false → overshoot l o c ≡ 0

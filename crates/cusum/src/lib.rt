@@ -1,7 +1,7 @@
 // Rules 1 and 2 of grading a unit: where a CuSum begins, and what a count, turned into tenths, makes of it.
 #![tactic(auto)]
 
-ghost use Rattle.std.specs.Prelude.{◌≡◌, ◌-◌, min};
+ghost use Rattle.std.specs.Prelude.{◌≡◌};
 ghost use Rattle.cusum.specs.Counts.{ten_times, defect_tenths, field_tenths};
 ghost use Rattle.cusum.specs.Step.{largest_tenths, start_of, step_of};
 
@@ -29,6 +29,7 @@ pub struct Cusum {
 }
 
 // What a unit makes of a CuSum: the new one, whether the class fails, and the overshoot, by how many tenths the raw value is above L.
+// No `Option`: an overshoot is recorded as a number, zero where the class met.
 #[derive(Clone, Copy)]
 pub struct Stepped {
     pub cusum: Cusum,
@@ -54,25 +55,12 @@ impl Defects {
 }
 
 impl DefectiveFields {
-    // A field is ten tenths.
+    // A field is ten tenths. No trait over both counts: no function takes one for the other.
     pub fn tenths(self) -> u32
         ensures { result ≡ field_tenths self }
     {
         ten_times(self.0 as u16)
     }
-}
-
-// What a number of tenths has above a bound; zero if nothing.
-fn excess(tenths: u64, bound: u64) -> u64
-    ensures { result ≡ tenths - bound }
-{
-    if bound < tenths { tenths - bound } else { 0 }
-}
-
-fn smaller(first: u64, second: u64) -> u64
-    ensures { result ≡ min first second }
-{
-    if first < second { first } else { second }
 }
 
 impl Cusum {
@@ -100,18 +88,20 @@ impl Cusum {
     }
 
     // Rule 2: the CuSum after a unit with this count, in tenths, whether the class fails, and the overshoot.
+    #[tactic(auto, using(crate::proofs::Laws::step_is))]
     pub fn step(self, numbers: PlanNumbers, tenths: u32) -> Stepped
         ensures { result ≡ step_of numbers self tenths }
     {
         let sum = self.tenths as u64 + tenths as u64;
         let tolerance = numbers.tolerance as u64;
         let limit = numbers.limit as u64;
-        let above = excess(sum, tolerance);
-        let new = smaller(limit, above);
+        let above = sum.saturating_sub(tolerance);
         Stepped {
-            cusum: Cusum { tenths: new as u32 },
+            cusum: Cusum {
+                tenths: above.min(limit) as u32,
+            },
             fails: limit < above,
-            overshoot: excess(above, limit),
+            overshoot: above.saturating_sub(limit),
         }
     }
 }

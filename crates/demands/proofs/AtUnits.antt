@@ -10,6 +10,7 @@ use lib.Dec.{leb, ltb, eqb, lit<}
 use lib.IntN.{pos}
 use lib.ListN.{length, replicate, length-replicate, get_or-eq_default}
 use borrow.Author.Tests.{ltb-true, ltb-false, leb-true, eqb-true, eqb-false, eq-eqb, not-true}
+use Rattle.std.proofs.Common.{Option, Some, None}
 use Rattle.cusum.specs.LargestForm.{largest_form, anchor_value}
 use Rattle.encoding.specs.Bytes.{byte}
 use Rattle.units.specs.Conditions.{all}
@@ -21,7 +22,7 @@ use Rattle.anchors.specs.TwoInARow.{second_in_a_row}
 use Rattle.anchors.specs.Anchor.{tenths_from, Anchor, Latest}
 use Rattle.layout.specs.Layout.{units_in, mark}
 use Rattle.layout.specs.declared.Mark.{Mark}
-use Rattle.layout.specs.declared.Mark.TheVariants.{UnitMark, RedesignationMark, BreakMark, NoMark}
+use Rattle.layout.specs.declared.Mark.TheVariants.{UnitMark, RedesignationMark, BreakMark}
 use Rattle.results.specs.Record.{result_size}
 use Rattle.outcome.specs.declared.Answer.{Answer}
 use Rattle.tally.specs.Outcome.{records_in}
@@ -63,11 +64,11 @@ module _ (bytes : List ℕ) (records : ℕ) (counted : records_in bytes ≡ reco
       let (inside, one) = and_both (ltb i records) (eqb (units_in (mark bytes i)) 1) e in
       record { inside = omega (arith, ltb-true i records inside); is_unit = by_mark (mark bytes i) one }
     where
-      by_mark : (m : Mark) → eqb (units_in m) 1 ≡ true → m ≡ UnitMark
-      by_mark UnitMark e = refl
-      by_mark RedesignationMark e = absurd (false≢true e)
-      by_mark BreakMark e = absurd (false≢true e)
-      by_mark NoMark e = absurd (false≢true e)
+      by_mark : (m : Option Mark) → eqb (units_in m) 1 ≡ true → m ≡ Some UnitMark
+      by_mark (Some UnitMark) e = refl
+      by_mark (Some RedesignationMark) e = absurd (false≢true e)
+      by_mark (Some BreakMark) e = absurd (false≢true e)
+      by_mark None e = absurd (false≢true e)
 
   -- a unit of which something more is computed
   unit_and : (more : Bool) → (unit_test bytes records i && more) ≡ true → UnitAt bytes i × (more ≡ true)

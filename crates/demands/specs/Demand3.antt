@@ -1,5 +1,5 @@
 -- Demand 3: two claims about whole sheets in bytes, and the bytes that grading them leaves in the result buffers.
-use Rattle.std.specs.Prelude.{ℕ, suc, ◌+◌, ◌<◌, ◌≤◌, ◌≡◌, Bool, true, false, List, length, pos}
+use Rattle.std.specs.Prelude.{ℕ, suc, ◌+◌, ◌<◌, ◌≤◌, ◌≡◌, Bool, true, false, List, length, pos, Some}
 use Rattle.cusum.specs.LargestForm.{largest_form, anchor_value}
 use Rattle.units.specs.Words.{classes, has_plan}
 use Rattle.rules.specs.Sheet.{in_force_at}
@@ -50,7 +50,7 @@ pub record FewerDefects (bytes bytes' buffer buffer' : List ℕ) (answer answer'
   pub second : AcceptedAs bytes' buffer' answer' results'
   pub alike : Alike bytes bytes'
   pub no_more : NoMore bytes bytes'
-  pub no_redesignation : (i : ℕ) → i < records_in bytes → mark bytes i ≡ RedesignationMark → ⊥
+  pub no_redesignation : (i : ℕ) → i < records_in bytes → mark bytes i ≡ Some RedesignationMark → ⊥
 
 -- at the unit that is record i no CuSum in the first is higher, no overshoot is larger, and no class fails that does not fail in the
 -- second

@@ -1,4 +1,5 @@
 pub mod Offsets
 pub mod Units
 pub mod Walk
+pub mod FromFn
 pub mod Computing

@@ -5,6 +5,7 @@ use mathlib.Core.Path.{◌≡◌, refl, ap}
 use mathlib.Core.Logic.{◌⊎◌, inl, inr}
 use mathlib.Core.Bool.{Bool, true, false}
 use mathlib.Core.List.{List}
+use Rattle.std.proofs.Common.{Option, Some, None}
 use native.Mathlib.Nat.{eq-or-lt_of_le, le_of_suc-le-suc}
 use native.Mathlib.Omega.{arith}
 use lib.Dec.{ltb, leb, lit<}
@@ -15,14 +16,14 @@ use Rattle.units.specs.Conditions.{pick}
 use Rattle.units.specs.declared.Entry.TheVariants.{Break}
 use Rattle.layout.specs.Layout.{mark_size, plan_size, mark_of, mark_at, size_of, offset, mark, entry_of, entry_at}
 use Rattle.layout.specs.declared.Mark.{Mark}
-use Rattle.layout.specs.declared.Mark.TheVariants.{UnitMark, RedesignationMark, BreakMark, NoMark}
+use Rattle.layout.specs.declared.Mark.TheVariants.{UnitMark, RedesignationMark, BreakMark}
 
-pub size_ge : (m : Mark) → mark_size ≤ size_of m
+pub size_ge : (m : Option Mark) → mark_size ≤ size_of m
 unfolding size_of
-size_ge UnitMark = lit< tt
-size_ge RedesignationMark = lit< tt
-size_ge BreakMark = lit< tt
-size_ge NoMark = lit< tt
+size_ge (Some UnitMark) = lit< tt
+size_ge (Some RedesignationMark) = lit< tt
+size_ge (Some BreakMark) = lit< tt
+size_ge None = lit< tt
 
 -- a record ends before a later one begins
 pub offset_lt : (bytes : List ℕ) (i j : ℕ) → i < j → offset bytes i + size_of (mark bytes i) ≤ offset bytes j
@@ -64,7 +65,7 @@ past_byte : (bytes : List ℕ) (at : ℕ) → length bytes ≤ at → byte bytes
 past_byte bytes at h = get_or-eq_default bytes 0 {n = at} h
 
 -- where fewer than two bytes are left there is no mark: none ends in the byte 0
-pub short_mark : (bytes : List ℕ) (at : ℕ) → length bytes < at + mark_size → mark_at bytes at ≡ NoMark
+pub short_mark : (bytes : List ℕ) (at : ℕ) → length bytes < at + mark_size → mark_at bytes at ≡ None
 unfolding mark_at mark_of pick
 short_mark bytes at h =
     let low : byte bytes (at + 1) ≡ 0 = past_byte bytes (at + 1) (omega arith) in
@@ -82,7 +83,7 @@ module _ (bytes : List ℕ) (n : ℕ) (end : offset bytes n ≡ length bytes) wh
       go (inl same) = omega (arith, ap (offset bytes) same)
       go (inr less) = omega (arith, offset_lt bytes n i less)
 
-  past_mark : (i : ℕ) → n ≤ i → mark bytes i ≡ NoMark
+  past_mark : (i : ℕ) → n ≤ i → mark bytes i ≡ None
   past_mark i h = short_mark bytes (offset bytes i) (omega (arith, past_end i h))
 
   -- a break stands in
@@ -91,15 +92,15 @@ module _ (bytes : List ℕ) (n : ℕ) (end : offset bytes n ≡ length bytes) wh
   past_entry i h = rw (past_mark i h)
 
   -- only a record of the sheet has a mark
-  inside_records : (i : ℕ) → (mark bytes i ≡ NoMark → ⊥) → i < n
+  inside_records : (i : ℕ) → (mark bytes i ≡ None → ⊥) → i < n
   inside_records i marked = go (leb n i) refl
     where
       go : (test : Bool) → leb n i ≡ test → i < n
       go true e = absurd (marked (past_mark i (leb-true n i e)))
       go false e = leb-false n i e
 
-  pub inside_unit : (i : ℕ) → mark bytes i ≡ UnitMark → i < n
-  inside_unit i e = inside_records i (λ none. let z : ◌≡◌ {A = ℕ} 0 1 = cc in omega arith)
+  pub inside_unit : (i : ℕ) → mark bytes i ≡ Some UnitMark → i < n
+  inside_unit i e = inside_records i (λ none. cc)
 
-  pub inside_redesignation : (i : ℕ) → mark bytes i ≡ RedesignationMark → i < n
-  inside_redesignation i e = inside_records i (λ none. let z : ◌≡◌ {A = ℕ} 0 1 = cc in omega arith)
+  pub inside_redesignation : (i : ℕ) → mark bytes i ≡ Some RedesignationMark → i < n
+  inside_redesignation i e = inside_records i (λ none. cc)

@@ -1,5 +1,5 @@
 -- The tally sheet in bytes: the plan, and the records behind it by their number.
-use Rattle.std.specs.Prelude.{ℕ, zero, suc, ◌+◌, ◌*◌, List, map, eqb, length}
+use Rattle.std.specs.Prelude.{ℕ, zero, suc, ◌+◌, ◌*◌, Option, Some, None, List, map, eqb, length}
 use Rattle.cusum.specs.declared.Defects.{Defects}
 use Rattle.cusum.specs.declared.PlanNumbers.{PlanNumbers}
 use Rattle.encoding.specs.Bytes.{byte, number}
@@ -10,7 +10,7 @@ use Rattle.units.specs.declared.SampleUnit.{SampleUnit}
 use Rattle.units.specs.declared.Entry.{Entry}
 use Rattle.units.specs.declared.Entry.TheVariants.{UnitRecord, Redesignation, Break}
 use Rattle.layout.specs.declared.Mark.{Mark}
-use Rattle.layout.specs.declared.Mark.TheVariants.{UnitMark, RedesignationMark, BreakMark, NoMark}
+use Rattle.layout.specs.declared.Mark.TheVariants.{UnitMark, RedesignationMark, BreakMark}
 
 -- ---- sizes of the records, and offsets of their fields, each behind the one before it
 
@@ -96,22 +96,22 @@ plan_of bytes =
 -- ---- the records
 
 -- marks: 53 55 a sample unit, 52 44 a redesignation, 42 4B a break in production
-unfoldable pub mark_of : ℕ → Mark
+unfoldable pub mark_of : ℕ → Option Mark
 mark_of mark =
-    pick (eqb mark 0x5355) UnitMark
-    (pick (eqb mark 0x5244) RedesignationMark
-    (pick (eqb mark 0x424B) BreakMark NoMark))
+    pick (eqb mark 0x5355) (Some UnitMark)
+    (pick (eqb mark 0x5244) (Some RedesignationMark)
+    (pick (eqb mark 0x424B) (Some BreakMark) None))
 
--- the mark at an offset
-unfoldable pub mark_at : List ℕ → ℕ → Mark
+-- the mark at an offset, if there is one
+unfoldable pub mark_at : List ℕ → ℕ → Option Mark
 mark_at bytes at = mark_of (number bytes at)
 
 -- the size of a record by its mark; two bytes where there is none, so that the next offset is always a later one
-unfoldable pub size_of : Mark → ℕ
-size_of UnitMark = unit_size
-size_of RedesignationMark = redesignation_size
-size_of BreakMark = mark_size
-size_of NoMark = mark_size
+unfoldable pub size_of : Option Mark → ℕ
+size_of (Some UnitMark) = unit_size
+size_of (Some RedesignationMark) = redesignation_size
+size_of (Some BreakMark) = mark_size
+size_of None = mark_size
 
 -- a count of defects at an offset
 abbrev pub defects_at : List ℕ → ℕ → Defects
@@ -132,11 +132,11 @@ sample_unit_at bytes at =
 
 -- the record at an offset. In an accepted sheet every record has a mark; where there is none, behind the last record, a break
 -- stands in, which grades no unit
-unfoldable pub entry_of : List ℕ → ℕ → Mark → Entry
-entry_of bytes at UnitMark = UnitRecord (sample_unit_at bytes at)
-entry_of bytes at RedesignationMark = Redesignation (byte bytes (at + grade_offset))
-entry_of bytes at BreakMark = Break
-entry_of bytes at NoMark = Break
+unfoldable pub entry_of : List ℕ → ℕ → Option Mark → Entry
+entry_of bytes at (Some UnitMark) = UnitRecord (sample_unit_at bytes at)
+entry_of bytes at (Some RedesignationMark) = Redesignation (byte bytes (at + grade_offset))
+entry_of bytes at (Some BreakMark) = Break
+entry_of bytes at None = Break
 
 -- the offset of record i: the first stands behind the plan, each other behind the one before it
 unfoldable pub offset : List ℕ → ℕ → ℕ
@@ -144,18 +144,18 @@ offset bytes zero = plan_size
 offset bytes (suc i) = offset bytes i + size_of (mark_at bytes (offset bytes i))
 
 -- the mark of record i, and the record
-abbrev pub mark : List ℕ → ℕ → Mark
+abbrev pub mark : List ℕ → ℕ → Option Mark
 mark bytes i = mark_at bytes (offset bytes i)
 
 unfoldable pub entry_at : List ℕ → ℕ → Entry
 entry_at bytes i = entry_of bytes (offset bytes i) (mark bytes i)
 
 -- how many sample units a record is: one or none
-unfoldable pub units_in : Mark → ℕ
-units_in UnitMark = 1
-units_in RedesignationMark = 0
-units_in BreakMark = 0
-units_in NoMark = 0
+unfoldable pub units_in : Option Mark → ℕ
+units_in (Some UnitMark) = 1
+units_in (Some RedesignationMark) = 0
+units_in (Some BreakMark) = 0
+units_in None = 0
 
 -- how many sample units stand before record i
 unfoldable pub units_before : List ℕ → ℕ → ℕ

@@ -1,5 +1,5 @@
 -- A walk over the records of a sheet, from left to right: where it stands, and the place past a record.
-use Rattle.std.specs.Prelude.{ℕ, ◌+◌, ◌≤◌, ◌<◌, ◌≡◌, List, length}
+use Rattle.std.specs.Prelude.{ℕ, ◌+◌, ◌≤◌, ◌<◌, ◌≡◌, Option, List, length}
 use Rattle.layout.specs.Layout.{plan_size, size_of, offset, mark, units_in, units_before}
 use Rattle.layout.specs.declared.Mark.{Mark}
 use Rattle.layout.specs.declared.Place.{Place}
@@ -13,7 +13,7 @@ abbrev pub place_at : List ℕ → ℕ → Place
 place_at bytes i = record { index = i; at = offset bytes i; units = units_before bytes i }
 
 -- past a record with this mark
-abbrev pub place_after : Place → Mark → Place
+abbrev pub place_after : Place → Option Mark → Place
 place_after place mark =
     record { index = place.index + 1; at = place.at + size_of mark; units = place.units + units_in mark }
 
@@ -28,7 +28,7 @@ abbrev pub largest_offset : ℕ
 largest_offset = 0xFFFFFFFFFFFFFFFF
 
 -- no number of the place past a record is above it
-pub record RoomPast (place : Place) (mark : Mark) : Type 0 where
+pub record RoomPast (place : Place) (mark : Option Mark) : Type 0 where
   pub records_fit : (place_after place mark).index ≤ largest_offset
   pub offset_fits : (place_after place mark).at ≤ largest_offset
   pub units_fit : (place_after place mark).units ≤ largest_offset

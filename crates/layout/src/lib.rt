@@ -2,11 +2,13 @@
 #![tactic(auto)]
 
 ghost use Rattle.std.specs.Prelude.{◌≡◌, ◌+◌, ◌≤◌, length};
-ghost use Rattle.layout.specs.Layout.{mark_size, plan_numbers_size, plan_size, unit_size, plan_numbers_at, plan_of, mark_at, size_of, sample_unit_at, entry_of, units_in};
+ghost use Rattle.std.specs.Result.{result_ok};
+ghost use Rattle.layout.specs.Layout.{mark_size, plan_numbers_size, plan_size, unit_size, plan_numbers_at, plan_of, mark_of, mark_at, size_of, sample_unit_at, entry_of, units_in};
 ghost use Rattle.layout.specs.Walk.{first_place, place_after, RoomPast};
 
 use cusum::{Defects, PlanNumbers};
 use encoding::number_at;
+use std::array;
 use units::{CELLS, Entry, Plan, SampleUnit};
 
 // Sizes of the records, and offsets of their fields, each behind the one before it.
@@ -48,13 +50,16 @@ pub const UNIT_SIZE: usize = RECOVERABLE_OFFSET + 1;
 pub const REDESIGNATION_SIZE: usize = GRADE_OFFSET + 1;
 
 // Which record a mark opens.
-#[derive(Clone, Copy)]
+#[derive(Clone, Copy, Debug, PartialEq, Eq)]
 pub enum Mark {
     UnitMark,
     RedesignationMark,
     BreakMark,
-    NoMark,
 }
+
+// What a number is that opens no record.
+#[derive(Clone, Copy, Debug, PartialEq, Eq)]
+pub struct UnknownMark;
 
 // Where a walk over the records stands: the number of a record, its offset, the units before it.
 #[derive(Clone, Copy)]
@@ -64,6 +69,8 @@ pub struct Place {
     pub units: usize,
 }
 
+// What stands in a sheet is named by its offset, as in the specification: a slice from there on is no plainer, and a unit before a place is
+// read alike.
 fn plan_numbers_at(bytes: &[u8], at: usize) -> PlanNumbers
     requires { at + plan_numbers_size ≤ length bytes.now }
     ensures { result ≡ plan_numbers_at bytes.now at }
@@ -76,70 +83,69 @@ fn plan_numbers_at(bytes: &[u8], at: usize) -> PlanNumbers
 }
 
 // The plan of a sheet that is long enough for it.
+#[tactic(auto, unfolding(crate::specs::Layout::plan_of))]
 pub fn plan_of(bytes: &[u8]) -> Plan
     requires { plan_size ≤ length bytes.now }
     ensures { result ≡ plan_of bytes.now }
 {
-    let none = PlanNumbers {
-        start: 0,
-        tolerance: 0,
-        limit: 0,
-    };
-    let mut numbers = [none; CELLS];
-    let mut cell: usize = 0;
-    while cell < CELLS {
-        numbers[cell] = plan_numbers_at(bytes, TABLE_OFFSET + PLAN_NUMBERS_SIZE * cell);
-        cell += 1;
-    }
     Plan {
         designated: bytes[GRADE_OFFSET],
-        numbers: numbers,
+        numbers: array::from_fn(|cell| {
+            plan_numbers_at(bytes, TABLE_OFFSET + PLAN_NUMBERS_SIZE * cell)
+        }),
     }
 }
 
-// The mark at an offset.
-pub fn mark_at(bytes: &[u8], at: usize) -> Mark
+impl TryFrom<u16> for Mark {
+    type Error = UnknownMark;
+
+    ghost try_from_gives = { λ number result. result_ok result ≡ mark_of number };
+
+    #[tactic(auto, unfolding(crate::specs::Layout::mark_of, units::specs::Conditions::pick))]
+    fn try_from(number: u16) -> Result<Mark, UnknownMark> {
+        match number {
+            0x5355 => Ok(Mark::UnitMark),
+            0x5244 => Ok(Mark::RedesignationMark),
+            0x424b => Ok(Mark::BreakMark),
+            _ => Err(UnknownMark),
+        }
+    }
+}
+
+// The mark at an offset, if there is one.
+#[tactic(auto, unfolding(crate::specs::Layout::mark_at))]
+pub fn mark_at(bytes: &[u8], at: usize) -> Option<Mark>
     requires { at + mark_size ≤ length bytes.now }
     ensures { result ≡ mark_at bytes.now at }
 {
-    let mark = number_at(bytes, at);
-    if mark == 0x5355 {
-        return Mark::UnitMark;
-    }
-    if mark == 0x5244 {
-        return Mark::RedesignationMark;
-    }
-    if mark == 0x424b {
-        return Mark::BreakMark;
-    }
-    Mark::NoMark
+    Mark::try_from(number_at(bytes, at)).ok()
 }
 
 // The size of a record by its mark.
-fn size_of(mark: Mark) -> usize
+#[tactic(auto, unfolding(crate::specs::Layout::size_of))]
+fn size_of(mark: Option<Mark>) -> usize
     ensures { result ≡ size_of mark }
 {
     match mark {
-        Mark::UnitMark => UNIT_SIZE,
-        Mark::RedesignationMark => REDESIGNATION_SIZE,
-        Mark::BreakMark => MARK_SIZE,
-        Mark::NoMark => MARK_SIZE,
+        Some(Mark::UnitMark) => UNIT_SIZE,
+        Some(Mark::RedesignationMark) => REDESIGNATION_SIZE,
+        Some(Mark::BreakMark) | None => MARK_SIZE,
     }
 }
 
 // 1 for a unit, 0 for any other record.
-fn units_in(mark: Mark) -> usize
+#[tactic(auto, unfolding(crate::specs::Layout::units_in))]
+fn units_in(mark: Option<Mark>) -> usize
     ensures { result ≡ units_in mark }
 {
     match mark {
-        Mark::UnitMark => 1,
-        Mark::RedesignationMark => 0,
-        Mark::BreakMark => 0,
-        Mark::NoMark => 0,
+        Some(Mark::UnitMark) => 1,
+        _ => 0,
     }
 }
 
 // The unit at an offset, whole.
+#[tactic(auto, unfolding(crate::specs::Layout::sample_unit_at))]
 pub fn sample_unit_at(bytes: &[u8], at: usize) -> SampleUnit
     requires { at + unit_size ≤ length bytes.now }
     ensures { result ≡ sample_unit_at bytes.now at }
@@ -156,15 +162,15 @@ pub fn sample_unit_at(bytes: &[u8], at: usize) -> SampleUnit
 }
 
 // The record at an offset, which has its mark and is whole.
-pub fn entry_at(bytes: &[u8], at: usize, mark: Mark) -> Entry
+#[tactic(auto, unfolding(crate::specs::Layout::entry_of, crate::specs::Layout::size_of))]
+pub fn entry_at(bytes: &[u8], at: usize, mark: Option<Mark>) -> Entry
     requires { at + size_of mark ≤ length bytes.now }
     ensures { result ≡ entry_of bytes.now at mark }
 {
     match mark {
-        Mark::UnitMark => Entry::UnitRecord(sample_unit_at(bytes, at)),
-        Mark::RedesignationMark => Entry::Redesignation(bytes[at + GRADE_OFFSET]),
-        Mark::BreakMark => Entry::Break,
-        Mark::NoMark => Entry::Break,
+        Some(Mark::UnitMark) => Entry::UnitRecord(sample_unit_at(bytes, at)),
+        Some(Mark::RedesignationMark) => Entry::Redesignation(bytes[at + GRADE_OFFSET]),
+        Some(Mark::BreakMark) | None => Entry::Break,
     }
 }
 
@@ -181,7 +187,7 @@ impl Place {
     }
 
     // Past a record with this mark.
-    pub fn past(self, mark: Mark) -> Place
+    pub fn past(self, mark: Option<Mark>) -> Place
         requires { RoomPast self mark }
         ensures { result ≡ place_after self mark }
     {

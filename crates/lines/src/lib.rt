@@ -1,25 +1,22 @@
-// What the printing program prints, written into the caller's buffer: a line a unit, or the refusal. Each function writes from a place
-// on and answers where its text ends.
+// What the printing program prints, written into the caller's buffer: a line a unit, or the refusal.
 #![tactic(auto)]
 
-ghost use Rattle.std.specs.Prelude.{◌≡◌, ◌+◌, ◌*◌, ◌≤◌, length};
-ghost use Rattle.results.specs.Record.{result_size};
+ghost use Rattle.std.specs.Prelude.{◌≡◌, ◌≤◌, length};
 ghost use Rattle.sheet.specs.Refusals.{most_units};
-ghost use Rattle.text.specs.Text.{rest_of_line, refused_line, text_by, Printing, leaving};
-ghost use Rattle.text.specs.Wrote.{Wrote};
-ghost use Rattle.lines.specs.Lines.{grade_letter, standing_letter, cusum_fields, line_of, lines_of, printing};
-ghost use Rattle.lines.specs.Rooms.{letter_fields, line_size};
+ghost use Rattle.text.specs.Text.{rest_of_line, text_by, Printing, leaving};
+ghost use Rattle.text.specs.Wrote.{Wrote, HasRoom};
+ghost use Rattle.lines.specs.Lines.{grade_letter, standing_letter, cusum_fields, line_of, printing};
+ghost use Rattle.lines.specs.Rooms.{HasRecord, letter_fields, cusums_size, line_size};
 
 use encoding::number_at;
-use outcome::Answer;
+use outcome::{Answer, Ground};
 use results::{
     CODE_GRADE_OFFSET, CODE_OFFSET, CUSUM_WIDTH, CUSUMS_OFFSET, PLAN_GRADE_OFFSET,
     PORTION_GRADE_OFFSET, RESULT_SIZE, STANDING_OFFSET,
 };
 use sheet::MOST_UNITS;
 use text::{
-    CUSUM_SIZE, LARGEST_INPUT, NUMBER_DIGITS, TOO_MUCH_INPUT, WORD_SIZE, decimal, letter_of,
-    number_field, put, put_all, refusal_line, tenths_field,
+    CUSUM_SIZE, LARGEST_INPUT, NUMBER_DIGITS, Page, UnitLines, WORD_SIZE, letter_of, print_refusal,
 };
 use units::CLASSES;
 
@@ -53,74 +50,62 @@ fn standing_letter(standing: u8) -> u8
     letter_of(b"mfu", b'r', standing)
 }
 
-// The four letters of unit j.
-fn letter_fields(results: &[u8], j: usize, out: &mut [u8], at: usize) -> usize
-    requires { (result_size * j + result_size ≤ length results.now) × (at + length (letter_fields results.now j) ≤ length out.old) }
-    ensures { Wrote out.old at (letter_fields results.now j) out.new result }
-{
-    let record = RESULT_SIZE * j;
-    let portion = grade_letter(results[record + PORTION_GRADE_OFFSET]);
-    let code = grade_letter(results[record + CODE_GRADE_OFFSET]);
-    let standing = standing_letter(results[record + STANDING_OFFSET]);
-    let plan = grade_letter(results[record + PLAN_GRADE_OFFSET]);
-    let letters = [b' ', portion, b' ', code, b' ', standing, b' ', plan];
-    put_all(out, at, &letters)
+// The lines of the records of a result buffer.
+#[derive(Drop)]
+struct TallyLines<'a> {
+    results: &'a [u8],
 }
 
-// The CuSums of unit j, of two bytes each, and the newline.
-fn cusum_fields(results: &[u8], j: usize, out: &mut [u8], at: usize) -> usize
-    requires { (result_size * j + result_size ≤ length results.now) × (at + length (rest_of_line (cusum_fields results.now j)) ≤ length out.old) }
-    ensures { Wrote out.old at (rest_of_line (cusum_fields results.now j)) out.new result }
-{
-    let record = RESULT_SIZE * j;
-    let mut end = at;
-    let mut class: usize = 0;
-    while class < CLASSES {
-        end = tenths_field(
-            results,
-            record + (CUSUMS_OFFSET + CUSUM_WIDTH * class),
-            out,
-            end,
-        );
-        class += 1;
+impl TallyLines<'_> {
+    // The four letters of a unit.
+    fn letter_fields(&self, unit: usize, page: &mut Page)
+        requires there { HasRecord self.now.results.now unit }
+        requires room { HasRoom page.old (length (letter_fields self.now.results.now unit)) }
+        ensures { Wrote page.old (letter_fields self.now.results.now unit) page.new }
+    {
+        let record = RESULT_SIZE * unit;
+        let portion = grade_letter(self.results[record + PORTION_GRADE_OFFSET]);
+        let code = grade_letter(self.results[record + CODE_GRADE_OFFSET]);
+        let standing = standing_letter(self.results[record + STANDING_OFFSET]);
+        let plan = grade_letter(self.results[record + PLAN_GRADE_OFFSET]);
+        page.bytes(&[b' ', portion, b' ', code, b' ', standing, b' ', plan]);
     }
-    put(out, end, b'\n')
-}
 
-// The line of unit j, the first being 0.
-fn unit_line(results: &[u8], j: usize, out: &mut [u8], at: usize) -> usize
-    requires { (result_size * j + result_size ≤ length results.now) × (at + length (line_of results.now j) ≤ length out.old) }
-    ensures { Wrote out.old at (line_of results.now j) out.new result }
-{
-    let code = number_at(results, RESULT_SIZE * j + CODE_OFFSET);
-    let after_number = decimal(out, at, j + 1);
-    let after_code = number_field(out, after_number, code as usize);
-    let after_letters = letter_fields(results, j, out, after_code);
-    cusum_fields(results, j, out, after_letters)
-}
-
-// A line for each of the units that a result buffer has records of.
-fn unit_lines(results: &[u8], units: usize, out: &mut [u8]) -> usize
-    requires { (result_size * units ≤ length results.now) × (line_size * units ≤ length out.old) }
-    ensures { Wrote out.old 0 (lines_of results.now units) out.new result }
-{
-    let mut end: usize = 0;
-    let mut j: usize = 0;
-    while j < units {
-        end = unit_line(results, j, out, end);
-        j += 1;
+    // The CuSums of a unit, of two bytes each, and the newline.
+    #[tactic(auto, using(text::proofs::Decimals::length_cusum), unfolding(text::specs::Text::rest_of_line))]
+    fn cusum_fields(&self, unit: usize, page: &mut Page)
+        requires there { HasRecord self.now.results.now unit }
+        requires room { HasRoom page.old cusums_size }
+        ensures wrote { Wrote page.old (rest_of_line (cusum_fields self.now.results.now unit)) page.new }
+        ensures short { length (rest_of_line (cusum_fields self.now.results.now unit)) ≤ cusums_size }
+    {
+        let record = RESULT_SIZE * unit;
+        for class in 0..CLASSES {
+            let tenths = number_at(self.results, record + (CUSUMS_OFFSET + CUSUM_WIDTH * class));
+            page.tenths_field(tenths);
+        }
+        page.byte(b'\n');
     }
-    end
+}
+
+impl UnitLines for TallyLines<'_> {
+    ghost HasUnit = { λ lines. HasRecord lines.results.now };
+
+    ghost line = { λ lines. line_of lines.results.now };
+
+    ghost line_size = { line_size };
+
+    #[tactic(auto, using(text::proofs::Decimals::length_word, text::proofs::Decimals::length_number))]
+    fn unit_line(&self, unit: usize, page: &mut Page) {
+        let code = number_at(self.results, RESULT_SIZE * unit + CODE_OFFSET);
+        page.decimal(unit + 1);
+        page.number_field(code as usize);
+        self.letter_fields(unit, page);
+        self.cusum_fields(unit, page);
+    }
 }
 
 // ---- the whole text, which stands first in the caller's; the answer is its size
-
-// A refusal alone.
-pub fn print_refusal(number: u32, offset: usize, text: &mut [u8; TEXT_SIZE]) -> usize
-    ensures { ◌≡◌ {A = Printing} (record { size = result; text = text.new }) (leaving (refused_line number offset) text.old) }
-{
-    refusal_line(number, offset, text)
-}
 
 // What is printed for an answer and the results that stand beside it, whoever graded them: the lines of the units, or the refusal.
 pub fn print_answer(
@@ -128,21 +113,19 @@ pub fn print_answer(
     results: &[u8; RESULTS_SIZE],
     text: &mut [u8; TEXT_SIZE],
 ) -> usize
-    requires { answer.units ≤ most_units }
+    requires { answer.number ≡ 0 → answer.units ≤ most_units }
     ensures { ◌≡◌ {A = Printing} (record { size = result; text = text.new }) (leaving (text_by answer (line_of results.now)) text.old) }
 {
-    if answer.number == 0 {
-        return unit_lines(results, answer.units, text);
-    }
-    print_refusal(answer.number, answer.offset, text)
+    text::print_answer(answer, &TallyLines { results }, text)
 }
 
 // What is printed for an input: the lines of the sheet that it is, or the refusal. It stands first in the text; the answer is its size.
+#[tactic(auto, using(text::proofs::Printed::too_much))]
 pub fn print_into(input: &[u8], text: &mut [u8; TEXT_SIZE]) -> usize
     ensures { ◌≡◌ {A = Printing} (record { size = result; text = text.new }) (printing input.now text.old) }
 {
     if LARGEST_INPUT < input.len() {
-        return print_refusal(TOO_MUCH_INPUT, LARGEST_INPUT, text);
+        return print_refusal(Ground::TooMuchInput.number(), LARGEST_INPUT, text);
     }
     let mut results = [0u8; RESULTS_SIZE];
     let answer = tally::grade(input, &mut results);

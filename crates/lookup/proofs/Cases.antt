@@ -1,17 +1,13 @@
 -- What a look-up comes to, case by case: refused, found, not on this sheet; and that the part lies inside the results. Each by its tests.
-use Prim.Native.Nat.{ℕ, ◌+◌, ◌-◌, ◌%◌, ◌≤◌, ◌<◌}
-use mathlib.Core.Path.{◌≡◌, refl, sym, ap₂, subst}
-use mathlib.Core.Bool.{Bool, true, false}
-use mathlib.Core.List.{List}
-use native.Mathlib.Omega.{arith}
-use borrow.Author.Tests.{lt-ltb, le-ltb, eqb-true, eqb-false, eq-eqb, ne_eqb}
-use lib.Dec.{eqb}
-use lib.ListN.{length, take, drop}
+use Rattle.std.proofs.Common.{ℕ, ◌+◌, ◌-◌, ◌*◌, ◌%◌, ◌≤◌, ◌<◌, ◌≡◌, refl, sym, ◌∙◌, ap, ap₂, subst, Bool, true, false, cond, List, [], inl, inr, Option, Some, None, MatchOption, length, take, drop, length-take, length-drop, eqb, lt-ltb, le-ltb, eqb-true, eq-eqb, ne_eqb, arith}
+use Rattle.std.proofs.lemmas.Bool.{cases_lt, eqb-false}
 use Rattle.units.specs.Conditions.{pick}
 use Rattle.results.specs.Record.{result_size}
 use Rattle.lookup.specs.declared.Part.{Part}
 use Rattle.lookup.specs.Records.{not_records, result_records}
-use Rattle.lookup.specs.Lookup.{found_at, not_on_this_sheet, refused_results, first_of_worst, lookup, Handed, handed_as}
+use Rattle.lookup.specs.declared.Reading.{Reading}
+use Rattle.lookup.specs.Reading.{one_of, reading_of}
+use Rattle.lookup.specs.Lookup.{found_at, not_on_this_sheet, refused_results, first_of_worst, lookup, Handed, handed_as, handed}
 use Rattle.lookup.proofs.Worst.{FirstOf, NoneOf, first_of_worst_is, first_of_none, Search, none_has_code, first_found, search_all}
 
 module _ (results : List ℕ) (code : ℕ) where
@@ -49,6 +45,34 @@ module _ (results : List ℕ) (code : ℕ) where
       by_rest true test = by_search (eqb-true (length results % result_size) 0 test) (search_all results code (result_records results))
       by_rest false test = let rest = eqb-false (length results % result_size) 0 test in refused rest (refused_is rest)
 
+-- ---- what a reading says of the first of the worst, which is one of so many records, or none
+
+one_is : (n index : ℕ) (one : Option ℕ) → one ≡ one_of n index → MatchOption one (n ≤ index) (λ first. (index ≡ first) × (first < n))
+one_is n index None is =
+    elim (cases_lt index n) [
+      | inl below ↦ let there : None ≡ Some index = is ∙ ap (λ (test : Bool). cond test (Some index) None) (lt-ltb index n below) in cc
+      | inr behind ↦ behind
+    ]
+one_is n index (Some first) is =
+    elim (cases_lt index n) [
+      | inl below ↦
+          let there : Some first ≡ Some index = is ∙ ap (λ (test : Bool). cond test (Some index) None) (lt-ltb index n below) in
+          let same : index ≡ first = (cc) in
+          (same, omega arith)
+      | inr behind ↦ let none : Some first ≡ None = is ∙ ap (λ (test : Bool). cond test (Some index) None) (le-ltb index n behind) in cc
+    ]
+
+module _ (results : List ℕ) (code : ℕ) (whole : length results % result_size ≡ 0) {reading : Reading} (is : reading ≡ reading_of results code) where
+  pub reading_found : {first : ℕ} → reading.first ≡ Some first → lookup results code ≡ found_at first
+  reading_found {first} one =
+      let place = one_is (result_records results) (first_of_worst results code (result_records results)) (Some first) (sym one ∙ ap (λ (r : Reading). r.first) is) in
+      found_is results code whole place.0 place.1
+
+  pub reading_none : reading.first ≡ None → lookup results code ≡ not_on_this_sheet
+  reading_none one =
+      none_is results code whole refl
+      (one_is (result_records results) (first_of_worst results code (result_records results)) None (sym one ∙ ap (λ (r : Reading). r.first) is))
+
 -- ---- the part
 
 abbrev pub Inside : List ℕ → Part → Type 0
@@ -62,17 +86,41 @@ part_inside results code part given = subst (Inside results) (sym given) (go (ca
     go (found whole first at is) = rw is (omega (arith, at.inside))
     go (none whole no_record is) = rw is (omega arith)
 
--- taken from its start to its end
-pub handed_part : (start : ℕ × ℕ) (results : List ℕ) (part : Part)
-    → ◌≡◌ {A = Handed}
-    (record {
-      number = part.number;
-      start = (start.0, part.offset + start.1);
-      bytes = take (part.offset + part.length - part.offset) (drop part.offset results);
-    })
-    (handed_as start results part)
+-- of a record that is found, from its start to its end: its size, and where it is in memory
+module _ (results : List ℕ) (code first : ℕ) (is : lookup results code ≡ found_at first) where
+  size_is : length (take (result_size * first + result_size - result_size * first) (drop (result_size * first) results)) ≡ result_size
+  size_is =
+      let inside : Inside results (found_at first) = subst (Inside results) is (part_inside results code (lookup results code) refl) in
+      simp (length-take, length-drop) (omega (arith, inside))
+
+  pub found_part : ◌≡◌ {A = Part}
+      (record {
+        number = 0;
+        offset = result_size * first;
+        length = length (take (result_size * first + result_size - result_size * first) (drop (result_size * first) results));
+      })
+      (lookup results code)
+  found_part = ap (λ (size : ℕ). record { number = 0; offset = result_size * first; length = size }) size_is ∙ sym is
+
+  pub handed_part : (start : ℕ × ℕ)
+      → ◌≡◌ {A = Handed}
+      (record {
+        number = 0;
+        start = (start.0, result_size * first + start.1);
+        bytes = take (result_size * first + result_size - result_size * first) (drop (result_size * first) results);
+      })
+      (handed start results code)
+  unfolding handed_as
+  handed_part start =
+      let size : result_size * first + result_size - result_size * first ≡ result_size = omega arith in
+      let begin : result_size * first + start.1 ≡ start.1 + result_size * first = omega arith in
+      ap₂ (λ (from many : ℕ). record { number = 0; start = (start.0, from); bytes = take many (drop (result_size * first) results) }) begin size
+      ∙ ap (handed_as start results) (sym is)
+
+-- an empty one
+pub handed_nothing : (results : List ℕ) (code number : ℕ) (start : ℕ × ℕ) → lookup results code ≡ record { number = number; offset = 0; length = 0 }
+    → ◌≡◌ {A = Handed} (record { number = number; start = start; bytes = [] }) (handed start results code)
 unfolding handed_as
-handed_part start results part =
-    let size : part.offset + part.length - part.offset ≡ part.length = omega arith in
-    let begin : part.offset + start.1 ≡ start.1 + part.offset = omega arith in
-    ap₂ (λ (from many : ℕ). record { number = part.number; start = (start.0, from); bytes = take many (drop part.offset results) }) begin size
+handed_nothing results code number (block, at) is =
+    let begin : at ≡ at + 0 = omega arith in
+    ap (λ (from : ℕ). record { number = number; start = (block, from); bytes = [] }) begin ∙ ap (handed_as (block, at) results) (sym is)

@@ -1,3 +1,4 @@
 pub mod Records
 pub mod Lookup
+pub mod Found
 pub mod Reading

@@ -1,16 +1,13 @@
 -- Finished results as they are looked through for a code: bytes of any origin, taken as result records one after the other. Of a record the
 -- code and the portion grade are looked at; its mark and all else are not.
-use Rattle.std.specs.Prelude.{ℕ, zero, suc, ◌/◌, ◌%◌, Bool, cond, not, ◌&&◌, List, eqb, ltb, length}
+use Rattle.std.specs.Prelude.{ℕ, zero, suc, ◌%◌, Bool, cond, not, ◌&&◌, List, eqb, ltb, length}
 use Rattle.units.specs.Words.{substandard, worse}
 use Rattle.results.specs.Record.{result_size, code_in, portion_grade_in}
+pub use Rattle.codes.specs.Codes.{result_records}
 
 -- 19: "results not a multiple of 32 bytes long"
 unfoldable pub not_records : List ℕ → Bool
 not_records results = not (eqb (length results % result_size) 0)
-
--- how many records there are
-abbrev pub result_records : List ℕ → ℕ
-result_records results = length results / result_size
 
 -- "A grade byte of 3 or more is Substandard."
 unfoldable pub grade_of : ℕ → ℕ

@@ -1,4 +1,6 @@
+pub mod Placed
 pub mod Checking
+pub mod Records
 pub mod Written
 pub mod Cases
 pub mod Computing

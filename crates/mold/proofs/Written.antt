@@ -1,16 +1,9 @@
--- What the units write: its length, and one record more behind those that are written. By induction on the units, and by what a run of
--- stores inside a list is.
-use Prim.Native.Nat.{ℕ, zero, suc, ◌+◌, ◌*◌, ◌≤◌}
-use mathlib.Core.Path.{◌≡◌, refl, sym, ◌∙◌, ap}
-use mathlib.Core.List.{List, ◌++◌}
-use native.Mathlib.Numerals.{add-one}
-use native.Mathlib.Omega.{arith}
-use lib.ListN.{length, drop, length-append}
-use lib.Seq.{sets}
+-- What the units write: its length, and one record more behind those that are written. By induction on the units.
+use Rattle.std.proofs.Common.{◌≡◌, ℕ, zero, suc, ◌+◌, ◌*◌, ◌-◌, List, [], ◌++◌, length, take, drop, refl, sym, ◌∙◌, arith, add-one, append_assoc, append-nil, length-append, length-drop}
+use Rattle.std.proofs.lemmas.List.{take_at, drop_at, drop-drop, drop_all, take_rest}
 use Rattle.cusum.specs.Step.{step_of}
 use Rattle.cusum.specs.declared.Stepped.{Stepped}
 use Rattle.encoding.specs.Bytes.{bytes_of}
-use Rattle.results.proofs.Stores.{appended}
 use Rattle.mold.specs.Grading.{numbers_of, tenths_at, cusum_before, fails_at}
 use Rattle.mold.specs.Results.{result_size, result_bytes, result_of, written}
 
@@ -32,24 +25,27 @@ pub next_cusum : (bytes : List ℕ) (unit : ℕ) (stepped : Stepped) → stepped
 unfolding cusum_before
 next_cusum bytes unit stepped e = rw (e, add-one unit)
 
-module _ (bytes : List ℕ) (unit : ℕ) (old : List ℕ) (room : result_size * (unit + 1) ≤ length old) where
-  -- the record of the next unit, stored behind those before it
-  stored : sets (written bytes unit ++ drop (result_size * unit) old) (result_size * unit) (result_of bytes unit)
-      ≡ written bytes (suc unit) ++ drop (result_size * suc unit) old
-  unfolding written
-  stored =
-      let all = length_written bytes unit in
-      let one = length_result bytes unit in
-      let behind : length (written bytes unit) + length (result_of bytes unit) ≡ result_size * suc unit = omega (arith, all, one) in
-      ap (λ (at : ℕ). sets (written bytes unit ++ drop at old) at (result_of bytes unit)) (sym all)
-      ∙ appended (written bytes unit) (result_of bytes unit) old (omega (arith, all, one))
-      ∙ ap (λ (at : ℕ). (written bytes unit ++ result_of bytes unit) ++ drop at old) behind
-
-  -- as the code takes the step
-  pub one_more : (before after : List ℕ) → before ≡ written bytes unit ++ drop (result_size * unit) old
-      → (stepped : Stepped) → stepped ≡ step_at bytes unit
-      → after ≡ sets before (result_size * unit) (result_bytes stepped.fails stepped.cusum.tenths)
-      → after ≡ written bytes (unit + 1) ++ drop (result_size * (unit + 1)) old
-  unfolding cusum_before fails_at
-  one_more before after is_before stepped is_stepped is_after =
-      is_after ∙ rw (is_before, is_stepped, add-one unit) stored
+-- the record of the next unit, written behind those before it to the part of the buffer that was lent, and what comes back of it
+pub one_more : (bytes : List ℕ) (unit at : ℕ) (old before lent : List ℕ) (stepped : Stepped)
+    → at ≡ result_size * unit → before ≡ written bytes unit ++ drop at old → stepped ≡ step_at bytes unit
+    → lent ≡ result_bytes stepped.fails stepped.cusum.tenths ++ drop result_size (take (length before - at) (drop at before))
+    → take at before ++ (lent ++ drop (length before - at) (drop at before)) ≡ written bytes (unit + 1) ++ drop (result_size * (unit + 1)) old
+unfolding cusum_before fails_at written
+one_more bytes unit at old before lent stepped is_at is_before is_stepped is_lent =
+    let all = length_written bytes unit ∙ sym is_at in
+    let behind : at + result_size ≡ result_size * suc unit = omega arith in
+    let none : drop (length before - at) (drop at before) ≡ [] = drop_all (length before - at) (drop at before) (omega (arith, length-drop at before)) in
+    rw (
+      none,
+      is_lent,
+      append-nil,
+      take_rest before at,
+      is_before,
+      is_stepped,
+      add-one unit,
+      take_at _ _ _ all,
+      drop_at _ _ _ all,
+      drop-drop result_size at old,
+      behind,
+    )
+    (sym (append_assoc (written bytes unit) (result_of bytes unit) _))

@@ -2,8 +2,8 @@
 #![tactic(auto)]
 
 ghost use Rattle.std.specs.Prelude.{◌≡◌, cond, ◌+◌, ◌*◌, ◌≤◌, ◌++◌, length, drop};
-ghost use Rattle.std.proofs.lemmas.List.Edits.{sets};
-ghost use Rattle.outcome.specs.Outcome.{Outcome};
+ghost use Rattle.outcome.specs.Grounds.{refusal_number};
+ghost use Rattle.outcome.specs.Outcome.{Outcome, answered};
 ghost use Rattle.cusum.specs.Counts.{field_tenths};
 ghost use Rattle.mold.specs.Levels.{last_row, level_numbers};
 ghost use Rattle.mold.specs.Layout.{opening_size, unit_size, level_row, offset, mold_unit_at};
@@ -14,20 +14,53 @@ ghost use Rattle.mold.specs.Outcome.{mold_outcome};
 use cusum::{Cusum, DefectiveFields, PlanNumbers, Stepped};
 use encoding::number_at;
 use layout::{MARK_SIZE, NUMBER_SIZE};
-use outcome::{Answer, refused_as};
+use outcome::{Answer, Ground, Refusal};
 use results::CUSUM_WIDTH;
 use sheet::MOST_UNITS;
 
-// Defect action levels 5, 10, 12, 15, 20 and 25, and S, T and L of each, in whole fields.
-const LEVELS: usize = 6;
+// S, T and L of a defect action level, in whole fields.
+#[derive(Clone, Copy)]
+struct Level {
+    start: DefectiveFields,
+    tolerance: DefectiveFields,
+    limit: DefectiveFields,
+}
+
+// Defect action levels 5, 10, 12, 15, 20 and 25.
+const LEVELS: [Level; 6] = [
+    Level {
+        start: DefectiveFields(0),
+        tolerance: DefectiveFields(1),
+        limit: DefectiveFields(1),
+    },
+    Level {
+        start: DefectiveFields(1),
+        tolerance: DefectiveFields(2),
+        limit: DefectiveFields(3),
+    },
+    Level {
+        start: DefectiveFields(0),
+        tolerance: DefectiveFields(3),
+        limit: DefectiveFields(2),
+    },
+    Level {
+        start: DefectiveFields(1),
+        tolerance: DefectiveFields(3),
+        limit: DefectiveFields(3),
+    },
+    Level {
+        start: DefectiveFields(0),
+        tolerance: DefectiveFields(5),
+        limit: DefectiveFields(2),
+    },
+    Level {
+        start: DefectiveFields(1),
+        tolerance: DefectiveFields(6),
+        limit: DefectiveFields(3),
+    },
+];
 
 const LAST_ROW: u8 = 5;
-
-const STARTS: [u8; LEVELS] = [0, 1, 0, 1, 0, 1];
-
-const TOLERANCES: [u8; LEVELS] = [1, 2, 3, 3, 5, 6];
-
-const LIMITS: [u8; LEVELS] = [1, 3, 2, 3, 2, 3];
 
 // Positive fields are counted out of 25.
 const FIELDS_COUNTED: u8 = 25;
@@ -70,28 +103,12 @@ fn level_numbers(row: u8) -> PlanNumbers
     requires { row ≤ last_row }
     ensures { result ≡ level_numbers row }
 {
-    let row = row as usize;
+    let level = LEVELS[usize::from(row)];
     PlanNumbers {
-        start: plan_tenths(DefectiveFields(STARTS[row])),
-        tolerance: plan_tenths(DefectiveFields(TOLERANCES[row])),
-        limit: plan_tenths(DefectiveFields(LIMITS[row])),
+        start: plan_tenths(level.start),
+        tolerance: plan_tenths(level.tolerance),
+        limit: plan_tenths(level.limit),
     }
-}
-
-// The number of the first ground that the opening meets, or 0.
-fn opening_refusal(bytes: &[u8]) -> u32
-    ensures { result ≡ opening_refusal bytes.now }
-{
-    if bytes.len() < OPENING_SIZE {
-        return 1;
-    }
-    if number_at(bytes, 0) != 0x4d44 {
-        return 1;
-    }
-    if LAST_ROW < bytes[LEVEL_OFFSET] {
-        return 16;
-    }
-    0
 }
 
 // The unit at an offset, whole.
@@ -113,89 +130,78 @@ fn tenths_at(bytes: &[u8], at: usize) -> u32
     mold_unit_at(bytes, at).fields.tenths()
 }
 
-// The number of the first ground that the record at an offset meets, or 0.
-fn unit_refusal(bytes: &[u8], at: usize, units: usize) -> u32
-    requires { at ≤ length bytes.now }
-    ensures { result ≡ unit_refusal bytes.now at units }
+// The first ground that the opening meets.
+fn check_opening(bytes: &[u8]) -> Result<(), Ground>
+    ensures { refusal_number result ≡ opening_refusal bytes.now }
 {
-    let left = bytes.len() - at;
-    if left < MARK_SIZE {
-        return 6;
+    if bytes.len() < OPENING_SIZE || number_at(bytes, 0) != 0x4d44 {
+        return Err(Ground::NoPlan);
     }
-    if number_at(bytes, at) != 0x4d55 {
-        return 6;
+    if LAST_ROW < bytes[LEVEL_OFFSET] {
+        return Err(Ground::BadLevelRow);
     }
-    if left < UNIT_SIZE {
-        return 7;
-    }
-    if MOST_UNITS <= units {
-        return 12;
-    }
-    if FIELDS_COUNTED < mold_unit_at(bytes, at).fields.0 {
-        return 17;
-    }
-    0
+    Ok(())
 }
 
-// The records behind an opening, from left to right.
-fn check_records(bytes: &[u8]) -> Answer
-    requires { opening_size ≤ length bytes.now }
-    ensures { result ≡ check_from bytes.now (length bytes.now) 0 }
+// The first ground that a record meets, with so many units before it. The sheet may cut it short.
+fn check_unit(bytes: &[u8], units: usize) -> Result<(), Ground>
+    ensures { refusal_number result ≡ unit_refusal bytes.now 0 units }
 {
-    let mut units: usize = 0;
-    let mut at: usize = OPENING_SIZE;
-    while at < bytes.len() {
-        let number = unit_refusal(bytes, at, units);
-        if number != 0 {
-            return refused_as(number, at);
-        }
-        units += 1;
-        at += UNIT_SIZE;
+    if bytes.len() < MARK_SIZE || number_at(bytes, 0) != 0x4d55 {
+        return Err(Ground::UnknownMark);
     }
-    Answer {
-        number: 0,
-        units: units,
-        offset: bytes.len(),
+    if bytes.len() < UNIT_SIZE {
+        return Err(Ground::CutShort);
     }
+    if MOST_UNITS <= units {
+        return Err(Ground::TooManyUnits);
+    }
+    if FIELDS_COUNTED < mold_unit_at(bytes, 0).fields.0 {
+        return Err(Ground::TooManyFields);
+    }
+    Ok(())
+}
+
+// The records behind an opening, from left to right: whole ones, and a last one that the sheet cuts short.
+fn check_records(bytes: &[u8]) -> Result<usize, Refusal>
+    requires { opening_size ≤ length bytes.now }
+    ensures { answered (length bytes.now) result ≡ check_from bytes.now (length bytes.now) 0 }
+{
+    let (records, rest) = bytes[OPENING_SIZE..].as_chunks::<UNIT_SIZE>();
+    for (units, record) in records.iter().enumerate() {
+        check_unit(record, units).map_err(|ground| ground.at(OPENING_SIZE + UNIT_SIZE * units))?;
+    }
+    if !rest.is_empty() {
+        check_unit(rest, records.len()).map_err(|ground| ground.at(bytes.len() - rest.len()))?;
+    }
+    Ok(records.len())
 }
 
 // The check of a sheet for all but number 13.
-fn check(bytes: &[u8]) -> Answer
-    ensures { result ≡ checked bytes.now }
+fn check(bytes: &[u8]) -> Result<usize, Refusal>
+    ensures { answered (length bytes.now) result ≡ checked bytes.now }
 {
-    let number = opening_refusal(bytes);
-    if number != 0 {
-        return refused_as(number, 0);
-    }
+    check_opening(bytes).map_err(|ground| ground.at(0))?;
     check_records(bytes)
 }
 
-// 1 for met, 0 for failed.
-fn met_byte(fails: bool) -> u8
-    ensures { result ≡ cond fails 0 1 }
+// The result record of a unit.
+fn result_bytes(stepped: Stepped) -> [u8; RESULT_SIZE]
+    ensures { result ≡ result_bytes stepped.fails stepped.cusum.tenths }
 {
-    if fails { 0 } else { 1 }
+    let [_, _, high, low] = stepped.cusum.tenths.to_be_bytes();
+    [0x4d, 0x52, u8::from(!stepped.fails), high, low]
 }
 
 // Writes the result record of a unit to the start of the rest of the result buffer.
 fn write(rest: &mut [u8], stepped: Stepped)
     requires { result_size ≤ length rest.old }
-    ensures { rest.new ≡ sets rest.old 0 (result_bytes stepped.fails stepped.cusum.tenths) }
+    ensures { rest.new ≡ result_bytes stepped.fails stepped.cusum.tenths ++ drop result_size rest.old }
 {
-    let tenths = stepped.cusum.tenths;
-    rest[0] = 0x4d;
-    rest[1] = 0x52;
-    rest[MET_OFFSET] = met_byte(stepped.fails);
-    rest[CUSUM_OFFSET] = (tenths / 256 % 256) as u8;
-    rest[CUSUM_OFFSET + 1] = (tenths % 256) as u8;
-}
-
-// The same from an offset on.
-fn write_at(results: &mut [u8], at: usize, stepped: Stepped)
-    requires { at + result_size ≤ length results.old }
-    ensures { results.new ≡ sets results.old at (result_bytes stepped.fails stepped.cusum.tenths) }
-{
-    write(&mut results[at..], stepped);
+    let Some(slot) = rest.first_chunk_mut() else {
+        unreachable!()
+    };
+    *slot = result_bytes(stepped);
 }
 
 // Writes the result records of so many units, which are whole.
@@ -205,14 +211,25 @@ fn write_units(bytes: &[u8], units: usize, results: &mut [u8])
 {
     let numbers = level_numbers(bytes[LEVEL_OFFSET]);
     let mut cusum = Cusum::starting(numbers);
-    let mut unit: usize = 0;
-    while unit < units {
+    // By number: of what is written through `chunks_exact_mut` a proof knows the length alone.
+    for unit in 0..units {
         let tenths = tenths_at(bytes, OPENING_SIZE + UNIT_SIZE * unit);
         let stepped = cusum.step(numbers, tenths);
-        write_at(results, RESULT_SIZE * unit, stepped);
+        write(&mut results[RESULT_SIZE * unit..], stepped);
         cusum = stepped.cusum;
-        unit += 1;
     }
+}
+
+// The units of a sheet whose result records stand in the buffer.
+fn graded(sheet: &[u8], results: &mut [u8]) -> Result<usize, Refusal>
+    ensures { ◌≡◌ {A = Outcome} (record { answer = answered (length sheet.now) result; buffer = results.new }) (mold_outcome sheet.now results.old) }
+{
+    let units = check(sheet)?;
+    if results.len() < RESULT_SIZE * units {
+        return Err(Ground::ResultBufferTooShort.at(sheet.len()));
+    }
+    write_units(sheet, units, results);
+    Ok(units)
 }
 
 // Grades a mold sheet into a result buffer. Every sheet is accepted or refused by a listed number with the place; a refused sheet
@@ -220,13 +237,5 @@ fn write_units(bytes: &[u8], units: usize, results: &mut [u8])
 pub fn grade_mold(sheet: &[u8], results: &mut [u8]) -> Answer
     ensures { ◌≡◌ {A = Outcome} (record { answer = result; buffer = results.new }) (mold_outcome sheet.now results.old) }
 {
-    let answer = check(sheet);
-    if answer.number != 0 {
-        return answer;
-    }
-    if results.len() < RESULT_SIZE * answer.units {
-        return refused_as(13, sheet.len());
-    }
-    write_units(sheet, answer.units, results);
-    answer
+    Answer::of(graded(sheet, results), sheet.len())
 }

@@ -14,10 +14,10 @@ use Rattle.mold_demands.specs.MoldSheets.{LevelSheets, UnitSheets, RefusedSheets
 -- a sheet that passes is graded in a buffer that has room for its records, and refused with 13 in one that has not
 module _ (bytes buffer : List ℕ) (units : ℕ) (passes : accepted_as units (length bytes) ≡ checked bytes) where
   accepts : result_size * units ≤ length buffer → mold_outcome bytes buffer ≡ acceptance bytes buffer units
-  accepts room = sym (outcome_graded bytes (accepted_as units (length bytes)) passes buffer refl room)
+  accepts room = sym (outcome_graded bytes units passes buffer room)
 
   without_room : length buffer < result_size * units → mold_outcome bytes buffer ≡ refusal 13 (length bytes) buffer
-  without_room short = sym (outcome_short bytes (accepted_as units (length bytes)) passes buffer refl short)
+  without_room short = sym (outcome_short bytes units passes buffer short)
 
 level_sheets : LevelSheets
 unfolding computing manual_example manual_example_results level5 level5_results level10 level10_results level12 level12_results level15

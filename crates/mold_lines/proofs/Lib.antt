@@ -1,1 +1,1 @@
-pub mod MoldLines
+pub mod Inside

@@ -2,17 +2,18 @@
 #![tactic(auto)]
 
 ghost use Rattle.std.specs.Prelude.{◌≡◌, ◌+◌, ◌*◌, ◌≤◌, length};
-ghost use Rattle.text.specs.Text.{rest_of_line, lines_by, Printing};
-ghost use Rattle.text.specs.Wrote.{Wrote};
+ghost use Rattle.text.specs.Text.{Printing};
 ghost use Rattle.mold.specs.Layout.{unit_size, offset};
 ghost use Rattle.mold.specs.Results.{result_size};
-ghost use Rattle.mold_lines.specs.MoldLines.{met_letter, result_fields, mold_line_of, mold_printing, mold_line_size};
+ghost use Rattle.mold_lines.specs.MoldLines.{met_letter, mold_line_of, mold_printing, mold_line_size};
 
+use encoding::number_at;
 use mold::{CUSUM_OFFSET, MET_OFFSET, OPENING_SIZE, RESULT_SIZE, UNIT_SIZE, mold_unit_at};
+use outcome::Ground;
 use sheet::MOST_UNITS;
 use text::{
-    CUSUM_SIZE, LARGEST_INPUT, NUMBER_DIGITS, TOO_MUCH_INPUT, WORD_SIZE, decimal, letter_of,
-    number_field, put, put_all, refusal_line, tenths_field,
+    CUSUM_SIZE, LARGEST_INPUT, NUMBER_DIGITS, Page, UnitLines, WORD_SIZE, letter_of, print_answer,
+    print_refusal,
 };
 
 // The longest line of a unit, which has one byte behind each field; bytes enough for the lines of the most units.
@@ -26,55 +27,48 @@ fn met_letter(met: u8) -> u8
     letter_of(b"f", b'm', met)
 }
 
-// m or f and the CuSum of unit j, and the newline.
-fn result_fields(results: &[u8], j: usize, out: &mut [u8], at: usize) -> usize
-    requires { (result_size * j + result_size ≤ length results.now) × (at + length (rest_of_line (result_fields results.now j)) ≤ length out.old) }
-    ensures { Wrote out.old at (rest_of_line (result_fields results.now j)) out.new result }
-{
-    let record = RESULT_SIZE * j;
-    let letter = [b' ', met_letter(results[record + MET_OFFSET])];
-    let after_letter = put_all(out, at, &letter);
-    let after_cusum = tenths_field(results, record + CUSUM_OFFSET, out, after_letter);
-    put(out, after_cusum, b'\n')
+// The lines of a mold sheet and its result buffer's records.
+#[derive(Drop)]
+struct MoldLines<'a> {
+    sheet: &'a [u8],
+    results: &'a [u8],
 }
 
-// The line of unit j, the first being 0.
-fn unit_line(sheet: &[u8], results: &[u8], j: usize, out: &mut [u8], at: usize) -> usize
-    requires { (offset j + unit_size ≤ length sheet.now) × (result_size * j + result_size ≤ length results.now) × (at + length (mold_line_of sheet.now results.now j) ≤ length out.old) }
-    ensures { Wrote out.old at (mold_line_of sheet.now results.now j) out.new result }
-{
-    let code = mold_unit_at(sheet, OPENING_SIZE + UNIT_SIZE * j).code;
-    let after_number = decimal(out, at, j + 1);
-    let after_code = number_field(out, after_number, code as usize);
-    result_fields(results, j, out, after_code)
-}
+impl UnitLines for MoldLines<'_> {
+    ghost HasUnit = { λ lines unit. (offset unit + unit_size ≤ length lines.sheet.now) × (result_size * unit + result_size ≤ length lines.results.now) };
 
-// A line for each of the units of a sheet that a result buffer has records of.
-fn unit_lines(sheet: &[u8], results: &[u8], units: usize, out: &mut [u8]) -> usize
-    requires { (offset units ≤ length sheet.now) × (result_size * units ≤ length results.now) × (mold_line_size * units ≤ length out.old) }
-    ensures { Wrote out.old 0 (lines_by (mold_line_of sheet.now results.now) units) out.new result }
-{
-    let mut end: usize = 0;
-    let mut j: usize = 0;
-    while j < units {
-        end = unit_line(sheet, results, j, out, end);
-        j += 1;
+    ghost line = { λ lines. mold_line_of lines.sheet.now lines.results.now };
+
+    ghost line_size = { mold_line_size };
+
+    #[tactic(auto, using(text::proofs::Decimals::length_word, text::proofs::Decimals::length_number, text::proofs::Decimals::length_cusum))]
+    fn unit_line(&self, unit: usize, page: &mut Page) {
+        let code = mold_unit_at(self.sheet, OPENING_SIZE + UNIT_SIZE * unit).code;
+        let record = RESULT_SIZE * unit;
+        let met = met_letter(self.results[record + MET_OFFSET]);
+        let tenths = number_at(self.results, record + CUSUM_OFFSET);
+        page.decimal(unit + 1);
+        page.number_field(code as usize);
+        page.bytes(&[b' ', met]);
+        page.tenths_field(tenths);
+        page.byte(b'\n');
     }
-    end
 }
 
 // What is printed for an input: the lines of the mold sheet that it is, or the refusal. It stands first in the text; the answer is its
 // size.
+#[tactic(auto, using(text::proofs::Printed::too_much))]
 pub fn print_mold_into(input: &[u8], text: &mut [u8; MOLD_TEXT_SIZE]) -> usize
     ensures { ◌≡◌ {A = Printing} (record { size = result; text = text.new }) (mold_printing input.now text.old) }
 {
     if LARGEST_INPUT < input.len() {
-        return refusal_line(TOO_MUCH_INPUT, LARGEST_INPUT, text);
+        return print_refusal(Ground::TooMuchInput.number(), LARGEST_INPUT, text);
     }
     let mut results = [0u8; RESULT_SIZE * MOST_UNITS];
     let answer = mold::grade_mold(input, &mut results);
-    if answer.number == 0 {
-        return unit_lines(input, &results, answer.units, text);
-    }
-    refusal_line(answer.number, answer.offset, text)
+    let lines = MoldLines {
+        sheet: input,
+        results: &results,
+    };
+    print_answer(answer, &lines, text)
 }

@@ -1,6 +1,8 @@
 -- What a grading comes to: the answer, and the result buffer as it is left.
-use Rattle.std.specs.Prelude.{ℕ, ◌≡◌, List}
+use Rattle.std.specs.Prelude.{ℕ, ◌≡◌, List, Result, Ok, Err}
 use Rattle.outcome.specs.declared.Answer.{Answer}
+use Rattle.outcome.specs.declared.Refusal.{Refusal}
+use Rattle.outcome.specs.Grounds.{number_of}
 
 pub record Outcome : Type 0 where
   pub answer : Answer
@@ -13,6 +15,11 @@ accepted_as units offset = record { number = 0; units = units; offset = offset }
 -- a refusal returns its number, no units and an offset
 abbrev pub refused_as : ℕ → ℕ → Answer
 refused_as number offset = record { number = number; units = 0; offset = offset }
+
+-- what a grading of a sheet of this length answers: its units, or the refusal
+abbrev pub answered : ℕ → Result ℕ Refusal → Answer
+answered length (Ok units) = accepted_as units length
+answered length (Err refusal) = refused_as (number_of refusal.cause) refusal.offset
 
 -- and the buffer keeps every byte
 abbrev pub refusal : ℕ → ℕ → List ℕ → Outcome

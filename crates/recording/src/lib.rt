@@ -11,38 +11,40 @@ ghost use Rattle.recording.specs.Recovering.{recovered_in, ThreeHere, three_reco
 use codes::UNGRADED;
 use layout::{Place, UNIT_SIZE, sample_unit_at};
 use results::{PORTION_GRADE_OFFSET, RESULT_SIZE, ResultRecord, STANDING_OFFSET};
-use rules::{RECOVERED, State};
+use rules::{Standing, State};
 use units::{Grading, SampleUnit, worse_of};
 
 // What is recorded of a unit that is not recovered, but for its code grade.
+#[tactic(auto, unfolding(crate::specs::Sheet::result_with, units::specs::Unit::portion_grade_of))]
 pub fn result_of(state: State, unit: SampleUnit, grading: Grading) -> ResultRecord
     ensures { result ≡ result_with state unit grading false }
 {
-    let phase = state.phase;
     let cusums = grading.cusums;
     let overshoots = grading.overshoots;
     ResultRecord {
         code: unit.code,
         portion: worse_of(grading.grade, unit.prerequisite),
         plan: state.in_force(),
-        standing: phase.standing(grading.fails, false),
-        cusums: cusums,
-        overshoots: overshoots,
+        standing: state.phase.standing(grading.fails, false).code(),
+        cusums,
+        overshoots,
     }
 }
 
 // Recovers the portion of a unit, if it is marked recoverable, in its result record.
+#[tactic(auto, unfolding(crate::specs::Recovering::recovered_in, units::specs::Conditions::pick))]
 fn recover(unit: SampleUnit, designated: u8, results: &mut [u8], start: usize)
     requires { start + result_size ≤ length results.old }
     ensures { results.new ≡ recovered_in results.old start designated unit }
 {
     if unit.recoverable {
         results[start + PORTION_GRADE_OFFSET] = worse_of(designated, unit.prerequisite);
-        results[start + STANDING_OFFSET] = RECOVERED;
+        results[start + STANDING_OFFSET] = Standing::Recovered.code();
     }
 }
 
 // Recovers the unit at a place, at which step 3 ends, and the two right before it.
+#[tactic(auto, unfolding(crate::specs::Recovering::three_recovered))]
 pub fn recover_three(bytes: &[u8], place: Place, designated: u8, results: &mut [u8])
     requires { ThreeHere bytes.now place (length results.old) }
     ensures { results.new ≡ three_recovered bytes.now place designated results.old }

@@ -13,8 +13,7 @@ use Rattle.units.specs.Conditions.{pick}
 use Rattle.layout.specs.Layout.{plan_of, units_before}
 use Rattle.layout.proofs.Units.{units_among_holds}
 use Rattle.sheet.specs.Refusals.{verdict}
-use Rattle.sheet.specs.declared.Verdict.{Verdict}
-use Rattle.sheet.specs.declared.Verdict.TheVariants.{Accepted, Refused}
+use Rattle.sheet.specs.Verdict.{Verdict, Accepted, Refused}
 use Rattle.sheet.proofs.Accepted.{Facts, facts, refusal_number}
 use Rattle.results.specs.Record.{result_size}
 use Rattle.results.proofs.Written.{length_written}

@@ -7,8 +7,7 @@ use Rattle.units.specs.declared.Plan.{Plan}
 use Rattle.rules.specs.Sheet.{Sheet}
 use Rattle.layout.specs.Layout.{plan_size, plan_of, entry_at}
 use Rattle.sheet.specs.Refusals.{plan_refusal, verdict, answer_of}
-use Rattle.sheet.specs.declared.Verdict.{Verdict}
-use Rattle.sheet.specs.declared.Verdict.TheVariants.{Accepted, Refused}
+use Rattle.sheet.specs.Verdict.{Verdict, Accepted, Refused}
 use Rattle.results.specs.Record.{result_size}
 use Rattle.results.specs.Written.{written}
 use Rattle.outcome.specs.Outcome.{Outcome, refusal}

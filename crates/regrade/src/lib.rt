@@ -4,32 +4,34 @@
 
 ghost use Rattle.std.specs.Prelude.{◌≡◌, ◌++◌, ◌*◌, length, drop};
 ghost use Rattle.layout.specs.Layout.{entry_at, units_before};
-ghost use Rattle.sheet.specs.Refusals.{verdict};
-ghost use Rattle.sheet.specs.declared.Verdict.TheVariants.{Accepted};
 ghost use Rattle.results.specs.Record.{result_size};
 ghost use Rattle.results.specs.Written.{written};
 ghost use Rattle.codes.specs.Codes.{ungraded};
-ghost use Rattle.outcome.specs.Outcome.{Outcome};
+ghost use Rattle.sheet.specs.Refusals.{refused_if};
+ghost use Rattle.outcome.specs.Grounds.{refusal_number};
+ghost use Rattle.outcome.specs.Outcome.{Outcome, answered};
 ghost use Rattle.regrade.specs.Regrading.{regraded_result};
-ghost use Rattle.regrade.specs.Outcome.{sheet_under, second_plan_wrong, regrade_by, regrade_outcome};
+ghost use Rattle.regrade.specs.Outcome.{sheet_under, second_plan_wrong, regrade_outcome};
 ghost use Rattle.regrade.specs.Regradable.{Regradable};
 
 use codes::grade_codes;
 use layout::{PLAN_SIZE, plan_of};
-use outcome::{Answer, refused_as};
+use outcome::{Answer, Ground, Refusal};
 use results::RESULT_SIZE;
-use sheet::{Verdict, check, plan_refusal};
+use sheet::{check, check_plan};
+use single_plan::CheckedSheet;
 use units::Plan;
 use writing::write_again;
 
-// Whether the second plan is not exactly one plan record free of 2 to 5.
-fn second_plan_wrong(plan: &[u8]) -> bool
-    ensures { result ≡ second_plan_wrong plan.now }
+// The second plan: exactly one plan record free of 2 to 5.
+#[tactic(auto, using(std::proofs::lemmas::Bool::Decides::nat_tests), unfolding(crate::specs::Outcome::second_plan_wrong, sheet::specs::Refusals::refused_if))]
+fn check_second_plan(plan: &[u8]) -> Result<(), Ground>
+    ensures { refusal_number result ≡ refused_if (second_plan_wrong plan.now) 18 0 }
 {
-    if plan.len() != PLAN_SIZE {
-        return true;
+    if plan.len() != PLAN_SIZE || check_plan(plan).is_err() {
+        return Err(Ground::BadSecondPlan);
     }
-    plan_refusal(plan) != 0
+    Ok(())
 }
 
 // Writes the result records of a sheet under this plan, no code graded yet: every record is passed, from the opening on, where every class
@@ -38,34 +40,28 @@ fn write_regraded(bytes: &[u8], records: usize, plan: Plan, results: &mut [u8])
     requires { Regradable bytes.now records plan (length results.old) }
     ensures { results.new ≡ written (regraded_result (sheet_under bytes.now plan records)) (λ code. ungraded) (entry_at bytes.now) records ++ drop (result_size * units_before bytes.now records) results.old }
 {
-    write_again(bytes, records, plan.table(), plan.designated, results);
+    let table = plan.table();
+    let sheet = CheckedSheet {
+        bytes,
+        records,
+        table: &table,
+    };
+    write_again(&sheet, plan.designated, results);
 }
 
-// Regrades a sheet that passes refusals 1 to 12.
-fn regrade_accepted(
-    bytes: &[u8],
-    plan: &[u8],
-    results: &mut [u8],
-    records: usize,
-    units: usize,
-) -> Answer
-    requires { verdict bytes.now ≡ Accepted records units }
-    ensures { ◌≡◌ {A = Outcome} (record { answer = result; buffer = results.new }) (regrade_by bytes.now plan.now results.old (Accepted records units)) }
+// The units of a sheet that is graded again into a result buffer, or the refusal. Beside the grading of a sheet by its own plan: what is
+// left to share are the calls.
+fn regraded(bytes: &[u8], plan: &[u8], results: &mut [u8]) -> Result<usize, Refusal>
+    ensures { ◌≡◌ {A = Outcome} (record { answer = answered (length bytes.now) result; buffer = results.new }) (regrade_outcome bytes.now plan.now results.old) }
 {
-    if second_plan_wrong(plan) {
-        return refused_as(18, 0);
+    let checked = check(bytes)?;
+    check_second_plan(plan).map_err(|cause| cause.at(0))?;
+    if results.len() < RESULT_SIZE * checked.units {
+        return Err(Ground::ResultBufferTooShort.at(bytes.len()));
     }
-    if results.len() < RESULT_SIZE * units {
-        return refused_as(13, bytes.len());
-    }
-    let second = plan_of(plan);
-    write_regraded(bytes, records, second, results);
-    grade_codes(results, units);
-    Answer {
-        number: 0,
-        units: units,
-        offset: bytes.len(),
-    }
+    write_regraded(bytes, checked.records, plan_of(plan), results);
+    grade_codes(&mut results[..RESULT_SIZE * checked.units]);
+    Ok(checked.units)
 }
 
 // Grades a recorded sheet again under a second plan record, into a result buffer. Every sheet is accepted or refused by a listed number with
@@ -73,10 +69,5 @@ fn regrade_accepted(
 pub fn regrade(sheet: &[u8], plan: &[u8], results: &mut [u8]) -> Answer
     ensures { ◌≡◌ {A = Outcome} (record { answer = result; buffer = results.new }) (regrade_outcome sheet.now plan.now results.old) }
 {
-    match check(sheet) {
-        Verdict::Accepted { records, units } => {
-            regrade_accepted(sheet, plan, results, records, units)
-        }
-        Verdict::Refused { number, offset } => refused_as(number as u32, offset),
-    }
+    Answer::of(regraded(sheet, plan, results), sheet.len())
 }

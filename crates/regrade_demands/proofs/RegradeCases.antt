@@ -6,8 +6,7 @@ use mathlib.Core.Bool.{Bool, true, false}
 use mathlib.Core.List.{List}
 use Rattle.units.specs.Conditions.{pick}
 use Rattle.sheet.specs.Refusals.{verdict}
-use Rattle.sheet.specs.declared.Verdict.{Verdict}
-use Rattle.sheet.specs.declared.Verdict.TheVariants.{Accepted, Refused}
+use Rattle.sheet.specs.Verdict.{Verdict, Accepted, Refused}
 use Rattle.sheet.proofs.Accepted.{Facts, facts}
 use Rattle.outcome.specs.declared.Answer.{Answer}
 use Rattle.outcome.specs.Outcome.{Outcome, refused_as, refusal}

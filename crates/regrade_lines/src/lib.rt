@@ -5,16 +5,18 @@ ghost use Rattle.std.specs.Prelude.{◌≡◌};
 ghost use Rattle.text.specs.Text.{Printing};
 ghost use Rattle.regrade_lines.specs.RegradeLines.{regrade_printing};
 
-use lines::{RESULTS_SIZE, TEXT_SIZE, print_answer, print_refusal};
-use text::{LARGEST_INPUT, TOO_MUCH_INPUT};
+use lines::{RESULTS_SIZE, TEXT_SIZE, print_answer};
+use outcome::Ground;
+use text::{LARGEST_INPUT, print_refusal};
 
 // What is printed for a sheet that is graded again under a second plan: the lines of its units, or the refusal. It stands first in the text;
 // the answer is its size.
+#[tactic(auto, using(text::proofs::Printed::too_much))]
 pub fn print_regrading_into(sheet: &[u8], plan: &[u8], text: &mut [u8; TEXT_SIZE]) -> usize
     ensures { ◌≡◌ {A = Printing} (record { size = result; text = text.new }) (regrade_printing sheet.now plan.now text.old) }
 {
     if LARGEST_INPUT < sheet.len() {
-        return print_refusal(TOO_MUCH_INPUT, LARGEST_INPUT, text);
+        return print_refusal(Ground::TooMuchInput.number(), LARGEST_INPUT, text);
     }
     let mut results = [0u8; RESULTS_SIZE];
     let answer = regrade::regrade(sheet, plan, &mut results);

@@ -1,13 +1,8 @@
 -- In step 3 a unit that fails does not qualify, on a sheet whose S is nowhere above its L and whose T is nowhere smaller at a lower
 -- grade. Two facts carry through every record: a CuSum is at most the L of the plan in force, and the designated grade is no worse than
 -- that of the plan in force.
-use Prim.Native.Nat.{ℕ, zero, suc, ◌≤◌, ◌<◌}
-use mathlib.Core.Path.{◌≡◌, refl, sym, ◌∙◌, ap, subst⁻¹}
-use mathlib.Core.Bool.{Bool, true, false, ◌&&◌}
-use mathlib.Core.List.{List}
-use native.Mathlib.Omega.{arith}
-use lib.ListN.{length}
-use borrow.Author.Tests.{ltb-true}
+use Rattle.std.proofs.Common.{ℕ, zero, suc, ◌≤◌, ◌<◌, ◌≡◌, refl, sym, ◌∙◌, ap, Bool, true, false, ◌&&◌, List, arith, length, ltb-true, Option, None, Some}
+use mathlib.Core.Path.{subst⁻¹}
 use Rattle.cusum.specs.declared.Cusum.{Cusum}
 use Rattle.units.specs.Words.{substandard, has_plan, classes, Table, row_of, numbers_of, tenths_of, tenths_in}
 use Rattle.units.specs.Unit.{starting, unit_fails, defect_grade}
@@ -20,8 +15,6 @@ use Rattle.units.proofs.Failing as failing
 use Rattle.units.proofs.Tests.{and_both, and_false}
 use Rattle.rules.specs.StepThree.{in_step_three, in_force_in, in_force, worse_of_two, without_run, restarted, graded, qualifies_with, qualifies_in, after_break, next}
 use Rattle.rules.specs.Sheet.{Sheet, before, in_force_at, graded_at, qualifies_at}
-use Rattle.rules.specs.declared.Previous.{Previous}
-use Rattle.rules.specs.declared.Previous.TheVariants.{NoFailure, Failure}
 use Rattle.rules.specs.declared.Phase.{Phase}
 use Rattle.rules.specs.declared.Phase.TheVariants.{Designated, StepThree}
 use Rattle.rules.specs.declared.State.{State}
@@ -86,10 +79,10 @@ grade_at_least table state unit = go (unit_fails table (in_force state) state.cu
     go false e = unfold defect_grade in rw e (omega arith)
 
 -- nor is the worse of two defect grades better than the second
-pub worse_at_least : (previous : Previous) (grade : ℕ) → grade ≤ worse_of_two previous grade
+pub worse_at_least : (previous : Option ℕ) (grade : ℕ) → grade ≤ worse_of_two previous grade
 unfolding worse_of_two
-worse_at_least NoFailure grade = omega arith
-worse_at_least (Failure earlier) grade = omega arith
+worse_at_least None grade = omega arith
+worse_at_least (Some earlier) grade = omega arith
 
 abbrev NoWorse : State → Type 0
 NoWorse state = state.designated ≤ in_force state

@@ -1,11 +1,7 @@
 -- When step 3 ends at a record, that record and the two right before it are sample units in step 3 that qualify: the finished run.
 -- The run counts back record by record, since every record that is no qualifying unit sets it to none.
-use Prim.Native.Nat.{ℕ, zero, suc, ◌+◌, ◌≤◌, ◌<◌}
-use mathlib.Core.Path.{◌≡◌, refl, sym, ◌∙◌, ap}
-use mathlib.Core.Bool.{Bool, true, false, ◌||◌, false≢true}
-use native.Mathlib.Omega.{arith}
-use lib.Dec.{leb}
-use borrow.Author.Tests.{leb-true, leb-false}
+use Rattle.std.proofs.Common.{ℕ, zero, suc, ◌+◌, ◌≤◌, ◌<◌, ◌≡◌, refl, sym, ◌∙◌, ap, Bool, true, false, ◌||◌, arith, leb, leb-true, leb-false}
+use Rattle.std.proofs.lemmas.Bool.{or_left, or_right}
 use Rattle.units.specs.Words.{Table}
 use Rattle.units.specs.declared.SampleUnit.{SampleUnit}
 use Rattle.units.specs.declared.Entry.{Entry}
@@ -35,20 +31,19 @@ pub record Qualifying (table : Table) (state : State) (entry : Entry) (designate
 -- a run of one or more is neither outside step 3 nor a run of none
 no_run : (phase : Phase) (lower run : ℕ) → without_run phase ≡ StepThree lower (suc run) → ⊥
 unfolding without_run
-no_run Designated lower run e = let z : ◌≡◌ {A = ℕ} 0 1 = cc in omega arith
-no_run (StepThree lower' run') lower run e = let z : ◌≡◌ {A = ℕ} 0 (suc run) = cc in omega arith
+no_run Designated lower run e = cc
+no_run (StepThree lower' run') lower run e = cc
 
 -- it comes from a qualifying unit, after one less
 run_back : (phase : Phase) (qualifies : Bool) (lower run : ℕ) → ends_step_three phase qualifies ≡ false
     → with_unit phase qualifies ≡ StepThree lower (suc run)
     → (qualifies ≡ true) × (phase ≡ StepThree lower run) × (run < 2)
 unfolding ends_step_three with_unit
-run_back Designated qualifies lower run going_on e = let z : ◌≡◌ {A = ℕ} 0 1 = cc in absurd (omega arith)
-run_back (StepThree lower' run') false lower run going_on e = let z : ◌≡◌ {A = ℕ} 0 (suc run) = cc in absurd (omega arith)
+run_back Designated qualifies lower run going_on e = cc
+run_back (StepThree lower' run') false lower run going_on e = cc
 run_back (StepThree lower' run') true lower run going_on e =
     let more : run' + 1 ≡ suc run = cc in
     let same_run : run' ≡ run = omega arith in
-    let same_lower : lower' ≡ lower = cc in
     (refl, cc, omega (arith, leb-false 2 run' going_on))
 
 module _ (table : Table) (state : State) where
@@ -109,8 +104,7 @@ module _ (sheet : Sheet) where
       → (j : ℕ) × (i ≡ suc j) × Qualifying sheet.table (before sheet j) (sheet.entry j) designated lower run × (run < 2)
   unfolding before restarted
   back zero designated lower run inside =
-      let phase : Designated ≡ StepThree lower (suc run) = inside.same_phase in
-      let z : ◌≡◌ {A = ℕ} 0 1 = cc in absurd (omega arith)
+      let phase : Designated ≡ StepThree lower (suc run) = inside.same_phase in absurd cc
   back (suc j) designated lower run inside =
       let (qualifying, below_two) = one_back sheet.table (before sheet j) (sheet.entry j) designated lower run inside in
       (j, refl, qualifying, below_two)
@@ -119,8 +113,8 @@ module _ (sheet : Sheet) where
   ends_after : (phase : Phase) (qualifies : Bool) → ends_step_three phase qualifies ≡ true
       → (lower : ℕ) × (run : ℕ) × (phase ≡ StepThree lower run) × (2 ≤ run) × (qualifies ≡ true)
   unfolding ends_step_three
-  ends_after Designated qualifies ends = absurd (false≢true ends)
-  ends_after (StepThree lower run) false ends = absurd (false≢true ends)
+  ends_after Designated qualifies ends = cc
+  ends_after (StepThree lower run) false ends = cc
   ends_after (StepThree lower run) true ends = (lower, run, refl, leb-true 2 run ends, refl)
 
   ends_unit : (state : State) (entry : Entry) → record_ends_step_three sheet.table state entry ≡ true
@@ -187,29 +181,21 @@ module _ (sheet : Sheet) (i : ℕ) where
       go true e b f c g h = run_at i e (omega arith) (omega arith)
       go false e true f c g h = run_at (i + 1) f (omega arith) (omega arith)
       go false e false f true g h = run_at (i + 2) g (omega arith) (omega arith)
-      go false e false f false g h = absurd (false≢true h)
+      go false e false f false g h = cc
 
   -- and every record of a finished run is at one of the three
   pub run_in : InRun sheet i → in_finished_run sheet i ≡ true
   unfolding in_finished_run
   run_in r = go (leb r.last i) refl (leb r.last (i + 1)) refl
     where
-      true_or : (a b : Bool) → a ≡ true → (a || b) ≡ true
-      true_or true b e = refl
-      true_or false b e = absurd (false≢true e)
-
-      or_true : (a b : Bool) → b ≡ true → (a || b) ≡ true
-      or_true true b e = refl
-      or_true false b e = e
-
       go : (s : Bool) → leb r.last i ≡ s → (t : Bool) → leb r.last (i + 1) ≡ t
           → (step_three_ends_at sheet i || (step_three_ends_at sheet (i + 1) || step_three_ends_at sheet (i + 2))) ≡ true
       go true p t q =
           let e : r.last ≡ i = omega (arith, leb-true r.last i p, r.to) in
-          true_or (step_three_ends_at sheet i) _ (sym (ap (step_three_ends_at sheet) e) ∙ r.ends)
+          or_left (step_three_ends_at sheet i) _ (sym (ap (step_three_ends_at sheet) e) ∙ r.ends)
       go false p true q =
           let e : r.last ≡ i + 1 = omega (arith, leb-false r.last i p, leb-true r.last (i + 1) q) in
-          or_true (step_three_ends_at sheet i) _ (true_or (step_three_ends_at sheet (i + 1)) _ (sym (ap (step_three_ends_at sheet) e) ∙ r.ends))
+          or_right (step_three_ends_at sheet i) _ (or_left (step_three_ends_at sheet (i + 1)) _ (sym (ap (step_three_ends_at sheet) e) ∙ r.ends))
       go false p false q =
           let e : r.last ≡ i + 2 = omega (arith, leb-false r.last (i + 1) q, r.run.ends_here, r.from) in
-          or_true (step_three_ends_at sheet i) _ (or_true (step_three_ends_at sheet (i + 1)) _ (sym (ap (step_three_ends_at sheet) e) ∙ r.ends))
+          or_right (step_three_ends_at sheet i) _ (or_right (step_three_ends_at sheet (i + 1)) _ (sym (ap (step_three_ends_at sheet) e) ∙ r.ends))

@@ -1,7 +1,5 @@
 -- What a unit of a sheet is graded with, class by class: the CuSum and the overshoot of a class among those of all.
-use Prim.Native.Nat.{ℕ, ◌<◌}
-use mathlib.Core.Path.{◌≡◌}
-use lib.ListN.{length}
+use Rattle.std.proofs.Common.{ℕ, ◌<◌, ◌≡◌, length}
 use Rattle.units.specs.Words.{classes, tenths_in, overshoot_for, tenths_of}
 use Rattle.units.specs.Unit.{class_cusum, new_cusums, class_overshoot, new_overshoots}
 use Rattle.units.specs.declared.SampleUnit.{SampleUnit}

@@ -1,10 +1,6 @@
 -- Every grade that is recorded is a grade, for designated grades that have a plan. The grades in a state are bounded by induction on
 -- the records.
-use Prim.Native.Nat.{ℕ, zero, suc, ◌≤◌}
-use mathlib.Core.Path.{◌≡◌, refl}
-use mathlib.Core.Bool.{Bool, true, false}
-use native.Mathlib.Omega.{arith}
-use lib.Dec.{eqb}
+use Rattle.std.proofs.Common.{ℕ, zero, suc, ◌≤◌, ◌≡◌, refl, Bool, true, false, arith, eqb, Option, None, Some, IfSome}
 use Rattle.units.specs.Words.{substandard, Table, tenths_of}
 use Rattle.units.specs.Unit.{portion_grade_of}
 use Rattle.units.specs.Records.{portion_grade_with, worst_before}
@@ -12,8 +8,6 @@ use Rattle.units.specs.declared.SampleUnit.{SampleUnit}
 use Rattle.units.specs.declared.Entry.{Entry}
 use Rattle.units.specs.declared.Entry.TheVariants.{UnitRecord, Redesignation, Break}
 use Rattle.units.proofs.Bounds.{choice_le, defect_grade_at_most}
-use Rattle.rules.specs.declared.Previous.{Previous}
-use Rattle.rules.specs.declared.Previous.TheVariants.{NoFailure, Failure}
 use Rattle.rules.specs.declared.Phase.{Phase}
 use Rattle.rules.specs.declared.Phase.TheVariants.{Designated, StepThree}
 use Rattle.rules.specs.declared.State.{State}
@@ -23,9 +17,8 @@ use Rattle.rules.proofs.Steps.{unit_by, redesignation_by}
 
 -- ---- the grades in a state
 
-unfoldable FailureBounded : Previous → Type 0
-FailureBounded NoFailure = Unit {0}
-FailureBounded (Failure grade) = grade ≤ substandard
+abbrev FailureBounded : Option ℕ → Type 0
+FailureBounded previous = IfSome previous (λ grade. grade ≤ substandard)
 
 unfoldable PhaseBounded : Phase → Type 0
 PhaseBounded Designated = Unit {0}
@@ -43,16 +36,16 @@ in_force_bounded designated (StepThree lower run) planned bounded = bounded
 
 restarted_bounded : (table : Table) (designated : ℕ) (phase : Phase) → designated ≤ 2 → PhaseBounded phase
     → Bounded (restarted table designated phase)
-unfolding restarted FailureBounded
+unfolding restarted
 restarted_bounded table designated phase planned bounded = record { designated = planned; previous = tt; phase = bounded }
 
-worse_bounded : (previous : Previous) (grade : ℕ) → FailureBounded previous → grade ≤ substandard → worse_of_two previous grade ≤ substandard
-unfolding FailureBounded worse_of_two
-worse_bounded NoFailure grade before here = here
-worse_bounded (Failure earlier) grade before here = omega arith
+worse_bounded : (previous : Option ℕ) (grade : ℕ) → FailureBounded previous → grade ≤ substandard → worse_of_two previous grade ≤ substandard
+unfolding worse_of_two
+worse_bounded None grade before here = here
+worse_bounded (Some earlier) grade before here = omega arith
 
 failure_bounded : (fails : Bool) (grade : ℕ) → grade ≤ substandard → FailureBounded (failure_after fails grade)
-unfolding FailureBounded failure_after
+unfolding failure_after
 failure_bounded true grade bounded = bounded
 failure_bounded false grade bounded = tt
 
@@ -94,7 +87,7 @@ module _ (table : Table) (state : State) (bounded : Bounded state) where
       })
 
   after_redesignation_holds : (new : ℕ) → new ≤ 2 → Bounded (after_redesignation table state new)
-  unfolding FailureBounded PhaseBounded
+  unfolding PhaseBounded
   after_redesignation_holds new planned =
       redesignation_by table state new Bounded
       (λ keeps. record { designated = planned; previous = tt; phase = without_run_bounded state.phase bounded.phase })

@@ -1,9 +1,6 @@
 -- What a unit, a redesignation or a break makes of a state, case by case of the definitions: each case by its tests.
-use Prim.Native.Nat.{ℕ}
-use mathlib.Core.Path.{◌≡◌, refl, sym, ◌∙◌, ap, subst⁻¹}
-use mathlib.Core.Bool.{Bool, true, false, ◌&&◌, false≢true}
-use mathlib.Core.List.{List}
-use lib.Dec.{ltb}
+use Rattle.std.proofs.Common.{ℕ, ◌≡◌, refl, ap, Bool, true, false, ◌&&◌, List, ltb, Option, None, Some, is_some}
+use mathlib.Core.Path.{subst⁻¹}
 use Rattle.cusum.specs.declared.Cusum.{Cusum}
 use Rattle.units.specs.Conditions.{pick}
 use Rattle.units.specs.Words.{Table}
@@ -12,14 +9,12 @@ use Rattle.units.specs.declared.Grading.{Grading}
 use Rattle.units.specs.declared.Entry.{Entry}
 use Rattle.units.specs.declared.Entry.TheVariants.{UnitRecord, Redesignation, Break}
 use Rattle.rules.specs.StepThree.{in_step_three, in_force_in, two_in_a_row, worse_of_two, failure_after, ends_step_three, with_unit, without_run, keeps_step_three, restarted, graded, qualifies_in, after_unit, after_redesignation, after_break, next}
-use Rattle.rules.specs.declared.Previous.{Previous}
-use Rattle.rules.specs.declared.Previous.TheVariants.{NoFailure, Failure}
 use Rattle.rules.specs.declared.Phase.{Phase}
 use Rattle.rules.specs.declared.Phase.TheVariants.{Designated, StepThree}
 use Rattle.rules.specs.declared.State.{State}
 
 -- a state by its parts, so that a law can go by cases of one of them
-abbrev pub state_of : ℕ → Previous → Phase → List Cusum → State
+abbrev pub state_of : ℕ → Option ℕ → Phase → List Cusum → State
 state_of designated previous phase cusums =
     record { designated = designated; previous = previous; phase = phase; cusums = cusums }
 
@@ -59,10 +54,10 @@ module _ (table : Table) (state : State) (grading : Grading) (qualifies : Bool) 
       go false e true two = subst⁻¹ P (unit_starts_lower e two) (starts e two)
       go false e false two = subst⁻¹ P (unit_passes e two) (passes e two)
 
-two_needs_failure : (previous : Previous) → two_in_a_row previous false ≡ false
+two_needs_failure : (previous : Option ℕ) → two_in_a_row previous false ≡ false
 unfolding two_in_a_row
-two_needs_failure NoFailure = refl
-two_needs_failure (Failure grade) = refl
+two_needs_failure None = refl
+two_needs_failure (Some grade) = refl
 
 -- one that meets the designated plan leaves it in force
 pub stays_designated : (table : Table) (state : State) (grading : Grading) (qualifies : Bool) → state.phase ≡ Designated → grading.fails ≡ false
@@ -71,14 +66,14 @@ unfolding restarted with_unit
 stays_designated table state grading qualifies outside meets =
     unit_by table state grading qualifies (λ (behind : State). behind.phase ≡ Designated)
     (λ ends. refl)
-    (λ ends two. absurd (false≢true (sym (two_needs_failure state.previous) ∙ ap (two_in_a_row state.previous) (sym meets) ∙ two)))
+    (λ ends two. cc (two_needs_failure state.previous))
     (λ ends one. ap (λ (phase : Phase). with_unit phase qualifies) outside)
 
 -- ---- a redesignation
 
 module _ (table : Table) (state : State) (new : ℕ) where
   pub redesignation_keeps : keeps_step_three state.phase new ≡ true
-      → after_redesignation table state new ≡ state_of new NoFailure (without_run state.phase) state.cusums
+      → after_redesignation table state new ≡ state_of new None (without_run state.phase) state.cusums
   unfolding after_redesignation pick
   redesignation_keeps keeps = rw keeps
 
@@ -88,7 +83,7 @@ module _ (table : Table) (state : State) (new : ℕ) where
 
   -- what holds in both cases
   pub redesignation_by : (P : State → Type 0)
-      → (keeps_step_three state.phase new ≡ true → P (state_of new NoFailure (without_run state.phase) state.cusums))
+      → (keeps_step_three state.phase new ≡ true → P (state_of new None (without_run state.phase) state.cusums))
       → (keeps_step_three state.phase new ≡ false → P (restarted table new Designated)) → P (after_redesignation table state new)
   redesignation_by P keeps restarts = go (keeps_step_three state.phase new) refl
     where
@@ -98,17 +93,14 @@ module _ (table : Table) (state : State) (new : ℕ) where
 
 -- ---- the parts of a state
 
-unfoldable pub is_failure : Previous → Bool
-is_failure NoFailure = false
-is_failure (Failure grade) = true
+-- two in a row, and a failure remembered
+pub two_in_a_row_is : (previous : Option ℕ) (fails : Bool) → two_in_a_row previous fails ≡ (is_some previous && fails)
+unfolding two_in_a_row
+two_in_a_row_is None fails = refl
+two_in_a_row_is (Some grade) fails = refl
 
-pub two_in_a_row_is : (previous : Previous) (fails : Bool) → two_in_a_row previous fails ≡ (is_failure previous && fails)
-unfolding two_in_a_row is_failure
-two_in_a_row_is NoFailure fails = refl
-two_in_a_row_is (Failure grade) fails = refl
-
-pub failure_is : (fails : Bool) (grade : ℕ) → is_failure (failure_after fails grade) ≡ fails
-unfolding is_failure failure_after
+pub failure_is : (fails : Bool) (grade : ℕ) → is_some (failure_after fails grade) ≡ fails
+unfolding failure_after
 failure_is true grade = refl
 failure_is false grade = refl
 
@@ -143,20 +135,20 @@ keeps_is designated (StepThree lower run) new = refl
 -- one that does keeps its lower grade
 pub kept_in_force : (phase : Phase) (designated new : ℕ) → keeps_step_three phase new ≡ true → in_force_in new (without_run phase) ≡ in_force_in designated phase
 unfolding keeps_step_three in_force_in without_run
-kept_in_force Designated designated new keeps = absurd (false≢true keeps)
+kept_in_force Designated designated new keeps = cc
 kept_in_force (StepThree lower run) designated new keeps = refl
 
 -- outside step 3 the plan in force is the designated one
 pub in_force_outside : (designated : ℕ) (phase : Phase) → in_step_three phase ≡ false → in_force_in designated phase ≡ designated
 unfolding in_step_three in_force_in
 in_force_outside designated Designated out = refl
-in_force_outside designated (StepThree lower run) out = absurd (false≢true (sym out))
+in_force_outside designated (StepThree lower run) out = cc
 
 -- and nothing ends step 3
 pub ends_none : (phase : Phase) (qualifies : Bool) → in_step_three phase ≡ false → ends_step_three phase qualifies ≡ false
 unfolding in_step_three ends_step_three
 ends_none Designated qualifies out = refl
-ends_none (StepThree lower run) qualifies out = absurd (false≢true (sym out))
+ends_none (StepThree lower run) qualifies out = cc
 
 -- nor does a unit that does not qualify
 pub ends_qualifying : (phase : Phase) → ends_step_three phase false ≡ false

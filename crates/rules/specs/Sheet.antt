@@ -9,6 +9,8 @@ use Rattle.units.specs.declared.Entry.{Entry}
 use Rattle.rules.specs.StepThree.{in_force, opening, graded, qualifies_in, record_ends_step_three, next}
 use Rattle.rules.specs.declared.Phase.{Phase}
 use Rattle.rules.specs.declared.Phase.TheVariants.{Designated, StepThree}
+use Rattle.rules.specs.declared.Standing.{Standing}
+use Rattle.rules.specs.declared.Standing.TheVariants.{Met, Failed, InStepThree, Recovered}
 use Rattle.rules.specs.declared.State.{State}
 
 -- the plan's table, the grade designated at the opening, the records after the plan from number 0 on, and how many there are.
@@ -25,6 +27,13 @@ unfoldable pub standing_of : Phase → Bool → Bool → ℕ
 standing_of phase fails true = 3
 standing_of Designated fails false = cond fails 1 0
 standing_of (StepThree lower run) fails false = 2
+
+-- by its code
+abbrev pub standing_code : Standing → ℕ
+standing_code Met = 0
+standing_code Failed = 1
+standing_code InStepThree = 2
+standing_code Recovered = 3
 
 module _ (sheet : Sheet) where
   -- the state before record i

@@ -1,5 +1,5 @@
 -- Step 3, redesignations and breaks: the state of the grading before a record, and what the record makes of it.
-use Rattle.std.specs.Prelude.{ℕ, ◌+◌, Bool, true, false, cond, ◌&&◌, ltb, leb}
+use Rattle.std.specs.Prelude.{ℕ, ◌+◌, Bool, true, false, cond, ◌&&◌, ltb, leb, Option, None, Some}
 use Rattle.units.specs.Conditions.{pick}
 use Rattle.units.specs.Words.{worse, Table, row_of, tenths_of}
 use Rattle.units.specs.Unit.{starting, grading_of, qualifies}
@@ -8,8 +8,6 @@ use Rattle.units.specs.declared.SampleUnit.{SampleUnit}
 use Rattle.units.specs.declared.Grading.{Grading}
 use Rattle.units.specs.declared.Entry.{Entry}
 use Rattle.units.specs.declared.Entry.TheVariants.{UnitRecord, Redesignation, Break}
-use Rattle.rules.specs.declared.Previous.{Previous}
-use Rattle.rules.specs.declared.Previous.TheVariants.{NoFailure, Failure}
 use Rattle.rules.specs.declared.Phase.{Phase}
 use Rattle.rules.specs.declared.Phase.TheVariants.{Designated, StepThree}
 use Rattle.rules.specs.declared.State.{State}
@@ -30,20 +28,20 @@ in_force state = in_force_in state.designated state.phase
 
 -- ---- two failures in a row
 
--- a unit fails right behind one that failed
-unfoldable pub two_in_a_row : Previous → Bool → Bool
-two_in_a_row NoFailure fails = false
-two_in_a_row (Failure earlier) fails = fails
+-- a unit fails right behind one that failed, whose defect grade is given
+unfoldable pub two_in_a_row : Option ℕ → Bool → Bool
+two_in_a_row None fails = false
+two_in_a_row (Some earlier) fails = fails
 
 -- the worse of the two defect grades
-unfoldable pub worse_of_two : Previous → ℕ → ℕ
-worse_of_two NoFailure grade = grade
-worse_of_two (Failure earlier) grade = worse earlier grade
+unfoldable pub worse_of_two : Option ℕ → ℕ → ℕ
+worse_of_two None grade = grade
+worse_of_two (Some earlier) grade = worse earlier grade
 
 -- what the next unit finds just before it: a unit that failed the plan in force, and its defect grade; one that meets leaves no failure
-unfoldable pub failure_after : Bool → ℕ → Previous
-failure_after true grade = Failure grade
-failure_after false grade = NoFailure
+unfoldable pub failure_after : Bool → ℕ → Option ℕ
+failure_after true grade = Some grade
+failure_after false grade = None
 
 -- ---- the run of qualifying units
 
@@ -75,7 +73,7 @@ module _ (table : Table) where
   -- every class of the plan then in force at its S, and a failure just before forgotten
   unfoldable pub restarted : ℕ → Phase → State
   restarted designated phase =
-      record { designated = designated; previous = NoFailure; phase = phase; cusums = starting (row_of table (in_force_in designated phase)) }
+      record { designated = designated; previous = None; phase = phase; cusums = starting (row_of table (in_force_in designated phase)) }
 
   -- at the opening of the sheet the designated plan is in force, every class at its S
   abbrev pub opening : ℕ → State
@@ -113,7 +111,7 @@ module _ (table : Table) where
   unfoldable pub after_redesignation : State → ℕ → State
   after_redesignation state new =
       pick (keeps_step_three state.phase new)
-      (record { designated = new; previous = NoFailure; phase = without_run state.phase; cusums = state.cusums })
+      (record { designated = new; previous = None; phase = without_run state.phase; cusums = state.cusums })
       (restarted new Designated)
 
   -- a break sets the CuSums of the plan in force to S, forgets a failure just before and sets that run to none; it does not end step 3

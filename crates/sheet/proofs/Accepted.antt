@@ -12,8 +12,7 @@ use borrow.Author.Tests.{eqb-true, eqb-false}
 use Rattle.units.specs.Conditions.{pick}
 use Rattle.layout.specs.Layout.{size_of, offset, mark, units_before}
 use Rattle.sheet.specs.Refusals.{plan_refusal, record_refusal, check_from, verdict}
-use Rattle.sheet.specs.declared.Verdict.{Verdict}
-use Rattle.sheet.specs.declared.Verdict.TheVariants.{Accepted, Refused}
+use Rattle.sheet.specs.Verdict.{Verdict, Accepted, Refused}
 use Rattle.layout.proofs.Offsets.{offset_lt, offset_ge}
 use Rattle.sheet.proofs.LeftToRight.{Stops, check_says}
 use Rattle.sheet.proofs.Grounds.{plan_whole, whole_record}

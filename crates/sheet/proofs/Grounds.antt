@@ -4,6 +4,7 @@ use Prim.Native.Nat.{ℕ, ◌+◌, ◌*◌, ◌≤◌, ◌<◌}
 use mathlib.Core.Path.{◌≡◌, refl, sym, ◌∙◌, ap}
 use mathlib.Core.Bool.{Bool, true, false, ◌||◌}
 use mathlib.Core.List.{List}
+use Rattle.std.proofs.Common.{Option, Some, None}
 use native.Mathlib.Omega.{arith}
 use lib.Dec.{ltb, lit<}
 use lib.ListN.{length}
@@ -16,7 +17,7 @@ use Rattle.units.proofs.Classes.{cell_at}
 use Rattle.layout.specs.Layout.{mark_size, plan_size, unit_size, redesignation_size, mark_at, size_of, offset, mark}
 use Rattle.sheet.specs.Refusals.{refused_if, no_plan_record, smaller, smaller_in_class, plan_refusal, unit_refusal, redesignation_refusal, refusal_by, refusal_at, record_refusal}
 use Rattle.layout.specs.declared.Mark.{Mark}
-use Rattle.layout.specs.declared.Mark.TheVariants.{UnitMark, RedesignationMark, BreakMark, NoMark}
+use Rattle.layout.specs.declared.Mark.TheVariants.{UnitMark, RedesignationMark, BreakMark}
 
 -- a ground that is not met, and the grounds after it
 pub ground_passed : (test : Bool) (number rest : ℕ) → 0 < number → refused_if test number rest ≡ 0 → (test ≡ false) × (rest ≡ 0)
@@ -46,7 +47,7 @@ smaller_at plan class h =
       cell 2 (2 * length classes + class) (lit< tt) (omega arith),
     )
 
-no_mark : (bytes : List ℕ) (at units designated : ℕ) → mark_at bytes at ≡ NoMark → refusal_by bytes at units designated (mark_at bytes at) ≡ 6
+no_mark : (bytes : List ℕ) (at units designated : ℕ) → mark_at bytes at ≡ None → refusal_by bytes at units designated (mark_at bytes at) ≡ 6
 unfolding refusal_by
 no_mark bytes at units designated e = rw e
 
@@ -61,15 +62,15 @@ refusal_by_mark bytes at units designated = go (ltb (length bytes) (at + mark_si
     go true e = no_mark bytes at units designated (short_mark bytes at (ltb-true (length bytes) (at + mark_size) e))
     go false e = refl
 
-whole_by : (bytes : List ℕ) (at units designated : ℕ) (m : Mark) → at + mark_size ≤ length bytes
+whole_by : (bytes : List ℕ) (at units designated : ℕ) (m : Option Mark) → at + mark_size ≤ length bytes
     → refusal_by bytes at units designated m ≡ 0 → at + size_of m ≤ length bytes
 unfolding refusal_by unit_refusal redesignation_refusal size_of
-whole_by bytes at units designated UnitMark marked e =
+whole_by bytes at units designated (Some UnitMark) marked e =
     ltb-false (length bytes) (at + unit_size) (ground_passed _ 7 _ (lit< tt) e).0
-whole_by bytes at units designated RedesignationMark marked e =
+whole_by bytes at units designated (Some RedesignationMark) marked e =
     ltb-false (length bytes) (at + redesignation_size) (ground_passed _ 7 _ (lit< tt) e).0
-whole_by bytes at units designated BreakMark marked e = marked
-whole_by bytes at units designated NoMark marked e = marked
+whole_by bytes at units designated (Some BreakMark) marked e = marked
+whole_by bytes at units designated None marked e = marked
 
 -- a record that is not refused is whole
 pub whole_record : (bytes : List ℕ) (i : ℕ) → record_refusal bytes i ≡ 0 → offset bytes i + size_of (mark bytes i) ≤ length bytes

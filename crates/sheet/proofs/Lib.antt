@@ -1,4 +1,6 @@
 pub mod LeftToRight
+pub mod Any
+pub mod Placed
 pub mod Grounds
 pub mod Checking
 pub mod Accepted

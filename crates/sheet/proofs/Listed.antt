@@ -4,6 +4,7 @@ use Prim.Native.Nat.{ℕ, ◌≤◌}
 use mathlib.Core.Path.{◌≡◌, refl, ◌∙◌, subst}
 use mathlib.Core.Bool.{Bool, true, false}
 use mathlib.Core.List.{List}
+use Rattle.std.proofs.Common.{Option, Some, None}
 use mathlib.Core.Logic.{◌⊎◌, inl, inr}
 use native.Mathlib.Omega.{arith}
 use lib.ListN.{length}
@@ -11,8 +12,8 @@ use Rattle.units.specs.declared.Plan.{Plan}
 use Rattle.layout.specs.Layout.{offset}
 use Rattle.sheet.specs.Refusals.{refused_if, table_refusal, plan_refusal, unit_refusal, redesignation_refusal, refusal_by, refusal_at, record_refusal, verdict}
 use Rattle.layout.specs.declared.Mark.{Mark}
-use Rattle.layout.specs.declared.Mark.TheVariants.{UnitMark, RedesignationMark, BreakMark, NoMark}
-use Rattle.sheet.specs.declared.Verdict.TheVariants.{Refused}
+use Rattle.layout.specs.declared.Mark.TheVariants.{UnitMark, RedesignationMark, BreakMark}
+use Rattle.sheet.specs.Verdict.{Refused}
 use Rattle.sheet.proofs.LeftToRight.{Stops}
 use Rattle.sheet.proofs.Accepted.{Says, verdict_says}
 
@@ -39,19 +40,19 @@ plan_among bytes =
     ground_among 1 5 _ 1 _ (omega arith) (omega arith)
     (ground_among 1 5 _ 2 _ (omega arith) (omega arith) (table_among _))
 
-by_among : (bytes : List ℕ) (at units designated : ℕ) (mark : Mark) → Among 6 12 (refusal_by bytes at units designated mark)
+by_among : (bytes : List ℕ) (at units designated : ℕ) (mark : Option Mark) → Among 6 12 (refusal_by bytes at units designated mark)
 unfolding refusal_by unit_refusal redesignation_refusal
-by_among bytes at units designated UnitMark =
+by_among bytes at units designated (Some UnitMark) =
     ground_among 6 12 _ 7 _ (omega arith) (omega arith)
     (ground_among 6 12 _ 12 _ (omega arith) (omega arith)
     (ground_among 6 12 _ 8 _ (omega arith) (omega arith)
     (ground_among 6 12 _ 9 _ (omega arith) (omega arith) (inl refl))))
-by_among bytes at units designated RedesignationMark =
+by_among bytes at units designated (Some RedesignationMark) =
     ground_among 6 12 _ 7 _ (omega arith) (omega arith)
     (ground_among 6 12 _ 10 _ (omega arith) (omega arith)
     (ground_among 6 12 _ 11 _ (omega arith) (omega arith) (inl refl)))
-by_among bytes at units designated BreakMark = inl refl
-by_among bytes at units designated NoMark = inr (omega arith, omega arith)
+by_among bytes at units designated (Some BreakMark) = inl refl
+by_among bytes at units designated None = inr (omega arith, omega arith)
 
 record_among : (bytes : List ℕ) (i : ℕ) → Among 6 12 (record_refusal bytes i)
 unfolding record_refusal refusal_at

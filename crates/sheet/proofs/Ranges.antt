@@ -6,6 +6,7 @@ use mathlib.Core.Path.{◌≡◌, ◌∙◌, subst}
 use mathlib.Core.Logic.{⊎_elim}
 use mathlib.Core.Bool.{false, ◌||◌}
 use mathlib.Core.List.{List}
+use Rattle.std.proofs.Common.{Option, Some}
 use native.Mathlib.Omega.{arith}
 use lib.Dec.{ltb, lit<}
 use lib.ListN.{length}
@@ -151,18 +152,18 @@ module _ (bytes : List ℕ) (passes : plan_refusal bytes ≡ 0) where
 
 module _ (bytes : List ℕ) (n : ℕ) (facts : Facts bytes n) where
   -- the grounds of a record with this mark, none of which is met
-  passed_as : (m : Mark) (i : ℕ) → i < n → mark bytes i ≡ m
+  passed_as : (m : Option Mark) (i : ℕ) → i < n → mark bytes i ≡ m
       → refusal_by bytes (offset bytes i) (units_before bytes i) (designated_before bytes i) m ≡ 0
   unfolding record_refusal
   passed_as m i h e =
-      subst (λ (x : Mark). refusal_by bytes (offset bytes i) (units_before bytes i) (designated_before bytes i) x ≡ 0) e
+      subst (λ (x : Option Mark). refusal_by bytes (offset bytes i) (units_before bytes i) (designated_before bytes i) x ≡ 0) e
       (refusal_by_mark bytes (offset bytes i) (units_before bytes i) (designated_before bytes i) ∙ (facts.within i h).1)
 
-  unit_here : (i : ℕ) → mark bytes i ≡ UnitMark
+  unit_here : (i : ℕ) → mark bytes i ≡ Some UnitMark
       → (units_before bytes i < most_units) × ((sample_unit_at bytes (offset bytes i)).prerequisite ≤ substandard) × CountsFit (sample_unit_at bytes (offset bytes i))
   unfolding refusal_by
   unit_here i e =
-      unit_passed bytes (offset bytes i) (units_before bytes i) (passed_as UnitMark i (inside_unit bytes n facts.end i e) e)
+      unit_passed bytes (offset bytes i) (units_before bytes i) (passed_as (Some UnitMark) i (inside_unit bytes n facts.end i e) e)
 
   -- a unit's prerequisite grade is a grade
   pub prerequisite_le : (i : ℕ) (unit : SampleUnit) → entry_at bytes i ≡ UnitRecord unit → unit.prerequisite ≤ substandard
@@ -173,7 +174,7 @@ module _ (bytes : List ℕ) (n : ℕ) (facts : Facts bytes n) where
       subst (λ (u : SampleUnit). u.prerequisite ≤ substandard) same (unit_here i is_unit).1
 
   -- the count of a class is at most the largest in every kind together, in tenths
-  pub count_le : (i : ℕ) → mark bytes i ≡ UnitMark → (class : ℕ) → count_tenths (tenths_of (sample_unit_at bytes (offset bytes i))) class ≤ ten_times (kinds * largest_count)
+  pub count_le : (i : ℕ) → mark bytes i ≡ Some UnitMark → (class : ℕ) → count_tenths (tenths_of (sample_unit_at bytes (offset bytes i))) class ≤ ten_times (kinds * largest_count)
   count_le i is_unit class =
       let unit = sample_unit_at bytes (offset bytes i) in
       let fit = (unit_here i is_unit).2 in
@@ -184,7 +185,7 @@ module _ (bytes : List ℕ) (n : ℕ) (facts : Facts bytes n) where
   unfolding refusal_by
   new_grade_le i new e =
       let (marked, read) = redesignation_mark bytes i new e in
-      let passed = passed_as RedesignationMark i (inside_redesignation bytes n facts.end i marked) marked in
+      let passed = passed_as (Some RedesignationMark) i (inside_redesignation bytes n facts.end i marked) marked in
       omega (arith, read, redesignation_passed bytes (offset bytes i) (designated_before bytes i) passed)
 
   pub units_most : (i : ℕ) → units_before bytes i ≤ most_units

@@ -1,2 +1,3 @@
 pub mod LeftToRight
+pub mod Verdict
 pub mod Refusals

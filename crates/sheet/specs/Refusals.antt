@@ -1,5 +1,5 @@
 -- Where a sheet is turned away: numbers 1 to 12, in the order of the table. A refusal is its number and an offset.
-use Rattle.std.specs.Prelude.{ℕ, zero, suc, ◌+◌, Bool, true, false, not, ◌||◌, List, ltb, leb, eqb, length}
+use Rattle.std.specs.Prelude.{ℕ, zero, suc, ◌+◌, Option, Some, None, Bool, true, false, not, ◌||◌, List, ltb, leb, eqb, length}
 use Rattle.outcome.specs.Outcome.{accepted_as, refused_as}
 use Rattle.outcome.specs.declared.Answer.{Answer}
 use Rattle.cusum.specs.declared.PlanNumbers.{PlanNumbers}
@@ -11,10 +11,9 @@ use Rattle.units.specs.declared.Plan.{Plan}
 use Rattle.units.specs.declared.SampleUnit.{SampleUnit}
 use Rattle.layout.specs.Layout.{mark_size, grade_offset, plan_size, unit_size, redesignation_size, prerequisite_offset, recoverable_offset, cells, plan_of, sample_unit_at, mark_at, offset, entry_at, units_before}
 use Rattle.layout.specs.declared.Mark.{Mark}
-use Rattle.layout.specs.declared.Mark.TheVariants.{UnitMark, RedesignationMark, BreakMark, NoMark}
+use Rattle.layout.specs.declared.Mark.TheVariants.{UnitMark, RedesignationMark, BreakMark}
 use Rattle.sheet.specs.LeftToRight.{left_to_right}
-use Rattle.sheet.specs.declared.Verdict.{Verdict}
-use Rattle.sheet.specs.declared.Verdict.TheVariants.{Accepted, Refused}
+use Rattle.sheet.specs.Verdict.{Verdict, Accepted, Refused}
 
 -- a ground of refusal, a row of the table: its number if its condition is met, else what the grounds after it say, 0 at their end
 unfoldable pub refused_if : Bool → ℕ → ℕ → ℕ
@@ -102,11 +101,11 @@ redesignation_refusal bytes at designated =
     0))
 
 -- 6: a mark not of a unit, redesignation or break
-unfoldable pub refusal_by : List ℕ → ℕ → ℕ → ℕ → Mark → ℕ
-refusal_by bytes at units designated UnitMark = unit_refusal bytes at units
-refusal_by bytes at units designated RedesignationMark = redesignation_refusal bytes at designated
-refusal_by bytes at units designated BreakMark = 0
-refusal_by bytes at units designated NoMark = 6
+unfoldable pub refusal_by : List ℕ → ℕ → ℕ → ℕ → Option Mark → ℕ
+refusal_by bytes at units designated (Some UnitMark) = unit_refusal bytes at units
+refusal_by bytes at units designated (Some RedesignationMark) = redesignation_refusal bytes at designated
+refusal_by bytes at units designated (Some BreakMark) = 0
+refusal_by bytes at units designated None = 6
 
 -- 6: one byte left (with none left there is no record)
 unfoldable pub refusal_at : List ℕ → ℕ → ℕ → ℕ → ℕ

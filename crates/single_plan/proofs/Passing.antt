@@ -2,14 +2,13 @@
 -- unit, and past one record more the passing has gone on by it. From the walk over the records; what a record does is a case of `Passed`.
 use Prim.Native.Nat.{ℕ, suc, ◌+◌, ◌*◌, ◌≤◌, ◌<◌}
 use mathlib.Core.Path.{◌≡◌, refl, sym, ◌∙◌, ap, ap₂, subst, subst₂, subst⁻¹}
-use mathlib.Core.Logic.{◌⊎◌, inl, inr}
 use mathlib.Core.Bool.{Bool, true, false, cond, false≢true}
 use mathlib.Core.List.{List}
 use native.Mathlib.Numerals.{add-one}
 use native.Mathlib.Omega.{arith}
 use lib.ListN.{length}
 use lib.Seq.{sets, length-sets}
-use denote.Enum.Declared.{tag_of}
+use Rattle.std.proofs.Common.{Option}
 use Rattle.cusum.specs.declared.PlanNumbers.{PlanNumbers}
 use Rattle.cusum.specs.declared.Cusum.{Cusum}
 use Rattle.units.specs.Words.{has_plan, Table, row_of, tenths_of, no_overshoots}
@@ -18,19 +17,16 @@ use Rattle.units.specs.declared.SampleUnit.{SampleUnit}
 use Rattle.units.specs.declared.SteppedClasses.{SteppedClasses}
 use Rattle.units.specs.declared.Grading.{Grading}
 use Rattle.units.specs.declared.Entry.{Entry}
-use Rattle.units.specs.declared.Entry.TheVariants.{UnitRecord, Break}
+use Rattle.units.specs.declared.Entry.TheVariants.{UnitRecord, Redesignation, Break}
 use Rattle.units.proofs.Planned.{stepped_under_holds, none_over}
 use Rattle.rules.specs.StepThree.{in_force_in}
 use Rattle.rules.specs.Sheet.{standing_of}
 use Rattle.rules.specs.declared.Phase.TheVariants.{Designated}
 use Rattle.rules.specs.declared.State.{State}
-use Rattle.encoding.specs.Bytes.{byte}
-use Rattle.layout.specs.Layout.{mark_size, grade_offset, unit_size, mark_at, size_of, sample_unit_at, entry_of, entry_at, units_before}
+use Rattle.layout.specs.Layout.{mark_size, mark_at, size_of, entry_of, entry_at, units_before}
 use Rattle.layout.specs.Walk.{place_after, Walk, largest_offset, RoomPast}
 use Rattle.layout.specs.declared.Mark.{Mark}
-use Rattle.layout.specs.declared.Mark.TheVariants.{UnitMark, RedesignationMark, BreakMark, NoMark}
 use Rattle.layout.specs.declared.Place.{Place}
-use Rattle.layout.specs.contracts.Mark as mark_type
 use Rattle.layout.proofs.Walk.{units_are, mark_here, whole_here, entry_is, walk_on, room_past}
 use Rattle.layout.proofs.Units.{unit_mark, next_units, units_mono}
 use Rattle.results.specs.Record.{result_size, result_bytes}
@@ -78,30 +74,18 @@ met_is table grade cusums here {row} {stepped} planned is_row by_row meets =
     }) (sym none_is) (sym meets)
     ∙ grading_is table grade cusums here planned steps
 
--- ---- what a record is by its mark
-
--- neither a unit nor a redesignation: where there is no mark, a break stands in
-break_by_tag : (bytes : List ℕ) (at : ℕ) (m : Mark) → (tag_of mark_type.the_type m ≡ 2) ⊎ (tag_of mark_type.the_type m ≡ 3) → entry_of bytes at m ≡ Break
-unfolding entry_of
-break_by_tag bytes at UnitMark (inl is_two) = absurd (omega arith)
-break_by_tag bytes at UnitMark (inr is_three) = absurd (omega arith)
-break_by_tag bytes at RedesignationMark (inl is_two) = absurd (omega arith)
-break_by_tag bytes at RedesignationMark (inr is_three) = absurd (omega arith)
-break_by_tag bytes at BreakMark tag = refl
-break_by_tag bytes at NoMark tag = refl
-
 -- ---- the record at a place
 
 module _ {bytes : List ℕ} {n : ℕ} {place : Place} (walk : Walk bytes n place) (below : place.index < n) where
   pub mark_within : place.at + mark_size ≤ length bytes
   mark_within = mark_here bytes n place walk below
 
-  module _ {m : Mark} (is_mark : m ≡ mark_at bytes place.at) where
-    record_within : place.at + size_of m ≤ length bytes
-    record_within = subst⁻¹ (λ (x : Mark). place.at + size_of x ≤ length bytes) is_mark (whole_here bytes n place walk below)
+  module _ {m : Option Mark} (is_mark : m ≡ mark_at bytes place.at) where
+    pub record_within : place.at + size_of m ≤ length bytes
+    record_within = subst⁻¹ (λ (x : Option Mark). place.at + size_of x ≤ length bytes) is_mark (whole_here bytes n place walk below)
 
-    entry_by : {entry : Entry} → entry_of bytes place.at m ≡ entry → entry_at bytes place.index ≡ entry
-    entry_by same = sym (entry_is bytes n place walk below) ∙ ap (entry_of bytes place.at) (sym is_mark) ∙ same
+    entry_by : {read entry : Entry} → read ≡ entry_of bytes place.at m → read ≡ entry → entry_at bytes place.index ≡ entry
+    entry_by is_read is_entry = sym (entry_is bytes n place walk below) ∙ ap (entry_of bytes place.at) (sym is_mark) ∙ sym is_read ∙ is_entry
 
     pub fits_past : length bytes ≤ largest_offset → RoomPast place m
     fits_past fits = subst⁻¹ (RoomPast place) is_mark (room_past bytes n place walk below fits)
@@ -109,33 +93,25 @@ module _ {bytes : List ℕ} {n : ℕ} {place : Place} (walk : Walk bytes n place
     pub walk_past : {past : Place} → past ≡ place_after place m → Walk bytes n past
     walk_past {past} is_past = walk_on bytes n place walk below past (is_past ∙ ap (place_after place) is_mark)
 
-    module _ (is_unit : m ≡ UnitMark) where
-      pub unit_within : place.at + unit_size ≤ length bytes
-      unfolding size_of
-      unit_within = omega (arith, record_within, ap size_of is_unit)
-
-      module _ {here : SampleUnit} (is_read : here ≡ sample_unit_at bytes place.at) where
-        reads_unit : entry_at bytes place.index ≡ UnitRecord here
-        unfolding entry_of
-        reads_unit = entry_by (ap (entry_of bytes place.at) is_unit ∙ ap UnitRecord (sym is_read))
-
-        -- there is room for its result record where there is for all
-        pub room_for_record : {size : ℕ} → result_size * units_before bytes n ≤ size → result_size * place.units + result_size ≤ size
-        room_for_record room =
-            omega (
-              arith,
-              room,
-              units_are bytes n place walk,
-              next_units bytes place.index (unit_mark bytes place.index here reads_unit),
-              units_mono bytes (suc place.index) n (omega arith),
-            )
+    -- there is room for the result record of a unit where there is for all
+    pub room_for_record : {read : Entry} → read ≡ entry_of bytes place.at m → {here : SampleUnit} → read ≡ UnitRecord here
+        → {size : ℕ} → result_size * units_before bytes n ≤ size → result_size * place.units + result_size ≤ size
+    room_for_record is_read {here} is_unit room =
+        omega (
+          arith,
+          room,
+          units_are bytes n place walk,
+          next_units bytes place.index (unit_mark bytes place.index here (entry_by is_read is_unit)),
+          units_mono bytes (suc place.index) n (omega arith),
+        )
 
 -- ---- past one record more
 
 module _ {bytes : List ℕ} {n : ℕ} {table : Table} {designated : ℕ} {stops : Bool} {start : Reached} {results₀ : List ℕ}
     {place : Place} {cusums : List Cusum} {results : List ℕ}
     (so_far : Further bytes n table designated stops start results₀ (record { place = place; cusums = cusums }) results) (below : place.index < n)
-    {m : Mark} (is_mark : m ≡ mark_at bytes place.at) {past : Place} (is_past : past ≡ place_after place m) where
+    {m : Option Mark} (is_mark : m ≡ mark_at bytes place.at) {past : Place} (is_past : past ≡ place_after place m)
+    {read : Entry} (is_read : read ≡ entry_of bytes place.at m) where
   goes_on : {later : List Cusum} {behind : List ℕ}
       → Passed bytes table designated stops start.place.index start.cusums results₀ (suc place.index) later behind
       → length behind ≡ length results → Further bytes n table designated stops start results₀ (record { place = past; cusums = later }) behind
@@ -149,38 +125,32 @@ module _ {bytes : List ℕ} {n : ℕ} {table : Table} {designated : ℕ} {stops 
       }
 
   -- a unit
-  pub past_unit : m ≡ UnitMark → {here : SampleUnit} → here ≡ sample_unit_at bytes place.at
-      → {later : List Cusum} → later ≡ new_cusums table designated cusums (tenths_of here)
+  pub past_unit : {here : SampleUnit} → read ≡ UnitRecord here → {later : List Cusum} → later ≡ new_cusums table designated cusums (tenths_of here)
       → (stops ≡ true → unit_fails table designated cusums (tenths_of here) ≡ false)
       → {behind : List ℕ}
       → behind ≡ sets results (result_size * place.units) (result_bytes ungraded (result_under designated here (grading_of table designated cusums (tenths_of here))))
       → Further bytes n table designated stops start results₀ (record { place = past; cusums = later }) behind
-  past_unit is_unit {here} is_read is_later meets {behind} stored =
+  past_unit {here} is_unit is_later meets {behind} stored =
       let written = result_bytes ungraded (result_under designated here (grading_of table designated cusums (tenths_of here))) in
       goes_on
       (subst₂ (Passed bytes table designated stops start.place.index start.cusums results₀ (suc place.index)) (sym is_later)
       (sym (stored ∙ ap (λ (units : ℕ). sets results (result_size * units) written) (units_are bytes n place so_far.walk)))
-      (unit place.index cusums results so_far.passed here (reads_unit so_far.walk below is_mark is_unit is_read) meets))
+      (unit place.index cusums results so_far.passed here (entry_by so_far.walk below is_mark is_read is_unit) meets))
       (ap length stored ∙ length-sets results (result_size * place.units) written)
 
   -- a redesignation, where the passing does not stop there
-  pub past_redesignation : m ≡ RedesignationMark → stops ≡ false
+  pub past_redesignation : {new : ℕ} → read ≡ Redesignation new → stops ≡ false
       → Further bytes n table designated stops start results₀ (record { place = past; cusums = cusums }) results
-  unfolding entry_of
-  past_redesignation is_redesignation passing =
-      goes_on
-      (over place.index cusums results so_far.passed (byte bytes (place.at + grade_offset))
-      (entry_by so_far.walk below is_mark (ap (entry_of bytes place.at) is_redesignation)) passing)
-      refl
+  past_redesignation {new} is_redesignation passing =
+      goes_on (over place.index cusums results so_far.passed new (entry_by so_far.walk below is_mark is_read is_redesignation) passing) refl
 
   -- a break
-  pub past_break : (tag_of mark_type.the_type m ≡ 2) ⊎ (tag_of mark_type.the_type m ≡ 3)
-      → {started : List Cusum} → started ≡ starting (row_of table designated)
+  pub past_break : read ≡ Break → {started : List Cusum} → started ≡ starting (row_of table designated)
       → Further bytes n table designated stops start results₀ (record { place = past; cusums = started }) results
   past_break is_break_holds is_started =
       goes_on
       (subst⁻¹ (λ (cs : List Cusum). Passed bytes table designated stops start.place.index start.cusums results₀ (suc place.index) cs results) is_started
-      (restart place.index cusums results so_far.passed (entry_by so_far.walk below is_mark (break_by_tag bytes place.at m is_break_holds))))
+      (restart place.index cusums results so_far.passed (entry_by so_far.walk below is_mark is_read is_break_holds)))
       refl
 
 -- ---- past no record, and past so many more

@@ -1,5 +1,5 @@
 -- For contracts of inner functions: records of a sheet passed one after the other under one plan.
-use Rattle.std.specs.Prelude.{ℕ, suc, ◌*◌, ◌≤◌, ◌≡◌, Bool, true, false, cond, List, length}
+use Rattle.std.specs.Prelude.{ℕ, suc, ◌*◌, ◌≤◌, ◌≡◌, Bool, true, false, cond, List, length, None}
 use Rattle.std.proofs.lemmas.List.Edits.{sets}
 use Rattle.cusum.specs.declared.Cusum.{Cusum}
 use Rattle.units.specs.Words.{has_plan, Table, row_of, tenths_of}
@@ -8,12 +8,18 @@ use Rattle.units.specs.declared.SampleUnit.{SampleUnit}
 use Rattle.units.specs.declared.SteppedClasses.{SteppedClasses}
 use Rattle.units.specs.declared.Grading.{Grading}
 use Rattle.units.specs.declared.Entry.TheVariants.{UnitRecord, Redesignation, Break}
+use Rattle.rules.specs.declared.Phase.TheVariants.{Designated}
+use Rattle.rules.specs.declared.State.{State}
 use Rattle.layout.specs.Layout.{entry_at, units_before}
 use Rattle.layout.specs.Walk.{first_place, Walk}
 use Rattle.results.specs.Record.{result_size, result_bytes}
 use Rattle.codes.specs.Codes.{ungraded}
 use Rattle.single_plan.specs.SinglePlan.{result_under}
 use Rattle.single_plan.specs.declared.Reached.{Reached}
+
+-- outside step 3, with no failure just before
+abbrev pub outside : ℕ → List Cusum → State
+outside designated cusums = record { designated = designated; previous = None; phase = Designated; cusums = cusums }
 
 -- the grading of a unit under the plan of a grade, by its step in every class
 abbrev pub grading_by : Table → ℕ → SampleUnit → SteppedClasses → Grading

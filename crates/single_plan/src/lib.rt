@@ -9,22 +9,42 @@ ghost use Rattle.units.specs.Unit.{best_lower, grading_of};
 ghost use Rattle.results.specs.Record.{result_size, result_bytes};
 ghost use Rattle.codes.specs.Codes.{ungraded};
 ghost use Rattle.single_plan.specs.SinglePlan.{result_under};
-ghost use Rattle.single_plan.specs.Passing.{grading_by, Passable, Further};
+ghost use Rattle.single_plan.specs.Passing.{outside, grading_by, Passable, Further};
 
-use layout::{Mark, Place, mark_at, sample_unit_at};
+use layout::{Place, entry_at, mark_at};
 use recording::{result_of, write_at};
 use results::RESULT_SIZE;
-use rules::{Phase, Previous, State};
+use rules::{Phase, State};
 use units::{
-    CLASSES, Cusums, Grading, Row, SampleUnit, SteppedClasses, Table, best_lower, row_of, starts,
+    CLASSES, Cusums, Entry, Grading, SampleUnit, SteppedClasses, Table, best_lower, row_of, starts,
     step_classes,
 };
+
+// A sheet whose records, so many, are whole, and the table of the plan that it is graded under.
+#[derive(Clone, Copy)]
+pub struct CheckedSheet<'a> {
+    pub bytes: &'a [u8],
+    pub records: usize,
+    pub table: &'a Table,
+}
 
 // Where the writing stands: before a record, with the CuSums there.
 #[derive(Clone, Copy)]
 pub struct Reached {
     pub place: Place,
     pub cusums: Cusums,
+}
+
+// Outside step 3, with no failure just before.
+pub fn outside(designated: u8, cusums: Cusums) -> State
+    ensures { result ≡ outside designated cusums }
+{
+    State {
+        designated,
+        previous: None,
+        phase: Phase::Designated,
+        cusums,
+    }
 }
 
 // Writes what is recorded of a unit under the designated plan.
@@ -38,17 +58,10 @@ fn write_graded(
     requires { result_size * place.units + result_size ≤ length results.old }
     ensures { results.new ≡ sets results.old (result_size * place.units) (result_bytes ungraded (result_under designated unit grading)) }
 {
-    let cusums = grading.cusums;
-    let outside = State {
-        designated: designated,
-        previous: Previous::NoFailure,
-        phase: Phase::Designated,
-        cusums: cusums,
-    };
     write_at(
         results,
         RESULT_SIZE * place.units,
-        result_of(outside, unit, grading),
+        result_of(outside(designated, grading.cusums), unit, grading),
     );
 }
 
@@ -66,11 +79,11 @@ fn defect_grade(table: Table, grade: u8, fails: bool, unit: SampleUnit) -> u8
 pub fn graded_by(table: Table, grade: u8, unit: SampleUnit, stepped: SteppedClasses) -> Grading
     ensures { result ≡ grading_by table grade unit stepped }
 {
-    let new = stepped.cusums;
-    let over = stepped.overshoots;
+    let cusums = stepped.cusums;
+    let overshoots = stepped.overshoots;
     Grading {
-        cusums: new,
-        overshoots: over,
+        cusums,
+        overshoots,
         fails: stepped.fails,
         grade: defect_grade(table, grade, stepped.fails, unit),
     }
@@ -80,110 +93,91 @@ pub fn graded_by(table: Table, grade: u8, unit: SampleUnit, stepped: SteppedClas
 fn write_unit(
     table: Table,
     designated: u8,
-    place: Place,
-    before: Cusums,
+    here: Reached,
     unit: SampleUnit,
     results: &mut [u8],
 ) -> Grading
-    requires { (result_size * place.units + result_size ≤ length results.old) × (has_plan designated ≡ true) }
-    ensures grading { result ≡ grading_of table designated before (tenths_of unit) }
-    ensures buffer { results.new ≡ sets results.old (result_size * place.units) (result_bytes ungraded (result_under designated unit (grading_of table designated before (tenths_of unit)))) }
+    requires { (result_size * here.place.units + result_size ≤ length results.old) × (has_plan designated ≡ true) }
+    ensures grading { result ≡ grading_of table designated here.cusums (tenths_of unit) }
+    ensures buffer { results.new ≡ sets results.old (result_size * here.place.units) (result_bytes ungraded (result_under designated unit (grading_of table designated here.cusums (tenths_of unit)))) }
 {
-    let stepped = step_classes(row_of(table, designated), before, unit);
+    let stepped = step_classes(row_of(table, designated), here.cusums, unit);
     let grading = graded_by(table, designated, unit, stepped);
-    write_graded(place, designated, unit, grading, results);
+    write_graded(here.place, designated, unit, grading, results);
     grading
 }
 
 // Writes what units that meet the designated plan write, and goes past them and past breaks: up to a unit that fails, a redesignation or the
 // end. Most records of most sheets are such; this loop has the row of their plan alone, and not the table, which it would keep in memory. Where
 // no class fails none is over.
+#[inline(always)]
 pub fn write_meeting(
-    bytes: &[u8],
-    records: usize,
-    row: Row,
+    sheet: &CheckedSheet,
     designated: u8,
     start: Reached,
     results: &mut [u8],
 ) -> Reached
-    requires { Passable bytes.now records designated start (length results.old) }
-    ensures { (table : Table) → row ≡ row_of table designated → Further bytes.now records table designated true start results.old result results.new }
+    requires { Passable sheet.now.bytes.now sheet.now.records designated start (length results.old) }
+    ensures { Further sheet.now.bytes.now sheet.now.records sheet.now.table.now designated true start results.old result results.new }
 {
-    let mut place = start.place;
-    let mut cusums = start.cusums;
-    while place.index < records {
-        let mark = mark_at(bytes, place.at);
-        match mark {
-            Mark::UnitMark => {
-                let unit = sample_unit_at(bytes, place.at);
-                let stepped = step_classes(row, cusums, unit);
+    let bytes = sheet.bytes;
+    let row = row_of(*sheet.table, designated);
+    let mut here = start;
+    while here.place.index < sheet.records {
+        let mark = mark_at(bytes, here.place.at);
+        match entry_at(bytes, here.place.at, mark) {
+            Entry::UnitRecord(unit) => {
+                let stepped = step_classes(row, here.cusums, unit);
                 if stepped.fails {
-                    return Reached {
-                        place: place,
-                        cusums: cusums,
-                    };
+                    return here;
                 }
-                cusums = stepped.cusums;
+                let cusums = stepped.cusums;
                 let met = Grading {
-                    cusums: cusums,
+                    cusums,
                     overshoots: [0; CLASSES],
                     fails: false,
                     grade: designated,
                 };
-                write_graded(place, designated, unit, met, results);
-                place = place.past(mark);
-            }
-            Mark::RedesignationMark => {
-                return Reached {
-                    place: place,
-                    cusums: cusums,
+                write_graded(here.place, designated, unit, met, results);
+                here = Reached {
+                    place: here.place.past(mark),
+                    cusums,
                 };
             }
-            _ => {
-                cusums = starts(row);
-                place = place.past(mark);
+            Entry::Redesignation(_) => return here,
+            Entry::Break => {
+                here = Reached {
+                    place: here.place.past(mark),
+                    cusums: starts(row),
+                };
             }
         }
     }
-    Reached {
-        place: place,
-        cusums: cusums,
-    }
+    here
 }
 
 // Writes what the record writes at which the writing stands, and goes past it, whatever it is: a redesignation is passed over.
 pub fn write_here(
-    bytes: &[u8],
-    records: usize,
-    table: Table,
+    sheet: &CheckedSheet,
     designated: u8,
     here: Reached,
     results: &mut [u8],
 ) -> Reached
-    requires { Passable bytes.now records designated here (length results.old) × (here.place.index < records) }
-    ensures further { Further bytes.now records table designated false here results.old result results.new }
+    requires { Passable sheet.now.bytes.now sheet.now.records designated here (length results.old) × (here.place.index < sheet.now.records) }
+    ensures further { Further sheet.now.bytes.now sheet.now.records sheet.now.table.now designated false here results.old result results.new }
     ensures one { result.place.index ≡ suc here.place.index }
 {
     let place = here.place;
-    let before = here.cusums;
-    let mark = mark_at(bytes, place.at);
-    match mark {
-        Mark::UnitMark => {
-            let unit = sample_unit_at(bytes, place.at);
-            let grading = write_unit(table, designated, place, before, unit, results);
-            let new = grading.cusums;
-            Reached {
-                place: place.past(mark),
-                cusums: new,
-            }
+    let mark = mark_at(sheet.bytes, place.at);
+    let cusums = match entry_at(sheet.bytes, place.at, mark) {
+        Entry::UnitRecord(unit) => {
+            write_unit(*sheet.table, designated, here, unit, results).cusums
         }
-        Mark::RedesignationMark => Reached {
-            place: place.past(mark),
-            cusums: before,
-        },
-        _ => Reached {
-            place: place.past(mark),
-            cusums: starts(row_of(table, designated)),
-        },
+        Entry::Redesignation(_) => here.cusums,
+        Entry::Break => starts(row_of(*sheet.table, designated)),
+    };
+    Reached {
+        place: place.past(mark),
+        cusums,
     }
 }

@@ -1,5 +1,5 @@
 -- An accepted sheet, and what is recorded of its units.
-use Rattle.std.specs.Prelude.{ℕ, ◌<◌, ◌≡◌, List}
+use Rattle.std.specs.Prelude.{ℕ, ◌<◌, ◌≡◌, List, Some}
 use Rattle.cusum.specs.declared.PlanNumbers.{PlanNumbers}
 use Rattle.units.specs.Words.{numbers_of}
 use Rattle.rules.specs.Sheet.{Sheet, in_force_at}
@@ -22,7 +22,7 @@ sheet_in bytes = sheet_of bytes (records_in bytes)
 -- record i is a sample unit
 pub record UnitAt (bytes : List ℕ) (i : ℕ) : Type 0 where
   pub inside : i < records_in bytes
-  pub is_unit : mark bytes i ≡ UnitMark
+  pub is_unit : mark bytes i ≡ Some UnitMark
 
 -- as recorded for the unit that is record i: a class's CuSum and overshoot, the portion grade, the code grade
 abbrev pub recorded_cusum : List ℕ → List ℕ → ℕ → ℕ → ℕ

@@ -3,8 +3,7 @@ use Rattle.std.specs.Prelude.{ℕ, ◌*◌, List, ◌++◌, ltb, length, drop}
 use Rattle.units.specs.Conditions.{pick}
 use Rattle.rules.specs.Sheet.{Sheet, code_grade}
 use Rattle.sheet.specs.Refusals.{verdict, answer_of}
-use Rattle.sheet.specs.declared.Verdict.{Verdict}
-use Rattle.sheet.specs.declared.Verdict.TheVariants.{Accepted, Refused}
+use Rattle.sheet.specs.Verdict.{Verdict, Accepted, Refused}
 use Rattle.results.specs.Record.{result_size}
 use Rattle.results.specs.Written.{written}
 use Rattle.recording.specs.Sheet.{sheet_of, result_of}

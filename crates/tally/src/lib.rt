@@ -1,35 +1,36 @@
 // Grading a whole sheet: the check, refusal 13, the result records, the code grades.
 #![tactic(auto)]
 
-ghost use Rattle.std.specs.Prelude.{◌≡◌};
-ghost use Rattle.sheet.specs.Refusals.{verdict};
-ghost use Rattle.sheet.specs.declared.Verdict.TheVariants.{Accepted};
-ghost use Rattle.outcome.specs.Outcome.{Outcome};
-ghost use Rattle.tally.specs.Outcome.{outcome_by, outcome};
+ghost use Rattle.std.specs.Prelude.{◌≡◌, length};
+ghost use Rattle.outcome.specs.Outcome.{Outcome, answered};
+ghost use Rattle.tally.specs.Outcome.{outcome};
 
 use codes::grade_codes;
 use layout::plan_of;
-use outcome::{Answer, refused_as};
+use outcome::{Answer, Ground, Refusal};
 use results::RESULT_SIZE;
-use sheet::{Verdict, check};
+use sheet::check;
+use single_plan::CheckedSheet;
 use writing::write_records;
 
-// Grades a sheet that passes refusals 1 to 12.
-fn grade_accepted(bytes: &[u8], results: &mut [u8], records: usize, units: usize) -> Answer
-    requires { verdict bytes.now ≡ Accepted records units }
-    ensures { ◌≡◌ {A = Outcome} (record { answer = result; buffer = results.new }) (outcome_by bytes.now results.old (Accepted records units)) }
+// The units of a sheet that is graded into a result buffer, or its refusal.
+fn graded(bytes: &[u8], results: &mut [u8]) -> Result<usize, Refusal>
+    ensures { ◌≡◌ {A = Outcome} (record { answer = answered (length bytes.now) result; buffer = results.new }) (outcome bytes.now results.old) }
 {
-    if results.len() < RESULT_SIZE * units {
-        return refused_as(13, bytes.len());
+    let checked = check(bytes)?;
+    if results.len() < RESULT_SIZE * checked.units {
+        return Err(Ground::ResultBufferTooShort.at(bytes.len()));
     }
     let plan = plan_of(bytes);
-    write_records(bytes, records, plan.table(), plan.designated, results);
-    grade_codes(results, units);
-    Answer {
-        number: 0,
-        units: units,
-        offset: bytes.len(),
-    }
+    let table = plan.table();
+    let sheet = CheckedSheet {
+        bytes,
+        records: checked.records,
+        table: &table,
+    };
+    write_records(&sheet, plan.designated, results);
+    grade_codes(&mut results[..RESULT_SIZE * checked.units]);
+    Ok(checked.units)
 }
 
 // Grades a whole sheet into a result buffer. Every sheet is accepted or refused by a listed number with the place; a refused sheet
@@ -37,8 +38,5 @@ fn grade_accepted(bytes: &[u8], results: &mut [u8], records: usize, units: usize
 pub fn grade(sheet: &[u8], results: &mut [u8]) -> Answer
     ensures { ◌≡◌ {A = Outcome} (record { answer = result; buffer = results.new }) (outcome sheet.now results.old) }
 {
-    match check(sheet) {
-        Verdict::Accepted { records, units } => grade_accepted(sheet, results, records, units),
-        Verdict::Refused { number, offset } => refused_as(number as u32, offset),
-    }
+    Answer::of(graded(sheet, results), sheet.len())
 }

@@ -6,215 +6,180 @@
 // another kind or with more bytes ends the program. So does a read or a write that fails, with its error.
 #![tactic(auto)]
 
-ghost use Rattle.std.specs.Prelude.{◌≤◌, IfOk, length};
+ghost use Rattle.std.specs.Prelude.{◌≡◌, ℕ, List, ◌∷◌, [], IfOk, OnOk};
+ghost use Rattle.std.specs.Io.KnownBytes.{Appends, Consumes};
+ghost use Rattle.lines.specs.Lines.{printed};
+ghost use Rattle.mold_lines.specs.MoldLines.{mold_printed};
+ghost use Rattle.regrade_lines.specs.RegradeLines.{regrade_printed};
+ghost use Rattle.tally_cases.specs.Kind.{code_of};
+ghost use Rattle.tally_cases.specs.Sized.{LosesSized};
+ghost use Rattle.tally_cases.specs.Stop.{StopsFor};
+ghost use Rattle.tally_cases.specs.Texts.{found_text, refused_text};
+ghost use Rattle.tally_cases.specs.declared.Stop.TheVariants.{NoCase};
 
-use encoding::number_at;
-use layout::NUMBER_SIZE;
+mod kind;
+
+use kind::{Kind, UnknownKind};
 use lines::TEXT_SIZE;
 use mold_lines::MOLD_TEXT_SIZE;
 use std::io;
-use std::io::{Read, Write};
+use std::io::{ErrorKind, Read, Write};
+use streams::{print_text, read_input};
 use text::{LARGEST_INPUT, letter_of};
 
 // No test has more cases.
 const MOST_CASES: u64 = 10000;
 
-// Room for a sheet, a plan, results or a lot: one byte more than is taken for a sheet; and what stands for no such bytes.
+// Room for a sheet, a plan, results or a lot: one byte more than is taken for a sheet.
 const ROOM: usize = LARGEST_INPUT + 1;
 
-const NO_BYTES: usize = ROOM + 1;
+// Why no further case is printed: none is left that is one of these, or a read or a write failed.
+#[derive(Debug, Drop)]
+enum Stop {
+    NoCase,
+    Failed(io::Error),
+}
 
-// Kinds of cases, and what stands for no case.
-const TALLY: u8 = 0;
+impl From<UnknownKind> for Stop {
+    ghost from_gives = { λ _ stop. stop ≡ NoCase };
 
-const MOLD: u8 = 1;
+    fn from(_unknown: UnknownKind) -> Stop {
+        Stop::NoCase
+    }
+}
 
-const REGRADING: u8 = 2;
+// An input that ends where a kind, a length or a code should stand has no further case.
+impl From<io::Error> for Stop {
+    ghost from_gives = { StopsFor };
 
-const LOOKUP: u8 = 3;
-
-const LOT: u8 = 4;
-
-const NO_CASE: u8 = 255;
-
-// A length is two numbers of two bytes, each of which has so many values.
-const LENGTH_SIZE: usize = 2 * NUMBER_SIZE;
-
-const NUMBERS: usize = 65536;
-
-// Reads until the room is full or the input ends, and answers how many bytes were read, or the error of a read that failed.
-// (io::Read::read_exact does not tell how many bytes stand before the end.)
-fn read_full(input: &mut impl Read, room: &mut [u8]) -> io::Result<usize>
-    ensures { IfOk result (λ bytes. bytes ≤ length room.new) }
-{
-    let mut bytes: usize = 0;
-    while bytes < room.len() {
-        let more = input.read(&mut room[bytes..])?;
-        if more == 0 {
-            return Ok(bytes);
+    fn from(error: io::Error) -> Stop {
+        match error.kind() {
+            ErrorKind::UnexpectedEof => Stop::NoCase,
+            _ => Stop::Failed(error),
         }
-        bytes += more;
     }
-    Ok(bytes)
 }
 
-// Reads the kind of a case, or that none is left.
-fn read_kind(input: &mut impl Read) -> io::Result<u8> {
-    let mut kind = [0u8; 1];
-    let got = read_full(input, &mut kind)?;
-    if got < 1 {
-        return Ok(NO_CASE);
-    }
-    Ok(kind[0])
+fn read_kind<R: Read>(input: &mut R) -> Result<Kind, Stop>
+    ensures { IfOk result (λ kind. Consumes (R.remaining input.old) (R.remaining input.new) (code_of kind ∷ [])) }
+{
+    let mut code = [0u8; 1];
+    input.read_exact(&mut code)?;
+    Ok(Kind::try_from(code[0])?)
 }
 
-// Reads a length, or that there is none.
-fn read_length(input: &mut impl Read) -> io::Result<usize> {
-    let mut length = [0u8; LENGTH_SIZE];
-    let got = read_full(input, &mut length)?;
-    if got < LENGTH_SIZE {
-        return Ok(NO_BYTES);
-    }
-    let high = number_at(&length, 0);
-    let low = number_at(&length, NUMBER_SIZE);
-    Ok(high as usize * NUMBERS + low as usize)
+// Reads a length and as many bytes, or fewer where the input ends before them.
+fn read_bytes<'a, R: Read>(input: &mut R, room: &'a mut [u8]) -> Result<&'a [u8], Stop>
+    ensures { IfOk result (λ bytes. LosesSized (R.remaining input.old) (R.remaining input.new) bytes.now) }
+{
+    let mut length = [0u8; 4];
+    input.read_exact(&mut length)?;
+    let length = u32::from_be_bytes(length) as usize;
+    let part = room.get_mut(..length).ok_or(Stop::NoCase)?;
+    Ok(read_input(input, part)?)
 }
 
-// Reads a length and as many bytes, and answers how many there are, or that they are not there or have no room.
-fn read_bytes(input: &mut impl Read, room: &mut [u8]) -> io::Result<usize> {
-    let length = read_length(input)?;
-    if room.len() < length {
-        return Ok(NO_BYTES);
-    }
-    read_full(input, &mut room[..length])
-}
-
-fn print_number(out: &mut impl Write, number: u64) -> io::Result<()> {
-    writeln!(out, "case {number}")
-}
-
-fn print_tally(out: &mut impl Write, sheet: &[u8]) -> io::Result<()> {
-    let mut text = [0u8; TEXT_SIZE];
-    let end = lines::print_into(sheet, &mut text);
-    out.write_all(&text[..end])
-}
-
-fn print_mold(out: &mut impl Write, sheet: &[u8]) -> io::Result<()> {
-    let mut text = [0u8; MOLD_TEXT_SIZE];
-    let end = mold_lines::print_mold_into(sheet, &mut text);
-    out.write_all(&text[..end])
-}
-
-// Reads the second plan, and prints the regrading; false where there is no such plan.
-fn print_regrading(input: &mut impl Read, out: &mut impl Write, sheet: &[u8]) -> io::Result<bool> {
-    let mut plan = [0u8; ROOM];
-    let size = read_bytes(input, &mut plan)?;
-    if ROOM < size {
-        return Ok(false);
-    }
-    let mut text = [0u8; TEXT_SIZE];
-    let end = regrade_lines::print_regrading_into(sheet, &plan[..size], &mut text);
-    out.write_all(&text[..end])?;
-    Ok(true)
+// Reads the second plan, and prints the regrading.
+fn print_regrading<R: Read, W: Write>(input: &mut R, out: &mut W, sheet: &[u8]) -> Result<(), Stop>
+    ensures { OnOk result ((plan : List ℕ) × LosesSized (R.remaining input.old) (R.remaining input.new) plan
+        × Appends (W.contents out.old) (W.contents out.new) (regrade_printed sheet.now plan)) }
+{
+    let mut room = [0u8; ROOM];
+    let plan = read_bytes(input, &mut room)?;
+    print_text(out, &mut [0u8; TEXT_SIZE], |text| {
+        regrade_lines::print_regrading_into(sheet, plan, text)
+    })?;
+    Ok(())
 }
 
 // The place of the part in the results, and its bytes.
-fn print_found(out: &mut impl Write, offset: usize, part: &[u8]) -> io::Result<()> {
+fn print_found<W: Write>(out: &mut W, offset: usize, part: &[u8]) -> io::Result<()>
+    ensures { OnOk result (Appends (W.contents out.old) (W.contents out.new) (found_text offset part.now)) }
+{
     write!(out, "found {offset}")?;
     for byte in part {
         write!(out, " {byte}")?;
     }
-    out.write_all(b"\n")
+    writeln!(out)
 }
 
 // A refusal of results or of a lot: the offset is 0.
-fn print_refused(out: &mut impl Write, number: u32) -> io::Result<()> {
+fn print_refused<W: Write>(out: &mut W, number: u32) -> io::Result<()>
+    ensures { OnOk result (Appends (W.contents out.old) (W.contents out.new) (refused_text number)) }
+{
     writeln!(out, "refused {number} 0")
 }
 
-// The number says that nothing is found: the code is not there, or the results are refused.
-fn print_not_found(out: &mut impl Write, number: u32) -> io::Result<()> {
-    if number == 1 {
-        return out.write_all(b"not on this sheet\n");
+fn print_part(out: &mut impl Write, results: &[u8], code: u16) -> io::Result<()> {
+    match lookup::find(results, code) {
+        Ok(Some(found)) => print_found(out, found.offset, found.part),
+        Ok(None) => writeln!(out, "not on this sheet"),
+        Err(cause) => print_refused(out, cause.number()),
     }
-    print_refused(out, number)
 }
 
-// Reads the code, and prints the look-up; false where there is no code.
-fn print_lookup(input: &mut impl Read, out: &mut impl Write, results: &[u8]) -> io::Result<bool> {
-    let mut bytes = [0u8; NUMBER_SIZE];
-    let got = read_full(input, &mut bytes)?;
-    if got < NUMBER_SIZE {
-        return Ok(false);
-    }
-    let code = number_at(&bytes, 0);
-    let mut number: u32 = 0;
-    let part = lookup::find(results, code, &mut number);
-    if number == 0 {
-        print_found(out, lookup::find_place(results, code).offset, part)?;
-    } else {
-        print_not_found(out, number)?;
-    }
-    Ok(true)
+// Reads the code, and prints the look-up.
+fn print_lookup<R: Read, W: Write>(input: &mut R, out: &mut W, results: &[u8]) -> Result<(), Stop> {
+    let mut code = [0u8; 2];
+    input.read_exact(&mut code)?;
+    print_part(out, results, u16::from_be_bytes(code))?;
+    Ok(())
 }
 
+// The answer is what C gets, with number 0 where a lot is graded.
 fn print_lot(out: &mut impl Write, lot: &[u8]) -> io::Result<()> {
     let answer = lots::grade_lot(lot);
     if answer.number != 0 {
         return print_refused(out, answer.number);
     }
-    let letter = [letter_of(b"ABC", b'S', answer.grade)];
-    out.write_all(b"lot ")?;
-    out.write_all(&letter)?;
-    out.write_all(b"\n")
+    let letter = char::from(letter_of(b"ABC", b'S', answer.grade));
+    writeln!(out, "lot {letter}")
 }
 
-fn print_sheet(
-    input: &mut impl Read,
-    out: &mut impl Write,
-    kind: u8,
+// Prints what has this kind, with what stands behind it in the input.
+fn print_sheet<R: Read, W: Write>(
+    input: &mut R,
+    out: &mut W,
+    kind: Kind,
     sheet: &[u8],
-) -> io::Result<bool> {
-    if kind == TALLY {
-        print_tally(out, sheet)?;
-        return Ok(true);
+) -> Result<(), Stop>
+    ensures tally { kind ≡ Kind.Tally → OnOk result (Appends (W.contents out.old) (W.contents out.new) (printed sheet.now)) }
+    ensures mold { kind ≡ Kind.Mold → OnOk result (Appends (W.contents out.old) (W.contents out.new) (mold_printed sheet.now)) }
+    ensures regrading { kind ≡ Kind.Regrading → OnOk result ((plan : List ℕ) × LosesSized (R.remaining input.old) (R.remaining input.new) plan
+        × Appends (W.contents out.old) (W.contents out.new) (regrade_printed sheet.now plan)) }
+{
+    match kind {
+        Kind::Tally => print_text(out, &mut [0u8; TEXT_SIZE], |text| {
+            lines::print_into(sheet, text)
+        })?,
+        Kind::Mold => print_text(out, &mut [0u8; MOLD_TEXT_SIZE], |text| {
+            mold_lines::print_mold_into(sheet, text)
+        })?,
+        Kind::Regrading => print_regrading(input, out, sheet)?,
+        Kind::Lookup => print_lookup(input, out, sheet)?,
+        Kind::Lot => print_lot(out, sheet)?,
     }
-    if kind == MOLD {
-        print_mold(out, sheet)?;
-        return Ok(true);
-    }
-    if kind == REGRADING {
-        return print_regrading(input, out, sheet);
-    }
-    if kind == LOOKUP {
-        return print_lookup(input, out, sheet);
-    }
-    print_lot(out, sheet)?;
-    Ok(true)
+    Ok(())
 }
 
-// Prints one case; false where none is left, or it is none of these.
-fn print_case(input: &mut impl Read, out: &mut impl Write, number: u64) -> io::Result<bool> {
+fn print_case<R: Read, W: Write>(input: &mut R, out: &mut W, number: u64) -> Result<(), Stop> {
     let kind = read_kind(input)?;
-    if LOT < kind {
-        return Ok(false);
+    let mut room = [0u8; ROOM];
+    let sheet = read_bytes(input, &mut room)?;
+    writeln!(out, "case {number}")?;
+    print_sheet(input, out, kind, sheet)
+}
+
+fn print_cases<R: Read, W: Write>(input: &mut R, out: &mut W) -> Result<(), Stop> {
+    for number in 1..MOST_CASES {
+        print_case(input, out, number)?;
     }
-    let mut sheet = [0u8; ROOM];
-    let size = read_bytes(input, &mut sheet)?;
-    if ROOM < size {
-        return Ok(false);
-    }
-    print_number(out, number)?;
-    print_sheet(input, out, kind, &sheet[..size])
+    Ok(())
 }
 
 fn main(rt: HostRuntime) -> io::Result<()> {
-    let mut input = rt.reader();
-    let mut out = io::writer(&rt);
-    for number in 1..MOST_CASES {
-        if !print_case(&mut input, &mut out, number)? {
-            break;
-        }
+    match print_cases(&mut rt.reader(), &mut io::writer(&rt)) {
+        Err(Stop::Failed(error)) => Err(error),
+        Ok(()) | Err(Stop::NoCase) => Ok(()),
     }
-    Ok(())
 }

@@ -1,3 +1,3 @@
 pub mod Decimals
-pub mod Writing
+pub mod Pages
 pub mod Printed

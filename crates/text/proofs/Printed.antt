@@ -1,20 +1,15 @@
--- What is printed in each case of an input: too long, accepted, refused; how long a refusal is; and a text that stands first in the
--- caller's. From the definitions, by what each test says.
-use Prim.Native.Nat.{ℕ, ◌+◌, ◌*◌, ◌^◌, ◌<◌, ◌≤◌}
+-- What is printed in each case of an input: too long, accepted, refused. From the definitions, by what each test says.
+use Prim.Native.Nat.{ℕ, ◌<◌, ◌≤◌}
 use mathlib.Core.Path.{◌≡◌, refl, sym, ◌∙◌, ap}
 use mathlib.Core.List.{List, ◌++◌, append_assoc}
-use native.Mathlib.Nat.{zero-add}
 use native.Mathlib.Omega.{arith}
 use borrow.Author.Tests.{lt-ltb, le-ltb, eq-eqb, ne_eqb}
 use lib.ListN.{length, drop, length-append}
-use lib.Seq.{sets-eq}
 use Rattle.outcome.specs.declared.Answer.{Answer}
 use Rattle.outcome.specs.Outcome.{Outcome}
 use Rattle.text.specs.Ascii.{ascii}
 use Rattle.text.specs.Text.{digits, decimal, rest_of_line, line_with, lines_by, refused_line, text_by, largest_input, too_much_input, SheetKind, printed_as, Printing, leaving}
 use Rattle.text.specs.TextCases.{TextCases}
-use Rattle.text.specs.Wrote.{Wrote, word_size}
-use Rattle.text.proofs.Decimals.{length_decimal}
 
 -- ---- the cases
 
@@ -45,12 +40,6 @@ module _ (kind : SheetKind) (input : List ℕ) where
 
 -- ---- a refusal
 
-pub length_refusal : (number offset : ℕ)
-    → length (refused_line number offset)
-    ≡ length (ascii "refused") + (1 + length (decimal number)) + (1 + length (decimal offset)) + 1
-unfolding refused_line line_with rest_of_line
-length_refusal number offset = simp length-append (omega arith)
-
 pub refused_line_holds : (number offset : ℕ) → refused_line number offset ≡ ascii "refused " ++ decimal number ++ ascii " " ++ decimal offset ++ ascii "\n"
 unfolding rest_of_line line_with refused_line
 refused_line_holds number offset = simp append_assoc
@@ -70,25 +59,7 @@ text_cases kind =
       accepted = λ input results units offset within promise. lines_printed kind input _ _ (sym promise) within refl;
     }
 
--- no refusal is longer: the word, and two numbers of 64 bits
-pub short_refusal : (number offset : ℕ) → number < 10 ^ word_size → offset < 10 ^ word_size
-    → length (refused_line number offset) ≤ length (ascii "refused") + 2 * (1 + word_size) + 1
-short_refusal number offset numbered placed =
-    omega (
-      arith,
-      length_refusal number offset,
-      length_decimal word_size number (omega arith) numbered,
-      length_decimal word_size offset (omega arith) placed,
-    )
-
 -- ---- the caller's text
-
--- a text written from the start on stands first, and the bytes behind it are kept
-pub whole_text : (printed : List ℕ) {before after : List ℕ} {end : ℕ}
-    → Wrote before 0 printed after end → ◌≡◌ {A = Printing} (record { size = end; text = after }) (leaving printed before)
-unfolding leaving
-whole_text printed {before} wrote =
-    rw (wrote.ends, wrote.holds, sets-eq printed before 0 (omega (arith, wrote.ends, wrote.inside)), zero-add)
 
 -- what is printed lies inside it
 pub text_inside : (printed before : List ℕ) {after : List ℕ} {end : ℕ}

@@ -1,18 +1,17 @@
-// Text written into the caller's buffer: numbers, letters, and the line of a refusal. Each function writes from a place on and answers
-// where its text ends.
+// What is printed for sheets of every kind, written into the caller's buffer: a line a unit, or the refusal.
 #![tactic(auto)]
 
-ghost use Rattle.std.specs.Prelude.{◌≡◌, ◌+◌, ◌≤◌, [], ◌∷◌, length, get_or};
-ghost use Rattle.encoding.specs.Bytes.{number};
-ghost use Rattle.text.specs.Text.{space, decimal, one_decimal, refused_line};
-ghost use Rattle.text.specs.Wrote.{Wrote};
+ghost use Rattle.std.specs.Prelude.{◌≡◌, ℕ, ◌*◌, ◌<◌, ◌≤◌, List, length, get_or};
+ghost use Rattle.text.specs.Text.{refused_line, lines_by, text_by, Printing, leaving};
+ghost use Rattle.text.specs.Wrote.{Wrote, HasRoom, longest_refusal};
 
-use encoding::number_at;
+mod page;
 
-// The most bytes of input that are taken for a sheet, and the number that refuses more.
+use outcome::Answer;
+pub use page::Page;
+
+// The most bytes of input that are taken for a sheet.
 pub const LARGEST_INPUT: usize = 65536;
-
-pub const TOO_MUCH_INPUT: u32 = 15;
 
 // The most bytes of a usize in decimal, of a number of two bytes, and of a CuSum.
 pub const WORD_SIZE: usize = 20;
@@ -21,81 +20,65 @@ pub const NUMBER_DIGITS: usize = 5;
 
 pub const CUSUM_SIZE: usize = NUMBER_DIGITS + 1;
 
-// ---- bytes, numbers, letters
-
-pub fn put(out: &mut [u8], at: usize, byte: u8) -> usize
-    requires { at + 1 ≤ length out.old }
-    ensures { Wrote out.old at (byte ∷ []) out.new result }
-{
-    out[at] = byte;
-    at + 1
-}
-
-// The bytes of a text.
-pub fn put_all(out: &mut [u8], at: usize, text: &[u8]) -> usize
-    requires { at + length text.now ≤ length out.old }
-    ensures { Wrote out.old at text.now out.new result }
-{
-    let mut end = at;
-    let mut i: usize = 0;
-    while i < text.len() {
-        end = put(out, end, text[i]);
-        i += 1;
-    }
-    end
-}
-
-// The digits before the last, then the last.
-pub fn decimal(out: &mut [u8], at: usize, value: usize) -> usize
-    requires { at + length (decimal value) ≤ length out.old }
-    ensures { Wrote out.old at (decimal value) out.new result }
-{
-    if value < 10 {
-        return put(out, at, b'0' + value as u8);
-    }
-    let after_others = decimal(out, at, value / 10);
-    put(out, after_others, b'0' + (value % 10) as u8)
-}
-
 // The letter of a number: by its place among the letters, or the other one.
 pub fn letter_of(letters: &[u8], other: u8, number: u8) -> u8
     ensures { result ≡ get_or letters.now number other }
 {
-    let place = number as usize;
-    if place < letters.len() {
-        return letters[place];
+    letters.get(number as usize).copied().unwrap_or(other)
+}
+
+// Lines of the units of a sheet, from its bytes or those of its results.
+pub trait UnitLines {
+    // The bytes of a unit, the first being 0, stand there; the line of a unit; no line is longer.
+    ghost HasUnit: { Self → ℕ → Type 0 };
+
+    ghost line: { Self → ℕ → List ℕ };
+
+    ghost line_size: { ℕ };
+
+    fn unit_line(&self, unit: usize, page: &mut Page)
+        requires there { HasUnit self.now unit }
+        requires room { HasRoom page.old line_size }
+        ensures line { Wrote page.old (line self.now unit) page.new }
+        ensures short { length (line self.now unit) ≤ line_size };
+}
+
+#[tactic(auto, using(crate::proofs::Pages::joined, crate::proofs::Pages::nothing_written), unfolding(crate::specs::Text::lines_by))]
+fn unit_lines<L: UnitLines>(lines: &L, units: usize, page: &mut Page)
+    requires there { (unit : ℕ) → unit < units → L.HasUnit lines.now unit }
+    requires room { HasRoom page.old (L.line_size * units) }
+    ensures { Wrote page.old (lines_by (L.line lines.now) units) page.new }
+{
+    for unit in 0..units {
+        lines.unit_line(unit, page);
     }
-    other
 }
 
-// ---- fields, each behind a space
+// ---- the whole text, which stands first in the caller's; the answer is its size
 
-pub fn number_field(out: &mut [u8], at: usize, value: usize) -> usize
-    requires { at + length (space ∷ decimal value) ≤ length out.old }
-    ensures { Wrote out.old at (space ∷ decimal value) out.new result }
+// A refusal alone.
+#[tactic(auto, using(crate::proofs::Pages::whole_text, crate::proofs::Pages::short_refusal))]
+pub fn print_refusal(number: u32, offset: usize, text: &mut [u8]) -> usize
+    requires { longest_refusal ≤ length text.old }
+    ensures { ◌≡◌ {A = Printing} (record { size = result; text = text.new }) (leaving (refused_line number offset) text.old) }
 {
-    let after_space = put(out, at, b' ');
-    decimal(out, after_space, value)
+    let mut page = Page::new(text);
+    page.refusal_line(number, offset);
+    page.size
 }
 
-// The tenths that stand at an offset of the result buffer.
-pub fn tenths_field(results: &[u8], offset: usize, out: &mut [u8], at: usize) -> usize
-    requires { (offset + 2 ≤ length results.now) × (at + length (space ∷ one_decimal (number results.now offset)) ≤ length out.old) }
-    ensures { Wrote out.old at (space ∷ one_decimal (number results.now offset)) out.new result }
+// What is printed for an answer: the lines of the units, or the refusal.
+#[tactic(auto, using(crate::proofs::Pages::whole_text), unfolding(crate::specs::Text::text_by))]
+pub fn print_answer<L: UnitLines>(answer: Answer, lines: &L, text: &mut [u8]) -> usize
+    requires there { answer.number ≡ 0 → (unit : ℕ) → unit < answer.units → L.HasUnit lines.now unit }
+    requires lines_fit { answer.number ≡ 0 → L.line_size * answer.units ≤ length text.old }
+    requires refusal_fits { longest_refusal ≤ length text.old }
+    ensures { ◌≡◌ {A = Printing} (record { size = result; text = text.new }) (leaving (text_by answer (L.line lines.now)) text.old) }
 {
-    let tenths = number_at(results, offset);
-    let after_whole = number_field(out, at, (tenths / 10) as usize);
-    let fraction = [b'.', b'0' + (tenths % 10) as u8];
-    put_all(out, after_whole, &fraction)
-}
-
-// "refused", number and offset.
-pub fn refusal_line(number: u32, offset: usize, out: &mut [u8]) -> usize
-    requires { length (refused_line number offset) ≤ length out.old }
-    ensures { Wrote out.old 0 (refused_line number offset) out.new result }
-{
-    let after_word = put_all(out, 0, b"refused");
-    let after_number = number_field(out, after_word, number as usize);
-    let after_offset = number_field(out, after_number, offset);
-    put(out, after_offset, b'\n')
+    if answer.number != 0 {
+        return print_refusal(answer.number, answer.offset, text);
+    }
+    let mut page = Page::new(text);
+    unit_lines(lines, answer.units, &mut page);
+    page.size
 }

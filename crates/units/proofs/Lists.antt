@@ -10,16 +10,14 @@ use native.Mathlib.Nat.{eq-or-lt_of_le}
 use native.Mathlib.Numerals.{add-one}
 use native.Mathlib.Omega.{arith}
 use lib.ListN.{length, get_or, drop, set, length-map, length-set, drop_of_length-le, get_or-eq_default, get_or-map}
+use Rattle.std.proofs.lemmas.List.{get_or_default}
 use lib.Seq.{drop-cons, ext_get_or, get_or-set_same, get_or-set_other}
+use denote.Param.Members.{Mut}
+use Rattle.std.specs.Array.{IsMapOf}
+use Rattle.std.specs.Fn.{Called}
 use Rattle.units.specs.Conditions.{any, all}
 use Rattle.units.specs.Words.{up_from}
 use Rattle.units.proofs.Tests.{and_both, or_first, or_second, or_false, or_assoc}
-
--- inside a list the default of `get_or` does not matter
-pub any_default {ℓ} : {A : Type ℓ} (l : List A) (i : ℕ) (d e : A) → i < length l → get_or l i d ≡ get_or l i e
-any_default [] i d e h = absurd (omega arith)
-any_default (x ∷ l) zero d e h = refl
-any_default (x ∷ l) (suc i) d e h = any_default l i d e (omega arith)
 
 -- ---- the first numbers
 
@@ -38,13 +36,13 @@ module _ (n : ℕ) where
   number_at i d h = omega (arith, numbers_at 0 n i d h)
 
   -- a list with a member for each
-  module _ {ℓ} {A : Type ℓ} (f : ℕ → A) (d : A) where
+  module _ {A : Type 0} (f : ℕ → A) (d : A) where
     map_length : length (map f (up_from 0 n)) ≡ n
     map_length = length-map (up_from 0 n) f ∙ numbers_length 0 n
 
     pub map_at : (i : ℕ) → i < n → get_or (map f (up_from 0 n)) i d ≡ f i
     map_at i h =
-        any_default (map f (up_from 0 n)) i d (f 0) (rw map_length h) ∙ get_or-map f (up_from 0 n) i 0 ∙ rw (number_at i 0 h)
+        get_or_default (map f (up_from 0 n)) i d (f 0) (rw map_length h) ∙ get_or-map f (up_from 0 n) i 0 ∙ rw (number_at i 0 h)
 
     pub map_behind : (i : ℕ) → n ≤ i → get_or (map f (up_from 0 n)) i d ≡ d
     map_behind i h = get_or-eq_default (map f (up_from 0 n)) d (rw map_length h)
@@ -56,7 +54,7 @@ module _ (n : ℕ) where
         (λ i k. let inside : i < n = omega arith in h i inside ∙ sym (map_at i inside))
 
 -- two such lists with the same members
-pub map_same {ℓ} : {A : Type ℓ} (n : ℕ) (f g : ℕ → A) → ((i : ℕ) → i < n → f i ≡ g i) → map f (up_from 0 n) ≡ map g (up_from 0 n)
+pub map_same : {A : Type 0} (n : ℕ) (f g : ℕ → A) → ((i : ℕ) → i < n → f i ≡ g i) → map f (up_from 0 n) ≡ map g (up_from 0 n)
 map_same n f g same = map_of n g (g 0) (map f (up_from 0 n)) (map_length n f (g 0)) (λ i inside. map_at n f (g 0) i inside ∙ same i inside)
 
 -- for a loop that fills such a list: every member before this one is there
@@ -66,9 +64,6 @@ pub record Filled {A : Type 0} (n : ℕ) (f : ℕ → A) (d : A) (l : List A) (k
   pub done : (i : ℕ) → i < k → get_or l i d ≡ f i
 
 module _ {A : Type 0} {n : ℕ} {f : ℕ → A} {d : A} {l : List A} where
-  pub fill_first : length l ≡ n → Filled n f d l 0
-  fill_first e = record { whole = e; within = omega arith; done = λ i h. absurd (omega arith) }
-
   module _ {k : ℕ} (filled : Filled n f d l k) where
     pub fill_next : {v : A} → k < n → v ≡ f k → Filled n f d (set l k v) (k + 1)
     fill_next {v} h e = record { whole = length-set l k v ∙ filled.whole; within = omega arith; done = λ i below. go i (eq-or-lt_of_le (omega arith)) }
@@ -174,9 +169,6 @@ pub record Tested (n : ℕ) (p : ℕ → Bool) (found : Bool) (k : ℕ) : Type 0
   pub found_or_left : any p (up_from 0 n) ≡ (found || any p (drop k (up_from 0 n)))
 
 module _ {n : ℕ} {p : ℕ → Bool} where
-  pub tested_first : Tested n p false 0
-  tested_first = record { inside = omega arith; found_or_left = refl }
-
   module _ {found : Bool} {k : ℕ} (tested : Tested n p found k) where
     pub tested_next : {test : Bool} → k < n → test ≡ p k → Tested n p (found || test) (k + 1)
     tested_next {test} h e =
@@ -184,3 +176,15 @@ module _ {n : ℕ} {p : ℕ → Bool} where
 
     pub tested_last : n ≤ k → found ≡ any p (up_from 0 n)
     tested_last h = sym (tested.found_or_left ∙ rw (any_end n p k h) (or_false found))
+
+-- ---- what an array's `map` gives, by a closure that computes f of its item
+
+module _ {F A B : Type 0} (g : Mut F (A × Unit {0}) B) (f : A → B) (d : A) {callee : F} {xs : List A} {ys : List B} {n : ℕ}
+    (gives : (p q : F) (x : A) (y : B) → Called g p (x, tt) y q → y ≡ f x) (made : IsMapOf g callee xs ys n) where
+  pub mapped_at : (i : ℕ) (e : B) → i < n → get_or ys i e ≡ f (get_or xs i d)
+  mapped_at i e inside = let (p, q, call) = made.at i d e inside in gives p q _ _ call
+
+  pub mapped : length xs ≡ n → ys ≡ map f xs
+  mapped whole =
+      ext_get_or (f d) ys (map f xs) (omega (arith, made.long, length-map xs f))
+      (λ i inside. mapped_at i (f d) (omega (arith, made.long)) ∙ sym (get_or-map f xs i d))

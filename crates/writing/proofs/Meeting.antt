@@ -7,6 +7,7 @@ use mathlib.Core.List.{List}
 use native.Mathlib.Omega.{arith}
 use lib.ListN.{length}
 use lib.Seq.{sets, length-sets}
+use Rattle.std.proofs.Common.{Option, None}
 use Rattle.cusum.specs.declared.Cusum.{Cusum}
 use Rattle.units.specs.Words.{has_plan, Table, table_of, tenths_of}
 use Rattle.units.specs.Unit.{unit_fails, grading_of}
@@ -16,8 +17,6 @@ use Rattle.units.specs.declared.Entry.{Entry}
 use Rattle.units.specs.declared.Entry.TheVariants.{UnitRecord, Break}
 use Rattle.rules.specs.StepThree.{in_force_in, failure_after, ends_step_three, two_in_a_row, with_unit, without_run, restarted, graded, qualifies_in, after_break, next}
 use Rattle.rules.specs.Sheet.{before}
-use Rattle.rules.specs.declared.Previous.{Previous}
-use Rattle.rules.specs.declared.Previous.TheVariants.{NoFailure}
 use Rattle.rules.specs.declared.Phase.{Phase}
 use Rattle.rules.specs.declared.Phase.TheVariants.{Designated}
 use Rattle.rules.specs.declared.State.{State}
@@ -30,9 +29,9 @@ use Rattle.codes.specs.Codes.{ungraded}
 use Rattle.recording.specs.Sheet.{sheet_of}
 use Rattle.single_plan.specs.SinglePlan.{result_under}
 use Rattle.single_plan.proofs.Passing.{result_outside}
-use Rattle.single_plan.specs.Passing.{Passed, none, unit, restart, over, Passable}
+use Rattle.single_plan.specs.Passing.{outside, Passed, none, unit, restart, over, Passable}
 use Rattle.writing.specs.declared.Position.{Position}
-use Rattle.writing.specs.Passes.{outside, Met, some, none as nothing}
+use Rattle.writing.specs.Passes.{Met, some, none as nothing}
 use Rattle.writing.specs.Writing.{UnitHere, RecordHere, position_at, OneMore, Underway, Further}
 use Rattle.writing.proofs.Passing.{nothing_more, further_none, further_one, underway_on, record_here}
 use Rattle.writing.proofs.Writing.{unit_under_designated}
@@ -118,7 +117,7 @@ passable {bytes} {n} {table} {start} underway =
 
 -- as the code stands before and behind these records
 met_on : {bytes : List ℕ} {n : ℕ} {table : Table} {start : Position} {results₀ : List ℕ} → Underway bytes n table start (length results₀)
-    → start.state.phase ≡ Designated → start.state.previous ≡ NoFailure
+    → start.state.phase ≡ Designated → start.state.previous ≡ None
     → {place : Place} {cusums : List Cusum} {results : List ℕ} → Walk bytes n place
     → Passed bytes table start.state.designated true start.place.index start.state.cusums results₀ place.index cusums results
     → Further bytes n start.place.index results₀ (record { place = place; state = outside start.state.designated cusums }) results
@@ -127,7 +126,7 @@ met_on {bytes} {n} {table} {start} {results₀} underway phase previous {place} 
     let from = start.place.index in
     let begins : before (sheet_of bytes n) from ≡ outside start.state.designated start.state.cusums
     = sym (ap (λ (p : Position). p.state) underway.stands_at)
-    ∙ ap₂ (λ (p : Previous) (f : Phase). state_of start.state.designated p f start.state.cusums) previous phase in
+    ∙ ap₂ (λ (p : Option ℕ) (f : Phase). state_of start.state.designated p f start.state.cusums) previous phase in
     let gone = gone_past (subst (λ (p : Position). Underway bytes n table p (length results₀)) underway.stands_at underway) begins passed walk.inside in
     let same : record { place = place; state = outside start.state.designated cusums } ≡ position_at bytes n place.index
     = ap₂ (λ (p : Place) (s : State). record { place = p; state = s }) walk.here (sym gone.same_state) in

@@ -11,14 +11,13 @@ use Rattle.rules.specs.StepThree.{in_force_in, restarted, opening}
 use Rattle.rules.specs.declared.State.{State}
 use Rattle.layout.specs.Walk.{first_place}
 use Rattle.layout.specs.declared.Place.{Place}
-use Rattle.recording.specs.Sheet.{sheet_of}
-use Rattle.single_plan.specs.Passing.{Passable, opening_under}
+use Rattle.single_plan.specs.Passing.{outside, Passable, opening_under}
 use Rattle.single_plan.specs.Passing as single
 use Rattle.single_plan.proofs.Passing as under
 use Rattle.writing.specs.declared.Position.{Position}
 use Rattle.writing.specs.Writable.{Writable}
-use Rattle.writing.specs.Writing.{RecordHere, position_at, OneMore, Further}
-use Rattle.writing.specs.Passes.{reached_at, outside, Met, some, none, GoneAgain, NextReady, NextDone, Ready, Done}
+use Rattle.writing.specs.Writing.{Further}
+use Rattle.writing.specs.Passes.{reached_at, Met, some, none, NextReady, NextDone, Ready, Done}
 use Rattle.writing.proofs.Passing.{index_at, further_one, further_on, underway_first, underway_on, record_here, further_first, all_done}
 use Rattle.writing.proofs.Meeting.{passable, met_further}
 
@@ -41,7 +40,7 @@ module _ (bytes : List ℕ) (n : ℕ) (table : Table) (designated : ℕ) (old : 
   -- before the first record
   pub going_first : (again : Bool) → Ready again bytes n table designated (length old) → {place : Place} → place ≡ first_place
       → {state : State} → state ≡ opening table designated → Going again bytes n table designated old (record { place = place; state = state }) old
-  unfolding Going Ready restarted in_force_in
+  unfolding Going restarted in_force_in
   going_first false writable is_first is_opening = record { writable = writable; further = (further_first writable is_first is_opening old).0 }
   going_first true ready {place} is_first {state} is_opening =
       rw (is_first, is_opening) (record { ready = ready; same_state = refl; further = under.further_none ready.walk old })
@@ -90,7 +89,6 @@ module _ (bytes : List ℕ) (n : ℕ) (table : Table) (designated : ℕ) (old : 
     -- past any record
     pub next_ready : (again : Bool) → Going again bytes n table designated old position results → position.place.index < n
         → NextReady again bytes n table position (length results)
-    unfolding NextReady
     next_ready false once below =
         unfold Going in record_here (underway_on once.further (underway_first once.writable refl refl)) below
     next_ready true gone below = (going_passable true gone, below)
@@ -98,7 +96,7 @@ module _ (bytes : List ℕ) (n : ℕ) (table : Table) (designated : ℕ) (old : 
     pub next_done : (again : Bool) → Going again bytes n table designated old position results → position.place.index < n
         → (here : Position) (behind : List ℕ) → NextDone again bytes n table position results here behind → length behind ≡ length results
         → Going again bytes n table designated old here behind × (here.place.index ≡ suc position.place.index)
-    unfolding Going NextDone
+    unfolding Going
     next_done false once below here behind (is_here, one) same =
         (record { writable = once.writable; further = further_one once.further below is_here one same }, index_at bytes n is_here)
     next_done true gone below here behind more same_size =
@@ -116,7 +114,7 @@ module _ (bytes : List ℕ) (n : ℕ) (table : Table) (designated : ℕ) (old : 
     -- behind the last record
     pub going_done : (again : Bool) → Going again bytes n table designated old position results → n ≤ position.place.index
         → Done again bytes n table designated old results
-    unfolding Going Done
+    unfolding Going
     going_done false once past = all_done once.writable once.further past
     going_done true gone past =
         let all : position.place.index ≡ n = omega (arith, gone.further.walk.inside) in
@@ -126,27 +124,3 @@ module _ (bytes : List ℕ) (n : ℕ) (table : Table) (designated : ℕ) (old : 
               subst (λ (i : ℕ). single.Passed bytes table designated false 0 (opening_under table designated).cusums old i position.state.cusums results)
               all gone.further.passed;
         }
-
--- ---- one record more, by whether the sheet is graded once or again
-
-module _ (bytes : List ℕ) (n : ℕ) (table : Table) (position : Position) {again : Bool} where
-  pub again_ready : again ≡ true → (size : ℕ) → NextReady again bytes n table position size
-      → Passable bytes n position.state.designated (reached_at position) size × (position.place.index < n)
-  unfolding NextReady
-  again_ready is size ready = subst (λ (b : Bool). NextReady b bytes n table position size) is ready
-
-  pub once_ready : again ≡ false → (size : ℕ) → NextReady again bytes n table position size
-      → RecordHere bytes n table position.place position.state size
-  unfolding NextReady
-  once_ready is size ready = subst (λ (b : Bool). NextReady b bytes n table position size) is ready
-
-  module _ (results : List ℕ) (here : Position) (behind : List ℕ) where
-    pub again_done : again ≡ true → GoneAgain bytes n table position results here behind → NextDone again bytes n table position results here behind
-    unfolding NextDone
-    again_done is done = subst⁻¹ (λ (b : Bool). NextDone b bytes n table position results here behind) is done
-
-    pub once_done : again ≡ false
-        → (here ≡ position_at bytes n (suc position.place.index)) × OneMore (sheet_of bytes n) position.place.index results behind
-        → NextDone again bytes n table position results here behind
-    unfolding NextDone
-    once_done is done = subst⁻¹ (λ (b : Bool). NextDone b bytes n table position results here behind) is done

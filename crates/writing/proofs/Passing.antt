@@ -7,6 +7,7 @@ use mathlib.Core.List.{List, ◌++◌}
 use native.Mathlib.Numerals.{add-one}
 use native.Mathlib.Omega.{arith}
 use lib.ListN.{length, drop}
+use Rattle.std.proofs.Common.{Option}
 use Rattle.units.specs.Words.{Table, table_of}
 use Rattle.units.specs.Records.{is_unit_that, units_of, units_among}
 use Rattle.units.specs.declared.SampleUnit.{SampleUnit}
@@ -15,10 +16,9 @@ use Rattle.units.specs.declared.Entry.TheVariants.{UnitRecord, Redesignation, Br
 use Rattle.rules.specs.StepThree.{opening, next, record_ends_step_three}
 use Rattle.rules.specs.Sheet.{Sheet, before, step_three_ends_at}
 use Rattle.rules.specs.declared.State.{State}
-use Rattle.layout.specs.Layout.{plan_of, mark_size, mark_at, size_of, entry_of, offset, entry_at, units_in, units_before}
+use Rattle.layout.specs.Layout.{plan_of, mark_size, mark_at, size_of, entry_of, offset, entry_at, units_before}
 use Rattle.layout.specs.Walk.{first_place, place_at, place_after, largest_offset, RoomPast}
 use Rattle.layout.specs.declared.Mark.{Mark}
-use Rattle.layout.specs.declared.Mark.TheVariants.{UnitMark, RedesignationMark, BreakMark, NoMark}
 use Rattle.layout.specs.declared.Place.{Place}
 use Rattle.layout.proofs.Walk.{mark_here, whole_here, entry_is, next_place, room_past}
 use Rattle.layout.proofs.Units.{units_among_holds, units_mono}
@@ -31,19 +31,6 @@ use Rattle.recording.specs.Recovering.{written_at, written_so_far}
 use Rattle.writing.specs.Writing.{Stands, UnitHere, RecordHere, position_at, OneMore, Underway, Further}
 use Rattle.writing.specs.Writable.{Writable}
 use Rattle.recording.proofs.Recovering.{none_written, all_recovered}
-
--- the mark that a record has by what it reads as
-unfoldable pub mark_for : Entry → Mark
-mark_for (UnitRecord unit) = UnitMark
-mark_for (Redesignation new) = RedesignationMark
-mark_for Break = BreakMark
-
-same_past : (place : Place) (bytes : List ℕ) (at : ℕ) (m : Mark) → place_after place (mark_for (entry_of bytes at m)) ≡ place_after place m
-unfolding mark_for entry_of size_of units_in
-same_past place bytes at UnitMark = refl
-same_past place bytes at RedesignationMark = refl
-same_past place bytes at BreakMark = refl
-same_past place bytes at NoMark = refl
 
 no_unit_ends : (table : Table) (state : State) (entry : Entry) → units_of entry ≡ 0 → record_ends_step_three table state entry ≡ false
 unfolding record_ends_step_three is_unit_that units_of
@@ -62,38 +49,23 @@ module _ {bytes : List ℕ} {n : ℕ} {table : Table} {place : Place} {state : S
   pub mark_inside : place.at + mark_size ≤ length bytes
   mark_inside = mark_here bytes n place stands.walk stands.before_end
 
-  pub record_inside : {m : Mark} → m ≡ mark_at bytes place.at → place.at + size_of m ≤ length bytes
+  pub record_inside : {m : Option Mark} → m ≡ mark_at bytes place.at → place.at + size_of m ≤ length bytes
   record_inside {m} is_mark =
-      subst⁻¹ (λ (x : Mark). place.at + size_of x ≤ length bytes) is_mark (whole_here bytes n place stands.walk stands.before_end)
+      subst⁻¹ (λ (x : Option Mark). place.at + size_of x ≤ length bytes) is_mark (whole_here bytes n place stands.walk stands.before_end)
 
   -- what is read at the place is the record
-  pub read_here : {m : Mark} {entry read : Entry} → m ≡ mark_at bytes place.at → read ≡ entry_of bytes place.at m
+  pub read_here : {m : Option Mark} {entry read : Entry} → m ≡ mark_at bytes place.at → read ≡ entry_of bytes place.at m
       → read ≡ entry → entry_at bytes i ≡ entry
   read_here is_mark is_read same =
       sym (entry_is bytes n place stands.walk stands.before_end) ∙ ap (entry_of bytes place.at) (sym is_mark) ∙ sym is_read ∙ same
 
   module _ {entry : Entry} (reads : entry_at bytes i ≡ entry) where
-    past_is : place_after place (mark_for entry) ≡ place_after place (mark_at bytes place.at)
-    past_is =
-        ap (λ (e : Entry). place_after place (mark_for e)) (sym reads ∙ sym (entry_is bytes n place stands.walk stands.before_end))
-        ∙ same_past place bytes place.at (mark_at bytes place.at)
-
-    -- the numbers of the place past it fit their type
-    pub room_behind : length bytes ≤ largest_offset → RoomPast place (mark_for entry)
-    room_behind fits =
-        let room = room_past bytes n place stands.walk stands.before_end fits in
-        record {
-          records_fit = subst⁻¹ (λ (p : Place). p.index ≤ largest_offset) past_is room.records_fit;
-          offset_fits = subst⁻¹ (λ (p : Place). p.at ≤ largest_offset) past_is room.offset_fits;
-          units_fit = subst⁻¹ (λ (p : Place). p.units ≤ largest_offset) past_is room.units_fit;
-        }
-
-    pub position_behind : {past : Place} {after : State} → past ≡ place_after place (mark_for entry) → after ≡ next table state entry
+    pub position_behind : {past : Place} {after : State} → past ≡ place_after place (mark_at bytes place.at) → after ≡ next table state entry
         → record { place = past; state = after } ≡ position_at bytes n (suc i)
     unfolding position_at before sheet_of
     position_behind is_past is_after =
         ap₂ (λ (p : Place) (s : State). record { place = p; state = s })
-        (is_past ∙ past_is ∙ next_place bytes n place stands.walk stands.before_end ∙ ap (place_at bytes) (add-one i))
+        (is_past ∙ next_place bytes n place stands.walk stands.before_end ∙ ap (place_at bytes) (add-one i))
         (is_after
         ∙ ap₂ (λ (t : Table) (s : State). next t s entry) stands.same_table stands.same_state
         ∙ ap (next sheet.table (before sheet i)) (sym reads))
@@ -108,7 +80,7 @@ module _ {bytes : List ℕ} {n : ℕ} {table : Table} {place : Place} {state : S
 -- ---- a record, as the code reads it: its mark, what that makes of it, and which of the three it is
 
 module _ {bytes : List ℕ} {n : ℕ} {table : Table} {place : Place} {state : State} {size : ℕ} (here : RecordHere bytes n table place state size)
-    {m : Mark} (is_mark : m ≡ mark_at bytes place.at) {read : Entry} (is_read : read ≡ entry_of bytes place.at m) where
+    {m : Option Mark} (is_mark : m ≡ mark_at bytes place.at) {read : Entry} (is_read : read ≡ entry_of bytes place.at m) where
   abbrev reads : {entry : Entry} → read ≡ entry → entry_at bytes place.index ≡ entry
   reads same = read_here here.stands is_mark is_read same
 
@@ -116,13 +88,15 @@ module _ {bytes : List ℕ} {n : ℕ} {table : Table} {place : Place} {state : S
   pub unit_here : {unit : SampleUnit} → read ≡ UnitRecord unit → UnitHere bytes n table place state unit size
   unit_here same = record { stands = here.stands; is_unit = reads same; room = here.room }
 
-  pub room_past_it : {entry : Entry} → read ≡ entry → length bytes ≤ largest_offset → RoomPast place (mark_for entry)
-  room_past_it same fits = room_behind here.stands (reads same) fits
+  -- the numbers of the place past it fit their type
+  pub room_past_it : length bytes ≤ largest_offset → RoomPast place m
+  room_past_it fits = subst⁻¹ (RoomPast place) is_mark (room_past bytes n place here.stands.walk here.stands.before_end fits)
 
   pub position_past_it : {entry : Entry} → read ≡ entry → {past : Place} {after : State}
-      → past ≡ place_after place (mark_for entry) → after ≡ next table state entry
+      → past ≡ place_after place m → after ≡ next table state entry
       → record { place = past; state = after } ≡ position_at bytes n (suc place.index)
-  position_past_it same is_past is_after = position_behind here.stands (reads same) is_past is_after
+  position_past_it same is_past is_after =
+      position_behind here.stands (reads same) (is_past ∙ ap (place_after place) is_mark) is_after
 
   pub nothing_written : {entry : Entry} → read ≡ entry → units_of entry ≡ 0
       → (results : List ℕ) → OneMore (sheet_of bytes n) place.index results results

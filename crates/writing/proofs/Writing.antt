@@ -7,6 +7,7 @@ use mathlib.Core.List.{List}
 use native.Mathlib.Omega.{arith}
 use lib.ListN.{length}
 use lib.Seq.{sets}
+use Rattle.std.proofs.Common.{Some}
 use Rattle.units.specs.Words.{has_plan, Table, tenths_of}
 use Rattle.units.specs.Unit.{defect_grade, qualifies, grading_of, stepped_under}
 use Rattle.units.specs.Records.{is_unit_that, units_among}
@@ -79,7 +80,7 @@ module _ {bytes : List ℕ} {n : ℕ} {table : Table} {place : Place} {state : S
   abbrev i : ℕ
   i = place.index
 
-  has_mark : mark bytes i ≡ UnitMark
+  has_mark : mark bytes i ≡ Some UnitMark
   has_mark = unit_mark bytes i unit here.is_unit
 
   unit_in_sheet : sheet.entry i ≡ UnitRecord unit
@@ -147,11 +148,11 @@ module _ {bytes : List ℕ} {n : ℕ} {table : Table} {place : Place} {state : S
     abbrev k : ℕ
     k = run.start
 
-    mark_first : mark bytes k ≡ UnitMark
+    mark_first : mark bytes k ≡ Some UnitMark
     unfolding sheet_of
     mark_first = unit_mark bytes k run.first.unit run.first.is_unit
 
-    mark_second : mark bytes (suc k) ≡ UnitMark
+    mark_second : mark bytes (suc k) ≡ Some UnitMark
     unfolding sheet_of
     mark_second = unit_mark bytes (suc k) run.second.unit run.second.is_unit
 
@@ -171,7 +172,7 @@ module _ {bytes : List ℕ} {n : ℕ} {table : Table} {place : Place} {state : S
     unfolding size_of
     three_here =
         let whole = whole_here bytes n place here.stands.walk here.stands.before_end in
-        let same : mark_at bytes place.at ≡ UnitMark = ap (mark_at bytes) (at_is bytes n place here.stands.walk) ∙ has_mark in
+        let same : mark_at bytes place.at ≡ Some UnitMark = ap (mark_at bytes) (at_is bytes n place here.stands.walk) ∙ has_mark in
         record {
           two_before = omega (arith, at_first);
           whole = omega (arith, whole, ap size_of same);
@@ -193,11 +194,11 @@ module _ {bytes : List ℕ} {n : ℕ} {table : Table} {place : Place} {state : S
     unfolding sheet_of
     start_of j = ap (λ (units : ℕ). result_size * units) (units_among_holds bytes j)
 
-    in_sheet : (j : ℕ) → mark bytes j ≡ UnitMark → sheet.entry j ≡ UnitRecord (sample_unit_at bytes (offset bytes j))
+    in_sheet : (j : ℕ) → mark bytes j ≡ Some UnitMark → sheet.entry j ≡ UnitRecord (sample_unit_at bytes (offset bytes j))
     unfolding sheet_of
     in_sheet j is_unit = entry_unit bytes j is_unit
 
-    mark_third : mark bytes (suc (suc k)) ≡ UnitMark
+    mark_third : mark bytes (suc (suc k)) ≡ Some UnitMark
     mark_third = sym (ap (mark bytes) run.ends_here) ∙ has_mark
 
     pub step_three_ends : (grading : Grading) → grading ≡ graded table state unit → (results added behind : List ℕ) → length results ≡ size

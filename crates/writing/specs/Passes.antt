@@ -1,16 +1,13 @@
 -- For contracts of private functions: the pass over the records, as a sheet is graded once or again.
-use Rattle.std.specs.Prelude.{ℕ, suc, ◌*◌, ◌<◌, ◌≡◌, Bool, true, false, List, ◌++◌, drop}
-use Rattle.cusum.specs.declared.Cusum.{Cusum}
+use Rattle.std.specs.Prelude.{ℕ, suc, ◌*◌, ◌<◌, ◌≡◌, Bool, true, false, List, ◌++◌, drop, None}
 use Rattle.units.specs.Words.{Table}
-use Rattle.rules.specs.declared.Previous.TheVariants.{NoFailure}
 use Rattle.rules.specs.declared.Phase.TheVariants.{Designated}
-use Rattle.rules.specs.declared.State.{State}
 use Rattle.layout.specs.Layout.{entry_at, units_before}
 use Rattle.results.specs.Record.{result_size}
 use Rattle.results.specs.Written.{written}
 use Rattle.codes.specs.Codes.{ungraded}
 use Rattle.recording.specs.Sheet.{sheet_of, result_of}
-use Rattle.single_plan.specs.Passing.{Passable, Further, opening_under, Through}
+use Rattle.single_plan.specs.Passing.{outside, Passable, Further, opening_under, Through}
 use Rattle.single_plan.specs.declared.Reached.{Reached}
 use Rattle.writing.specs.declared.Position.{Position}
 use Rattle.writing.specs.Writable.{Writable}
@@ -20,14 +17,10 @@ use Rattle.writing.specs.Writing.{RecordHere, position_at, OneMore}
 abbrev pub reached_at : Position → Reached
 reached_at position = record { place = position.place; cusums = position.state.cusums }
 
--- outside step 3, with no failure just before
-abbrev pub outside : ℕ → List Cusum → State
-outside designated cusums = record { designated = designated; previous = NoFailure; phase = Designated; cusums = cusums }
-
 -- units that meet, and breaks, are passed under the designated plan, from a state outside step 3 with no failure just before; from any
 -- other state nothing is
 pub data Met (bytes : List ℕ) (records : ℕ) (table : Table) (position : Position) (results₀ : List ℕ) (here : Position) (results : List ℕ) : Type 0 where
-  some : position.state.phase ≡ Designated → position.state.previous ≡ NoFailure
+  some : position.state.phase ≡ Designated → position.state.previous ≡ None
       → here.state ≡ outside position.state.designated here.state.cusums
       → Further bytes records table position.state.designated true (reached_at position) results₀ (reached_at here) results
       → Met bytes records table position results₀ here results
@@ -40,22 +33,22 @@ pub record GoneAgain (bytes : List ℕ) (records : ℕ) (table : Table) (positio
   pub same_state : here.state ≡ outside position.state.designated here.state.cusums
 
 -- what is asked at a record, and what one record more leaves, graded once and again (true)
-unfoldable pub NextReady : Bool → List ℕ → ℕ → Table → Position → ℕ → Type 0
+abbrev pub NextReady : Bool → List ℕ → ℕ → Table → Position → ℕ → Type 0
 NextReady false bytes records table position size = RecordHere bytes records table position.place position.state size
 NextReady true bytes records table position size =
     Passable bytes records position.state.designated (reached_at position) size × (position.place.index < records)
 
-unfoldable pub NextDone : Bool → List ℕ → ℕ → Table → Position → List ℕ → Position → List ℕ → Type 0
+abbrev pub NextDone : Bool → List ℕ → ℕ → Table → Position → List ℕ → Position → List ℕ → Type 0
 NextDone false bytes records table position old here results =
     (here ≡ position_at bytes records (suc position.place.index)) × OneMore (sheet_of bytes records) position.place.index old results
 NextDone true bytes records table position old here results = GoneAgain bytes records table position old here results
 
 -- what the pass asks, and what it leaves
-unfoldable pub Ready : Bool → List ℕ → ℕ → Table → ℕ → ℕ → Type 0
+abbrev pub Ready : Bool → List ℕ → ℕ → Table → ℕ → ℕ → Type 0
 Ready false bytes records table designated size = Writable bytes records table designated size
 Ready true bytes records table designated size = Passable bytes records designated (opening_under table designated) size
 
-unfoldable pub Done : Bool → List ℕ → ℕ → Table → ℕ → List ℕ → List ℕ → Type 0
+abbrev pub Done : Bool → List ℕ → ℕ → Table → ℕ → List ℕ → List ℕ → Type 0
 Done false bytes records table designated old results =
     results ≡ written (result_of (sheet_of bytes records)) (λ code. ungraded) (entry_at bytes) records ++ drop (result_size * units_before bytes records) old
 Done true bytes records table designated old results = Through bytes records table designated old results

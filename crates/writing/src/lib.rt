@@ -1,32 +1,26 @@
 // Writing the result records of a sheet, no code graded yet.
 #![tactic(auto)]
 
-ghost use Rattle.std.specs.Prelude.{◌≡◌, true, suc, ◌*◌, ◌<◌, ◌++◌, length, drop};
+ghost use Rattle.std.specs.Prelude.{◌≡◌, Bool, true, false, suc, ◌*◌, ◌<◌, ◌++◌, length, drop};
 ghost use Rattle.rules.specs.StepThree.{next, in_step_three};
 ghost use Rattle.units.specs.declared.Entry.TheVariants.{UnitRecord};
 ghost use Rattle.rules.specs.declared.Phase.TheVariants.{Designated};
-ghost use Rattle.rules.specs.declared.Previous.TheVariants.{NoFailure};
 ghost use Rattle.layout.specs.Layout.{entry_at, units_before};
 ghost use Rattle.results.specs.Record.{result_size};
 ghost use Rattle.results.specs.Written.{written};
 ghost use Rattle.codes.specs.Codes.{ungraded};
 ghost use Rattle.recording.specs.Sheet.{sheet_of, result_of};
-ghost use Rattle.single_plan.specs.Passing.{Passable, opening_under, Through};
+ghost use Rattle.single_plan.specs.Passing.{outside, Passable, opening_under, Through};
 ghost use Rattle.writing.specs.Writing.{UnitHere, RecordHere, position_at, OneMore};
 ghost use Rattle.writing.specs.Passes.{reached_at, Met, GoneAgain, NextReady, NextDone, Ready, Done};
 ghost use Rattle.writing.specs.Writable.{Writable};
 
-use layout::{Mark, Place, entry_at, mark_at};
+use layout::{Place, entry_at, mark_at};
 use recording::{recover_three, result_of, write_at};
 use results::RESULT_SIZE;
-use rules::{Phase, Previous, State};
-use single_plan::{Reached, graded_by, write_meeting};
-use units::{Entry, SampleUnit, Table, qualifies_with, row_of, step_classes, step_in_force};
-
-// Whether a sheet is graded by its own plan, or again under a second one.
-const ONCE: bool = false;
-
-const AGAIN: bool = true;
+use rules::{Phase, State};
+use single_plan::{CheckedSheet, Reached, graded_by, outside, write_meeting};
+use units::{Entry, SampleUnit, qualifies_with, row_of, step_classes, step_in_force};
 
 // Where the writing stands: before a record, with the state of the grading there.
 #[derive(Clone, Copy)]
@@ -35,276 +29,214 @@ struct Position {
     state: State,
 }
 
+impl Position {
+    fn reached(self) -> Reached
+        ensures { result ≡ reached_at self }
+    {
+        let cusums = self.state.cusums;
+        Reached {
+            place: self.place,
+            cusums,
+        }
+    }
+
+    // Outside step 3, with no failure just before.
+    fn outside(designated: u8, reached: Reached) -> Position
+        ensures { result ≡ record { place = reached.place; state = outside designated reached.cusums } }
+    {
+        Position {
+            place: reached.place,
+            state: outside(designated, reached.cusums),
+        }
+    }
+}
+
 // Writes what is recorded of a unit under the designated plan: the state after it.
 fn write_designated(
-    bytes: &[u8],
-    records: usize,
-    table: Table,
-    place: Place,
-    state: State,
+    sheet: &CheckedSheet,
+    position: Position,
     unit: SampleUnit,
     results: &mut [u8],
 ) -> State
-    requires { UnitHere bytes.now records table place state unit (length results.old) × (state.phase ≡ Designated) }
-    ensures state { result ≡ next table state (UnitRecord unit) }
-    ensures buffer { OneMore (sheet_of bytes.now records) place.index results.old results.new }
+    requires { UnitHere sheet.now.bytes.now sheet.now.records sheet.now.table.now position.place position.state unit (length results.old) × (position.state.phase ≡ Designated) }
+    ensures state { result ≡ next sheet.now.table.now position.state (UnitRecord unit) }
+    ensures buffer { OneMore (sheet_of sheet.now.bytes.now sheet.now.records) position.place.index results.old results.new }
 {
-    let before = state.cusums;
-    let stepped = step_classes(row_of(table, state.designated), before, unit);
-    let grading = graded_by(table, state.designated, unit, stepped);
+    let state = position.state;
+    let row = row_of(*sheet.table, state.designated);
+    let stepped = step_classes(row, state.cusums, unit);
+    let grading = graded_by(*sheet.table, state.designated, unit, stepped);
+    write_at(
+        results,
+        RESULT_SIZE * position.place.units,
+        result_of(state, unit, grading),
+    );
+    state.after_unit(*sheet.table, grading, false)
+}
+
+// The same for a unit in step 3; where step 3 ends, it and the two before it are recovered.
+fn write_step_three(
+    sheet: &CheckedSheet,
+    position: Position,
+    unit: SampleUnit,
+    results: &mut [u8],
+) -> State
+    requires { UnitHere sheet.now.bytes.now sheet.now.records sheet.now.table.now position.place position.state unit (length results.old) × (in_step_three position.state.phase ≡ true) }
+    ensures state { result ≡ next sheet.now.table.now position.state (UnitRecord unit) }
+    ensures buffer { OneMore (sheet_of sheet.now.bytes.now sheet.now.records) position.place.index results.old results.new }
+{
+    let place = position.place;
+    let state = position.state;
+    let table = *sheet.table;
+    let lower = state.in_force();
+    let stepped = step_in_force(table, lower, state.cusums, unit);
+    let grading = graded_by(table, lower, unit, stepped);
+    let qualifies = qualifies_with(table, state.designated, grading.cusums, unit);
     write_at(
         results,
         RESULT_SIZE * place.units,
         result_of(state, unit, grading),
     );
-    state.after_unit(table, grading, false)
-}
-
-// The same for a unit in step 3; where step 3 ends, it and the two before it are recovered.
-fn write_step_three(
-    bytes: &[u8],
-    records: usize,
-    table: Table,
-    place: Place,
-    state: State,
-    unit: SampleUnit,
-    results: &mut [u8],
-) -> State
-    requires { UnitHere bytes.now records table place state unit (length results.old) × (in_step_three state.phase ≡ true) }
-    ensures state { result ≡ next table state (UnitRecord unit) }
-    ensures buffer { OneMore (sheet_of bytes.now records) place.index results.old results.new }
-{
-    let start = RESULT_SIZE * place.units;
-    let phase = state.phase;
-    let before = state.cusums;
-    let lower = state.in_force();
-    let stepped = step_in_force(table, lower, before, unit);
-    let grading = graded_by(table, lower, unit, stepped);
-    let new = grading.cusums;
-    let qualifies = qualifies_with(table, state.designated, new, unit);
-    let after = state.after_unit(table, grading, qualifies);
-    write_at(results, start, result_of(state, unit, grading));
-    if phase.ends_step_three(qualifies) {
-        recover_three(bytes, place, state.designated, results);
+    if state.phase.ends_step_three(qualifies) {
+        recover_three(sheet.bytes, place, state.designated, results);
     }
-    after
+    state.after_unit(table, grading, qualifies)
 }
 
 // The same in any phase. Each has a path of its own: one for both keeps the table in memory.
 fn write_unit(
-    bytes: &[u8],
-    records: usize,
-    table: Table,
-    place: Place,
-    state: State,
+    sheet: &CheckedSheet,
+    position: Position,
     unit: SampleUnit,
     results: &mut [u8],
 ) -> State
-    requires { UnitHere bytes.now records table place state unit (length results.old) }
-    ensures state { result ≡ next table state (UnitRecord unit) }
-    ensures buffer { OneMore (sheet_of bytes.now records) place.index results.old results.new }
+    requires { UnitHere sheet.now.bytes.now sheet.now.records sheet.now.table.now position.place position.state unit (length results.old) }
+    ensures state { result ≡ next sheet.now.table.now position.state (UnitRecord unit) }
+    ensures buffer { OneMore (sheet_of sheet.now.bytes.now sheet.now.records) position.place.index results.old results.new }
 {
-    let phase = state.phase;
-    match phase {
-        Phase::Designated => write_designated(bytes, records, table, place, state, unit, results),
-        Phase::StepThree { lower: _, run: _ } => {
-            write_step_three(bytes, records, table, place, state, unit, results)
-        }
+    match position.state.phase {
+        Phase::Designated => write_designated(sheet, position, unit, results),
+        Phase::StepThree { .. } => write_step_three(sheet, position, unit, results),
     }
 }
 
 // Writes what the record at a position writes, and goes past it.
-fn write_here(
-    bytes: &[u8],
-    records: usize,
-    table: Table,
-    position: Position,
-    results: &mut [u8],
-) -> Position
-    requires { RecordHere bytes.now records table position.place position.state (length results.old) }
-    ensures position { result ≡ position_at bytes.now records (suc position.place.index) }
-    ensures buffer { OneMore (sheet_of bytes.now records) position.place.index results.old results.new }
+fn write_here(sheet: &CheckedSheet, position: Position, results: &mut [u8]) -> Position
+    requires { RecordHere sheet.now.bytes.now sheet.now.records sheet.now.table.now position.place position.state (length results.old) }
+    ensures position { result ≡ position_at sheet.now.bytes.now sheet.now.records (suc position.place.index) }
+    ensures buffer { OneMore (sheet_of sheet.now.bytes.now sheet.now.records) position.place.index results.old results.new }
 {
     let place = position.place;
-    let state = position.state;
-    match entry_at(bytes, place.at, mark_at(bytes, place.at)) {
-        Entry::UnitRecord(unit) => {
-            let after = write_unit(bytes, records, table, place, state, unit, results);
-            Position {
-                place: place.past(Mark::UnitMark),
-                state: after,
-            }
-        }
-        Entry::Redesignation(new) => Position {
-            place: place.past(Mark::RedesignationMark),
-            state: state.after_redesignation(table, new),
-        },
-        Entry::Break => Position {
-            place: place.past(Mark::BreakMark),
-            state: state.after_break(table),
-        },
+    let mark = mark_at(sheet.bytes, place.at);
+    let state = match entry_at(sheet.bytes, place.at, mark) {
+        Entry::UnitRecord(unit) => write_unit(sheet, position, unit, results),
+        Entry::Redesignation(new) => position.state.after_redesignation(*sheet.table, new),
+        Entry::Break => position.state.after_break(*sheet.table),
+    };
+    Position {
+        place: place.past(mark),
+        state,
     }
 }
 
 // Goes past units that meet the designated plan, with what they write, and past breaks: up to a unit that fails, a redesignation or the
 // end. Most records of most sheets are such.
-fn write_while_met(
-    bytes: &[u8],
-    records: usize,
-    table: Table,
-    start: Position,
-    results: &mut [u8],
-) -> Position
-    requires { Passable bytes.now records start.state.designated (reached_at start) (length results.old) × (start.state.phase ≡ Designated) × (start.state.previous ≡ NoFailure) }
-    ensures { Met bytes.now records table start results.old result results.new }
+#[inline(always)]
+fn write_while_met(sheet: &CheckedSheet, position: Position, results: &mut [u8]) -> Position
+    requires { Passable sheet.now.bytes.now sheet.now.records position.state.designated (reached_at position) (length results.old) × (position.state.phase ≡ Designated) × (position.state.previous ≡ None) }
+    ensures { Met sheet.now.bytes.now sheet.now.records sheet.now.table.now position results.old result results.new }
 {
-    let from = start.place;
-    let state = start.state;
-    let before = state.cusums;
-    let row = row_of(table, state.designated);
-    let standing = Reached {
-        place: from,
-        cusums: before,
-    };
-    let reached = write_meeting(bytes, records, row, state.designated, standing, results);
-    let place = reached.place;
-    let cusums = reached.cusums;
-    let outside = State {
-        designated: state.designated,
-        previous: Previous::NoFailure,
-        phase: Phase::Designated,
-        cusums: cusums,
-    };
-    Position {
-        place: place,
-        state: outside,
-    }
+    let designated = position.state.designated;
+    let reached = write_meeting(sheet, designated, position.reached(), results);
+    Position::outside(designated, reached)
 }
 
 // Goes past such records if the designated plan is in force and no unit just before failed: where one did, the next may well fail, too,
 // and would be stepped twice. A regrading remembers no failure.
-fn past_meeting(
-    bytes: &[u8],
-    records: usize,
-    table: Table,
-    position: Position,
-    results: &mut [u8],
-) -> Position
-    requires { Passable bytes.now records position.state.designated (reached_at position) (length results.old) }
-    ensures { Met bytes.now records table position results.old result results.new }
+#[inline(always)]
+fn past_meeting(sheet: &CheckedSheet, position: Position, results: &mut [u8]) -> Position
+    requires { Passable sheet.now.bytes.now sheet.now.records position.state.designated (reached_at position) (length results.old) }
+    ensures { Met sheet.now.bytes.now sheet.now.records sheet.now.table.now position results.old result results.new }
 {
-    let state = position.state;
-    let phase = state.phase;
-    let previous = state.previous;
-    match phase {
-        Phase::Designated => match previous {
-            Previous::NoFailure => write_while_met(bytes, records, table, position, results),
-            Previous::Failure(_) => position,
-        },
-        Phase::StepThree { lower: _, run: _ } => position,
+    match (position.state.phase, position.state.previous) {
+        (Phase::Designated, None) => write_while_met(sheet, position, results),
+        _ => position,
     }
 }
 
 // Writes what the record at a position writes where a sheet is graded again, and goes past it: the designated plan stays in force, and no
 // failure is remembered.
-fn write_again_here(
-    bytes: &[u8],
-    records: usize,
-    table: Table,
-    position: Position,
-    results: &mut [u8],
-) -> Position
-    requires { Passable bytes.now records position.state.designated (reached_at position) (length results.old) × (position.place.index < records) }
-    ensures { GoneAgain bytes.now records table position results.old result results.new }
+fn write_again_here(sheet: &CheckedSheet, position: Position, results: &mut [u8]) -> Position
+    requires { Passable sheet.now.bytes.now sheet.now.records position.state.designated (reached_at position) (length results.old) × (position.place.index < sheet.now.records) }
+    ensures { GoneAgain sheet.now.bytes.now sheet.now.records sheet.now.table.now position results.old result results.new }
 {
-    let from = position.place;
-    let state = position.state;
-    let before = state.cusums;
-    let standing = Reached {
-        place: from,
-        cusums: before,
-    };
-    let reached = single_plan::write_here(
-        bytes,
-        records,
-        table,
-        state.designated,
-        standing,
-        results,
-    );
-    let place = reached.place;
-    let cusums = reached.cusums;
-    let outside = State {
-        designated: state.designated,
-        previous: Previous::NoFailure,
-        phase: Phase::Designated,
-        cusums: cusums,
-    };
-    Position {
-        place: place,
-        state: outside,
+    let designated = position.state.designated;
+    let reached = single_plan::write_here(sheet, designated, position.reached(), results);
+    Position::outside(designated, reached)
+}
+
+// How a record is passed at which the units that meet the designated plan end.
+trait Course {
+    // Whether the sheet is graded again under a second plan, and not by its own.
+    ghost again: { Bool };
+
+    // Writes what the record at a position writes, and goes past it.
+    fn write_next(sheet: &CheckedSheet, position: Position, results: &mut [u8]) -> Position
+        requires { NextReady again sheet.now.bytes.now sheet.now.records sheet.now.table.now position (length results.old) }
+        ensures { NextDone again sheet.now.bytes.now sheet.now.records sheet.now.table.now position results.old result results.new };
+}
+
+struct Once;
+
+struct Again;
+
+impl Course for Once {
+    ghost again = { false };
+
+    fn write_next(sheet: &CheckedSheet, position: Position, results: &mut [u8]) -> Position {
+        write_here(sheet, position, results)
     }
 }
 
-// Writes what the record at a position writes, graded once or again, and goes past it.
-fn write_next(
-    bytes: &[u8],
-    records: usize,
-    table: Table,
-    position: Position,
-    again: bool,
-    results: &mut [u8],
-) -> Position
-    requires { NextReady again bytes.now records table position (length results.old) }
-    ensures { NextDone again bytes.now records table position results.old result results.new }
-{
-    if again {
-        return write_again_here(bytes, records, table, position, results);
+impl Course for Again {
+    ghost again = { true };
+
+    fn write_next(sheet: &CheckedSheet, position: Position, results: &mut [u8]) -> Position {
+        write_again_here(sheet, position, results)
     }
-    write_here(bytes, records, table, position, results)
 }
 
 // Writes the result records of a sheet, one after the other from the buffer's start, no code graded yet. Where it is graded again, failures
 // in a row and redesignations mean nothing.
-fn write_pass(
-    bytes: &[u8],
-    records: usize,
-    table: Table,
-    designated: u8,
-    again: bool,
-    results: &mut [u8],
-)
-    requires { Ready again bytes.now records table designated (length results.old) }
-    ensures { Done again bytes.now records table designated results.old results.new }
+fn write_pass<C: Course>(sheet: &CheckedSheet, designated: u8, results: &mut [u8])
+    requires { Ready C.again sheet.now.bytes.now sheet.now.records sheet.now.table.now designated (length results.old) }
+    ensures { Done C.again sheet.now.bytes.now sheet.now.records sheet.now.table.now designated results.old results.new }
 {
     let mut position = Position {
         place: Place::first(),
-        state: State::opening(table, designated),
+        state: State::opening(*sheet.table, designated),
     };
-    let mut done: usize = 0;
-    while done < records {
-        position = past_meeting(bytes, records, table, position, results);
-        let place = position.place;
-        done = place.index;
-        if done < records {
-            position = write_next(bytes, records, table, position, again, results);
-            done += 1;
+    while position.place.index < sheet.records {
+        position = past_meeting(sheet, position, results);
+        if sheet.records <= position.place.index {
+            return;
         }
+        position = C::write_next(sheet, position, results);
     }
 }
 
 // Writes the result records of a sheet as it is graded.
-pub fn write_records(bytes: &[u8], records: usize, table: Table, designated: u8, results: &mut [u8])
-    requires { Writable bytes.now records table designated (length results.old) }
-    ensures { results.new ≡ written (result_of (sheet_of bytes.now records)) (λ code. ungraded) (entry_at bytes.now) records ++ drop (result_size * units_before bytes.now records) results.old }
+pub fn write_records(sheet: &CheckedSheet, designated: u8, results: &mut [u8])
+    requires { Writable sheet.now.bytes.now sheet.now.records sheet.now.table.now designated (length results.old) }
+    ensures { results.new ≡ written (result_of (sheet_of sheet.now.bytes.now sheet.now.records)) (λ code. ungraded) (entry_at sheet.now.bytes.now) sheet.now.records ++ drop (result_size * units_before sheet.now.bytes.now sheet.now.records) results.old }
 {
-    write_pass(bytes, records, table, designated, ONCE, results);
+    write_pass::<Once>(sheet, designated, results);
 }
 
 // The same where it is graded again under this plan, from the opening on.
-pub fn write_again(bytes: &[u8], records: usize, table: Table, designated: u8, results: &mut [u8])
-    requires { Passable bytes.now records designated (opening_under table designated) (length results.old) }
-    ensures { Through bytes.now records table designated results.old results.new }
+pub fn write_again(sheet: &CheckedSheet, designated: u8, results: &mut [u8])
+    requires { Passable sheet.now.bytes.now sheet.now.records designated (opening_under sheet.now.table.now designated) (length results.old) }
+    ensures { Through sheet.now.bytes.now sheet.now.records sheet.now.table.now designated results.old results.new }
 {
-    write_pass(bytes, records, table, designated, AGAIN, results);
+    write_pass::<Again>(sheet, designated, results);
 }

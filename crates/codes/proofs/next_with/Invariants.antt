@@ -1,10 +1,7 @@
--- The loop's invariant: no record from the first to `j` has the code.
-use Prim.Native.Nat.{◌-◌, ◌≤◌}
-use Rattle.codes.specs.OneCode.{NextWith}
+-- The loop's invariant: no record of the rows that are passed has the code.
+use Rattle.std.proofs.Common.{◌*◌}
+use Rattle.codes.specs.OneCode.{NoneWith}
 use Rattle.codes.proofs.next_with.Given as goal
 
-abbrev pub invariant-loop-j : goal.invariant-loop-j
-invariant-loop-j l = (l.j ≤ l.units) × NextWith l.results l.code l.from l.j l.j
-
-abbrev pub decreases-loop-j : goal.decreases-loop-j
-decreases-loop-j l = l.units - l.j
+abbrev pub invariant-loop-row : goal.invariant-loop-row
+invariant-loop-row l = NoneWith l.fn.records l.code (8 * l.row)

@@ -1,11 +1,12 @@
--- The loop's invariant: the records before `j` are written, and `j` has the code or is behind the last.
-use mathlib.Core.Path.{refl}
-use Rattle.codes.proofs.OneCode.{written_start, written_next}
+-- The loop's invariant: the grade is written in the records of the code before this one.
+use Rattle.codes.proofs.OneCode.{written_start, written_next, written_end}
 use Rattle.codes.proofs.write_code.Goals as goal
 
-pub loop-j-init : goal.loop-j-init
-loop-j-init c = written_start c.args.grade c.requires
+pub loop-next-init : goal.loop-next-init
+loop-next-init c = written_start c.args.grade c.requires
 
-pub loop-j-preserved : goal.loop-j-preserved
-loop-j-preserved c =
-    written_next c.loop-j.invariant c.loop-j-test.true refl c.next_with-j.ensures
+pub loop-next-preserved : goal.loop-next-preserved
+loop-next-preserved c = written_next c.loop-next.invariant c.records_of.ensures.records c.in-Some.ensures
+
+pub returns : goal.returns
+returns c = written_end c.loop-next.invariant c.records_of.ensures.records c.in_default.ensures

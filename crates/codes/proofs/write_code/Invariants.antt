@@ -1,10 +1,11 @@
--- The loop's invariant: the records before `j` are written, and `j` has the code or is behind the last.
-use Prim.Native.Nat.{◌-◌}
+-- The loop's invariant: the grade is written in the records of the code before this one.
+use Rattle.std.proofs.Common.{◌-◌}
+use Rattle.codes.specs.Codes.{result_records}
 use Rattle.codes.proofs.OneCode.{Written}
 use Rattle.codes.proofs.write_code.Given as goal
 
-abbrev pub invariant-loop-j : goal.invariant-loop-j
-invariant-loop-j l = Written l.initial.results l.code l.grade l.units l.j l.results
+abbrev pub invariant-loop-next : goal.invariant-loop-next
+invariant-loop-next l = Written l.initial.results l.code l.grade (result_records l.initial.results) l.from l.results
 
-abbrev pub decreases-loop-j : goal.decreases-loop-j
-decreases-loop-j l = l.units - l.j
+abbrev pub decreases-loop-next : goal.decreases-loop-next
+decreases-loop-next l = result_records l.results - l.from

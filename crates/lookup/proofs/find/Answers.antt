@@ -1,20 +1,22 @@
--- The part lies inside the results, so that its end is no sum that wraps; what is handed back is that part, where it is.
-use mathlib.Core.Path.{◌∙◌, ap}
-use native.Mathlib.Omega.{arith}
-use Rattle.lookup.specs.Lookup.{handed_as}
-use Rattle.lookup.proofs.Cases.{part_inside, handed_part}
+-- By the case of the look-up: the reading gives the first of the worst portions, and the part is that record, where it is in memory.
+use Rattle.std.proofs.Common.{sym}
+use Rattle.lookup.proofs.Cases.{refused_is, reading_found, reading_none, found_part, handed_part, handed_nothing}
 use Rattle.lookup.proofs.find.Goals as goal
 
-pub overflow_add-end : goal.overflow_add-end
-overflow_add-end c =
-    let place = c.find_place-part in
-    let args = c.args in
-    omega (arith, part_inside args.results.now args.code place.result place.ensures)
+pub returns-then-results-ne0 : goal.returns-then-results-ne0
+returns-then-results-ne0 c =
+    let results = c.args.results in
+    let is = refused_is results.now c.args.code c.if-results-ne0.true in
+    record { place = sym is; back = handed_nothing results.now c.args.code 19 results.ref_ptr is }
 
-pub slice_bounds-result-end : goal.slice_bounds-result-end
-slice_bounds-result-end c = let place = c.find_place-part in part_inside _ _ place.result place.ensures
+pub returns-in_default : goal.returns-in_default
+returns-in_default c =
+    let results = c.args.results in
+    let is = reading_none results.now c.args.code c.if-results-ne0.false c.read_records.ensures c.in_default.is in
+    record { place = sym is; back = handed_nothing results.now c.args.code 1 results.ref_ptr is }
 
 pub returns : goal.returns
 returns c =
     let results = c.args.results in
-    handed_part results.ref_ptr results.now c.find_place-part.result ∙ ap (handed_as results.ref_ptr results.now) c.find_place-part.ensures
+    let is = reading_found results.now c.args.code c.if-results-ne0.false c.read_records.ensures c.in-Some.is in
+    record { place = found_part results.now c.args.code _ is; back = handed_part results.now c.args.code _ is results.ref_ptr }

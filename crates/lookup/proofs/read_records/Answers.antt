@@ -1,25 +1,27 @@
--- The loop's invariant: what is found so far, with so many records read.
-use mathlib.Core.Path.{sym, ◌∙◌}
-use borrow.Author.Rules.{rules}
-use borrow.Author.Tests.{eqb-true}
-use Rattle.lookup.proofs.SoFar.{no_worse, worse_here, ends_here, ends_all}
+-- The loop's invariant: what is found in the records before the rest.
+use Rattle.std.proofs.Common.{◌∙◌, sym, ap, eqb-true}
+use Rattle.std.proofs.lemmas.Bool.{eqb-false}
+use Rattle.lookup.proofs.SoFar.{reads_start, reads_end, reads_no_worse, reads_others, reads_worse, reads_ends}
 use Rattle.lookup.proofs.read_records.Goals as goal
 
 pub returns-then-grade-ge-SUBSTANDARD : goal.returns-then-grade-ge-SUBSTANDARD
 returns-then-grade-ge-SUBSTANDARD c =
-    let loop = c.loop-read in
-    let own = eqb-true _ _ (sym c.holds_at.ensures ∙ c.if-holds_at.true) in
-    ends_here _ _ loop.invariant.1 c.loop-read-test.true own c.if-grade-ge-SUBSTANDARD.true
+    let own = eqb-true _ _ (sym c.has_code.ensures ∙ c.if-has_code.true) in
+    reads_ends c.loop-record.invariant c.in-Some.ensures.cases.0 _ c.records_of-records.ensures.many own c.if-grade-ge-SUBSTANDARD.true
 
-pub loop-read-preserved-then-next_worse-grade : goal.loop-read-preserved-then-next_worse-grade
-loop-read-preserved-then-next_worse-grade c =
-    let loop = c.loop-read in (
-      search rules,
-      worse_here _ _ loop.invariant.1 (eqb-true _ _ (sym c.holds_at.ensures ∙ c.if-holds_at.true)) c.if-next_worse-grade.true c.if-grade-ge-SUBSTANDARD.false,
-    )
+pub loop-record-preserved-else-grade-ge-SUBSTANDARD : goal.loop-record-preserved-else-grade-ge-SUBSTANDARD
+loop-record-preserved-else-grade-ge-SUBSTANDARD c =
+    let own = eqb-true _ _ (sym c.has_code.ensures ∙ c.if-has_code.true) in
+    reads_worse c.loop-record.invariant c.in-Some.ensures.cases.0 _ c.records_of-records.ensures.many own c.if-next_worse-grade.true
+    c.if-grade-ge-SUBSTANDARD.false
 
-pub loop-read-preserved-else-next_worse-grade : goal.loop-read-preserved-else-next_worse-grade
-loop-read-preserved-else-next_worse-grade c = let loop = c.loop-read in (search rules, no_worse _ _ loop.invariant.1 c.if-next_worse-grade.false)
+pub loop-record-preserved-else-next_worse-grade : goal.loop-record-preserved-else-next_worse-grade
+loop-record-preserved-else-next_worse-grade c = reads_no_worse c.loop-record.invariant c.in-Some.ensures.cases.0 c.if-next_worse-grade.false
+
+pub loop-record-preserved : goal.loop-record-preserved
+loop-record-preserved c =
+    let other = eqb-false _ _ (sym c.has_code.ensures ∙ c.if-has_code.false) in
+    rw c.unwrap_or.ensures (reads_others c.loop-record.invariant c.in-Some.ensures.cases.0 _ other c.next_with.ensures)
 
 pub returns : goal.returns
-returns c = let loop = c.loop-read in ends_all _ _ loop.invariant.1 c.loop-read-test.false loop.invariant.0
+returns c = reads_end _ c.loop-record.invariant c.records_of-records.ensures.many c.in_default.ensures.cases

@@ -1,10 +1,10 @@
--- The loop's invariant: what is found so far, with so many records read.
-use Prim.Native.Nat.{◌-◌, ◌≤◌}
-use Rattle.lookup.proofs.SoFar.{SoFar}
+-- The loop's invariant: what is found in the records before the rest.
+use Rattle.std.proofs.Common.{length}
+use Rattle.lookup.proofs.SoFar.{Reads}
 use Rattle.lookup.proofs.read_records.Given as goal
 
-abbrev pub invariant-loop-read : goal.invariant-loop-read
-invariant-loop-read l = (l.read ≤ l.records) × SoFar l.results l.code l.first l.next_worse l.read
+abbrev pub invariant-loop-record : goal.invariant-loop-record
+invariant-loop-record l = Reads l.results l.code l.first l.next_worse l.rest
 
-abbrev pub decreases-loop-read : goal.decreases-loop-read
-decreases-loop-read l = l.records - l.read
+abbrev pub decreases-loop-record : goal.decreases-loop-record
+decreases-loop-record l = length l.rest

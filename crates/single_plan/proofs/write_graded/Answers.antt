@@ -12,4 +12,4 @@ pub returns : goal.returns
 returns c =
     c.write_at.ensures
     ∙ ap (λ (r : ResultRecord). sets c.args.results.now (result_size * c.args.place.units) (result_bytes ungraded r))
-    (c.result_of.ensures ∙ result_outside _ _ _ refl)
+    (c.result_of.ensures ∙ rw c.outside.ensures (result_outside _ _ _ refl))

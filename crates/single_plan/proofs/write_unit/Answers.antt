@@ -16,5 +16,5 @@ returns-clause-grading c =
 pub returns-clause-buffer : goal.returns-clause-buffer
 returns-clause-buffer c =
     c.write_graded.ensures
-    ∙ ap (λ (g : Grading). sets c.args.results.now (result_size * c.args.place.units) (result_bytes ungraded (result_under c.args.designated c.args.unit g)))
+    ∙ ap (λ (g : Grading). sets c.args.results.now (result_size * c.args.here.place.units) (result_bytes ungraded (result_under c.args.designated c.args.unit g)))
     (stepped_grading _ _ _ c.args.unit c.requires.1 c.row_of.ensures c.step_classes-stepped.ensures c.graded_by-grading.ensures)

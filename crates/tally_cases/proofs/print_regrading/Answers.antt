@@ -1,12 +1,7 @@
--- It is safe: the second plan lies inside its room, and the text inside its array.
-use Rattle.std.proofs.Common.{sym, length-take-le}
-use Rattle.text.proofs.Printed.{text_inside}
+-- The text that is made is that of the regrading.
+use Rattle.std.proofs.Common.{rules}
+use Rattle.regrade_lines.specs.RegradeLines.{regrade_printed}
 use Rattle.tally_cases.proofs.print_regrading.Goals as goal
 
-pub slice_bounds-text-end : goal.slice_bounds-text-end
-slice_bounds-text-end g c = text_inside _ _ c.print_regrading_into-end.ensures
-
-pub slice_bounds-write_all-end : goal.slice_bounds-write_all-end
-slice_bounds-write_all-end g c =
-    let print = c.print_regrading_into-end in
-    sym (length-take-le print.result print.new.text (text_inside _ _ print.ensures))
+pub print_text-requires-clause-made : goal.print_text-requires-clause-made
+print_text-requires-clause-made g c = (regrade_printed c.args.sheet.now c.in_ok-plan.plan.now, λ after end made. search rules)

@@ -19,6 +19,3 @@ Stepped row cusums counts new over failed class =
 
 abbrev pub invariant-loop-class : goal.invariant-loop-class
 invariant-loop-class l = Stepped l.row l.cusums l.tenths l.new l.over l.fails l.class
-
-abbrev pub decreases-loop-class : goal.decreases-loop-class
-decreases-loop-class l = length classes - l.class

@@ -1,12 +1,11 @@
--- The loop's invariant: the pass, graded once or again, has gone on from the opening to the position, which is before the record `done`.
+-- The loop's invariant: the pass, graded once or again, has gone on from the opening to the position.
 use Prim.Native.Nat.{◌-◌}
-use mathlib.Core.Path.{◌≡◌}
 use Rattle.writing.proofs.Passes.{Going}
 use Rattle.writing.proofs.write_pass.Given as goal
 
-abbrev pub invariant-loop-done : goal.invariant-loop-done
-invariant-loop-done l =
-    Going l.again l.bytes l.records l.table l.designated l.initial.results l.position l.results × (l.done ≡ l.position.place.index)
+abbrev pub invariant-loop-position : goal.invariant-loop-position
+invariant-loop-position g l =
+    Going g.C.Course.again l.sheet.bytes.now l.sheet.records l.sheet.table.now l.designated l.initial.results l.position l.results
 
-abbrev pub decreases-loop-done : goal.decreases-loop-done
-decreases-loop-done l = l.records - l.done
+abbrev pub decreases-loop-position : goal.decreases-loop-position
+decreases-loop-position g l = l.sheet.records - l.position.place.index

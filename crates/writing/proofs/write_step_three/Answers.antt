@@ -2,9 +2,10 @@
 use native.Mathlib.Omega.{arith}
 use Rattle.writing.proofs.Writing.{room_for_record, state_behind, three_to_recover, written_going_on, written_at_end}
 use Rattle.writing.proofs.write_step_three.Goals as goal
+use Rattle.writing.proofs.write_step_three.Goals.{then-ends_step_three, else-ends_step_three}
 
-pub overflow_mul-start : goal.overflow_mul-start
-overflow_mul-start c =
+pub overflow_mul-place : goal.overflow_mul-place
+overflow_mul-place c =
     let room = room_for_record c.requires.0 in
     omega arith
 
@@ -17,24 +18,22 @@ recover_three-requires c =
     c.graded_by-grading.ensures c.qualifies_with-qualifies.ensures
     c.ends_step_three.ensures c.if-ends_step_three.true _ (omega arith)
 
-pub returns-then-ends_step_three-clause-state : goal.returns-then-ends_step_three-clause-state
-returns-then-ends_step_three-clause-state c =
+pub returns-clause-state : goal.returns-clause-state
+returns-clause-state c =
     state_behind c.args.results.now c.requires.0 c.requires.1 c.in_force-lower.ensures c.step_in_force-stepped.ensures
-    c.graded_by-grading.ensures c.qualifies_with-qualifies.ensures c.after_unit-after.ensures
+    c.graded_by-grading.ensures c.qualifies_with-qualifies.ensures c.after_unit.ensures
 
-pub returns-then-ends_step_three-clause-buffer : goal.returns-then-ends_step_three-clause-buffer
-returns-then-ends_step_three-clause-buffer c =
-    written_at_end c.args.results.now c.requires.0 c.requires.1 c.in_force-lower.ensures c.step_in_force-stepped.ensures
-    c.graded_by-grading.ensures c.qualifies_with-qualifies.ensures c.result_of.ensures c.write_at.ensures
-    c.ends_step_three.ensures c.if-ends_step_three.true c.recover_three.ensures
-
-pub returns-else-ends_step_three-clause-state : goal.returns-else-ends_step_three-clause-state
-returns-else-ends_step_three-clause-state c =
-    state_behind c.args.results.now c.requires.0 c.requires.1 c.in_force-lower.ensures c.step_in_force-stepped.ensures
-    c.graded_by-grading.ensures c.qualifies_with-qualifies.ensures c.after_unit-after.ensures
-
-pub returns-else-ends_step_three-clause-buffer : goal.returns-else-ends_step_three-clause-buffer
-returns-else-ends_step_three-clause-buffer c =
-    written_going_on c.args.results.now c.requires.0 c.requires.1 c.in_force-lower.ensures c.step_in_force-stepped.ensures
-    c.graded_by-grading.ensures c.qualifies_with-qualifies.ensures c.result_of.ensures c.write_at.ensures
-    c.ends_step_three.ensures c.if-ends_step_three.false
+pub returns-clause-buffer : goal.returns-clause-buffer
+returns-clause-buffer c =
+    elim c.if-ends_step_three.branch [
+      | then-ends_step_three w ↦
+          rw w.results-is
+          (written_at_end c.args.results.now c.requires.0 c.requires.1 c.in_force-lower.ensures c.step_in_force-stepped.ensures
+          c.graded_by-grading.ensures c.qualifies_with-qualifies.ensures c.result_of.ensures c.write_at.ensures
+          c.ends_step_three.ensures w.if-ends_step_three.true w.recover_three.ensures)
+      | else-ends_step_three w ↦
+          rw w.results-is
+          (written_going_on c.args.results.now c.requires.0 c.requires.1 c.in_force-lower.ensures c.step_in_force-stepped.ensures
+          c.graded_by-grading.ensures c.qualifies_with-qualifies.ensures c.result_of.ensures c.write_at.ensures
+          c.ends_step_three.ensures w.if-ends_step_three.false)
+    ]

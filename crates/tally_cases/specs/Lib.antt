@@ -1,0 +1,4 @@
+pub mod Kind
+pub mod Stop
+pub mod Sized
+pub mod Texts
