@@ -9,7 +9,7 @@ use Rattle.units.specs.Records.{is_unit_that}
 use Rattle.units.specs.declared.SampleUnit.{SampleUnit}
 use Rattle.units.specs.declared.Entry.{Entry}
 use Rattle.units.specs.declared.Entry.TheVariants.{UnitRecord, Redesignation, Break}
-use Rattle.units.proofs.Tests.{and_false}
+use Rattle.std.proofs.Math.Bool.{and-false}
 use Rattle.units.proofs.Monotone.{counts_fewer, NoHigher, same_no_higher, class_cusum_mono, class_overshoot_mono, cusums_mono, class_fails_mono, unit_fails_mono, defect_grade_mono}
 use Rattle.rules.specs.StepThree.{in_step_three, in_force_in, two_in_a_row, failure_after, ends_step_three, with_unit, without_run, restarted, graded, qualifies_in, after_break, next, record_ends_step_three}
 use Rattle.rules.specs.Sheet.{Sheet, before, in_force_at, step_three_ends_at, in_finished_run, recovered, portion_grade, code_grade}
@@ -196,11 +196,11 @@ module _ (table : Table) (designated : ℕ) (es fs : ℕ → Entry) (size : ℕ)
 
     recovered_first : (i : ℕ) (u : SampleUnit) → recovered first i u ≡ false
     unfolding recovered in_finished_run
-    recovered_first i u = simp (ends_first i, ends_first (i + 1), ends_first (i + 2)) (and_false u.recoverable)
+    recovered_first i u = simp (ends_first i, ends_first (i + 1), ends_first (i + 2)) (and-false u.recoverable)
 
     recovered_second : (i : ℕ) (v : SampleUnit) → recovered second i v ≡ false
     unfolding recovered in_finished_run
-    recovered_second i v = simp (ends_second i, ends_second (i + 1), ends_second (i + 2)) (and_false v.recoverable)
+    recovered_second i v = simp (ends_second i, ends_second (i + 1), ends_second (i + 2)) (and-false v.recoverable)
 
     portion_mono : (i : ℕ) (u v : SampleUnit) → UnitBelow u v → portion_grade first i u ≤ portion_grade second i v
     unfolding portion_grade portion_grade_of graded

@@ -5,7 +5,8 @@ use Rattle.std.proofs.Common.{Option, None, Some, is_some, ℕ, zero, suc, ◌�
 use mathlib.Core.Path.{subst⁻¹}
 use mathlib.Core.Bool.{false≢true}
 use Rattle.cusum.specs.declared.Cusum.{Cusum}
-use Rattle.units.proofs.Tests.{and_true, and_false, and_both, or_false}
+use Rattle.std.proofs.Math.Bool.{and-true, and-false, or-false}
+use Rattle.units.proofs.Tests.{and_both}
 use Rattle.units.specs.Words.{worse, Table, tenths_of}
 use Rattle.units.specs.Unit.{unit_fails}
 use Rattle.units.specs.Records.{is_unit_that}
@@ -36,7 +37,7 @@ no_lower_outside table state entry out = rw out
 fails_neither : (table : Table) (state : State) (entry : Entry) → fails_in_force table state entry ≡ false
     → (fails_designated table state entry ≡ false) × (fails_lower table state entry ≡ false)
 unfolding fails_designated fails_lower
-fails_neither table state entry none = rw none (and_false (not (in_step_three state.phase)), and_false (in_step_three state.phase))
+fails_neither table state entry none = rw none (and-false (not (in_step_three state.phase)), and-false (in_step_three state.phase))
 
 -- ---- what the state remembers of the record just before
 
@@ -74,12 +75,12 @@ module _ (table : Table) (designated : ℕ) (previous : Option ℕ) (cusums : Li
       let fails = unit_fails table designated cusums (tenths_of unit) in
       two_in_a_row_is previous fails
       ∙ ap (λ (b : Bool). b && fails) remembers
-      ∙ sym (ap (λ (b : Bool). (failed && fails) || b) (and_false failed_lower) ∙ or_false (failed && fails))
+      ∙ sym (ap (λ (b : Bool). (failed && fails) || b) (and-false failed_lower) ∙ or-false (failed && fails))
   starts_by (StepThree lower run) remembers =
       let fails = unit_fails table lower cusums (tenths_of unit) in
       two_in_a_row_is previous fails
       ∙ ap (λ (b : Bool). b && fails) remembers
-      ∙ sym (ap (λ (b : Bool). b || (failed_lower && fails)) (and_false failed))
+      ∙ sym (ap (λ (b : Bool). b || (failed_lower && fails)) (and-false failed))
 
   -- it fails, as it is graded and as it is told
   fails_is : (phase : Phase) → (graded table (at phase) unit).fails ≡ fails_in_force table (at phase) (UnitRecord unit)
@@ -104,11 +105,11 @@ module _ (table : Table) (designated : ℕ) (previous : Option ℕ) (cusums : Li
       let grading : Grading = graded table inside unit in
       unit_by table inside grading (qualifies_in table inside unit) (RecallsUnit (StepThree lower run))
       (λ ends. refl)
-      (λ ends two. sym (ap (λ (b : Bool). failing && not b) (sym by_second ∙ two) ∙ and_false failing))
+      (λ ends two. sym (ap (λ (b : Bool). failing && not b) (sym by_second ∙ two) ∙ and-false failing))
       (λ ends one.
       failure_is grading.fails grading.grade
       ∙ fails_is (StepThree lower run)
-      ∙ sym (ap (λ (b : Bool). failing && not b) (sym by_second ∙ one) ∙ and_true failing))
+      ∙ sym (ap (λ (b : Bool). failing && not b) (sym by_second ∙ one) ∙ and-true failing))
     where
       inside : State
       inside = state_of designated previous (StepThree lower run) cusums
@@ -120,7 +121,7 @@ module _ (table : Table) (designated : ℕ) (previous : Option ℕ) (cusums : Li
       by_second =
           starts_by (StepThree lower run) remembers
           ∙ ap (λ (b : Bool). b || second_lower (StepThree lower run))
-          (ap (λ (b : Bool). failed && b) (no_designated_inside table inside (UnitRecord unit) (unfold in_step_three in refl)) ∙ and_false failed)
+          (ap (λ (b : Bool). failed && b) (no_designated_inside table inside (UnitRecord unit) (unfold in_step_three in refl)) ∙ and-false failed)
 
 after_redesignation_remembers : (table : Table) (state : State) (new : ℕ) → Recalls false false (after_redesignation table state new)
 unfolding restarted
@@ -195,15 +196,15 @@ module _ (sheet : Sheet) where
       ap (λ (b : Bool). second_in_a_row sheet i || b)
       (second_lower_is i
       ∙ ap (λ (b : Bool). fails_lower_before i && b) (no_lower_outside sheet.table (before sheet i) (sheet.entry i) out)
-      ∙ and_false (fails_lower_before i))
-      ∙ or_false (second_in_a_row sheet i)
+      ∙ and-false (fails_lower_before i))
+      ∙ or-false (second_in_a_row sheet i)
 
   pub starts_inside : (i : ℕ) → in_step_three (before sheet i).phase ≡ true → lower_plan_starts_at sheet i ≡ second_at_lower sheet i
   unfolding lower_plan_starts_at second_in_a_row unit_fails_at
   starts_inside i inside =
       ap (λ (b : Bool). b || second_at_lower sheet i)
       (ap (λ (b : Bool). unit_fails_before sheet i && b) (no_designated_inside sheet.table (before sheet i) (sheet.entry i) inside)
-      ∙ and_false (unit_fails_before sheet i))
+      ∙ and-false (unit_fails_before sheet i))
 
   -- a record that is no unit is no second
   pub not_second : (i : ℕ) (entry : Entry) → sheet.entry i ≡ entry → fails_in_force sheet.table (before sheet i) entry ≡ false
@@ -212,7 +213,7 @@ module _ (sheet : Sheet) where
   not_second i entry is_entry none =
       let fails = fails_designated sheet.table (before sheet i) in
       ap (λ (b : Bool). unit_fails_before sheet i && b) (ap fails is_entry ∙ (fails_neither sheet.table (before sheet i) entry none).0)
-      ∙ and_false (unit_fails_before sheet i)
+      ∙ and-false (unit_fails_before sheet i)
 
   -- ---- where step 3 begins
 

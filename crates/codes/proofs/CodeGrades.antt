@@ -2,13 +2,13 @@
 -- it gives equal buffers. By induction on the number of records.
 use Prim.Native.Nat.{ℕ, zero, suc, ◌+◌, ◌*◌, ◌<◌, ◌≤◌}
 use mathlib.Core.Path.{◌≡◌, refl, sym, ◌∙◌, ap}
-use mathlib.Core.Bool.{Bool, true, false}
+use mathlib.Core.Logic.{inl, inr}
 use mathlib.Core.List.{List}
 use native.Mathlib.Omega.{arith}
-use borrow.Author.Tests.{ltb-true, ltb-false}
-use lib.Dec.{ltb}
 use lib.ListN.{length, set, length-set}
-use lib.Seq.{get_or-set_same, get_or-set_other, set-get_or, set-set, set_comm}
+use lib.Seq.{get_or-set_other, set-get_or, set-set, set_comm}
+use Rattle.std.proofs.lemmas.Bool.{cases_lt}
+use Rattle.std.proofs.lemmas.Grind.{get_or-set_at}
 use Rattle.encoding.specs.Bytes.{byte}
 use Rattle.results.specs.Record.{result_size, code_offset, portion_grade_offset, code_grade_offset, code_in, portion_grade_in, code_grade_in}
 use Rattle.codes.specs.Codes.{portion_grade_if, worst_in, with_code_grades}
@@ -53,21 +53,10 @@ pub grade_written : (grade : ℕ → ℕ) (results : List ℕ) (n j : ℕ) → r
     → code_grade_in (with_code_grades grade results n) j ≡ grade j
 unfolding with_code_grades
 grade_written grade results zero j inside below = absurd (omega arith)
-grade_written grade results (suc n) j inside below = go (ltb j n) refl (grade_written grade results n j (omega arith))
-  where
-    go : (earlier : Bool) → ltb j n ≡ earlier
-        → (j < n → code_grade_in (with_code_grades grade results n) j ≡ grade j)
-        → byte (set (with_code_grades grade results n) (result_size * n + code_grade_offset) (grade n)) (result_size * j + code_grade_offset) ≡ grade j
-    go true test written =
-        let earlier : j < n = ltb-true j n test in
-        get_or-set_other (with_code_grades grade results n) (result_size * n + code_grade_offset) (result_size * j + code_grade_offset) (grade n) 0
-        (λ e. omega arith)
-        ∙ written earlier
-    go false test written =
-        let last : j ≡ n = omega (arith, ltb-false j n test) in
-        rw last
-        (get_or-set_same (with_code_grades grade results n) (result_size * n + code_grade_offset) (grade n) 0
-        (omega (arith, length_graded grade results n)))
+grade_written grade results (suc n) j inside below =
+    let before = grade_written grade results n j (omega arith) in
+    let size = length_graded grade results n in
+    grind (arith, get_or-set_at, get_or-set_other)
 
 -- ---- equal buffers
 
@@ -75,14 +64,11 @@ grade_written grade results (suc n) j inside below = go (ltb j n) refl (grade_wr
 pub unchanged : {A : Type 0} (value : ℕ → A) (from n : ℕ) → from ≤ n → ((j : ℕ) → from ≤ j → j < n → value (suc j) ≡ value j)
     → value n ≡ value from
 unchanged value from zero behind same = let none : zero ≡ from = omega arith in ap value none
-unchanged value from (suc n) behind same = go (ltb n from) refl (unchanged value from n)
-  where
-    go : (last : Bool) → ltb n from ≡ last
-        → (from ≤ n → ((j : ℕ) → from ≤ j → j < n → value (suc j) ≡ value j) → value n ≡ value from) → value (suc n) ≡ value from
-    go true test before = let end : suc n ≡ from = omega (arith, ltb-true n from test) in ap value end
-    go false test before =
-        let inside : from ≤ n = ltb-false n from test in
-        same n inside (omega arith) ∙ before inside (λ j later below. same j later (omega arith))
+unchanged value from (suc n) behind same =
+    elim (cases_lt n from) [
+      | inl last ↦ let end : suc n ≡ from = omega arith in ap value end
+      | inr inside ↦ same n inside (omega arith) ∙ unchanged value from n inside (λ j later below. same j later (omega arith))
+    ]
 
 -- grades that are there already
 pub nothing_between : (grade : ℕ → ℕ) (results : List ℕ) (from n : ℕ) → from ≤ n

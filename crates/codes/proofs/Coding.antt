@@ -30,19 +30,13 @@ pub record Gradable (unit : SampleUnit) (result : ResultRecord) : Type 0 where
 
 -- ---- grades stored in what records write
 
-set_front : (code_grade grade : ℕ) (result : ResultRecord) (rest : List ℕ)
-    → set (result_bytes code_grade result ++ rest) code_grade_offset grade ≡ result_bytes grade result ++ rest
-unfolding result_bytes
-set_front code_grade grade result rest = refl
-
 -- in the result record behind others
 one_stored : (before : List ℕ) (units code_grade grade : ℕ) (result : ResultRecord) (rest : List ℕ) → length before ≡ result_size * units
     → set (before ++ (result_bytes code_grade result ++ rest)) (result_size * units + code_grade_offset) grade
     ≡ before ++ (result_bytes grade result ++ rest)
+unfolding result_bytes
 one_stored before units code_grade grade result rest start =
-    rw (← start)
-    (set_behind before (result_bytes code_grade result ++ rest) code_grade_offset grade
-    ∙ ap (λ (bytes : List ℕ). before ++ bytes) (set_front code_grade grade result rest))
+    rw (← start) (set_behind before (result_bytes code_grade result ++ rest) code_grade_offset grade)
 
 module _ (recording : ℕ → SampleUnit → ResultRecord) (entry : ℕ → Entry) (old new stored : ℕ → ℕ) where
   grades_stored : (n : ℕ) (rest : List ℕ)
@@ -53,11 +47,6 @@ module _ (recording : ℕ → SampleUnit → ResultRecord) (entry : ℕ → Entr
   grades_stored (suc n) rest same =
       go (entry n) (same n (omega arith)) (λ more. grades_stored n more (λ i below. same i (omega arith)))
     where
-      nothing : with_code_grades stored (written recording old entry n ++ rest) (units_among entry n) ≡ written recording new entry n ++ rest
-          → with_code_grades stored ((written recording old entry n ++ []) ++ rest) (units_among entry n + 0)
-          ≡ (written recording new entry n ++ []) ++ rest
-      nothing earlier = rw (append-nil (written recording old entry n), append-nil (written recording new entry n), add-zero) earlier
-
       go : (last : Entry) → ((unit : SampleUnit) → last ≡ UnitRecord unit → stored (units_among entry n) ≡ new unit.code)
           → ((more : List ℕ)
           → with_code_grades stored (written recording old entry n ++ more) (units_among entry n) ≡ written recording new entry n ++ more)
@@ -76,8 +65,8 @@ module _ (recording : ℕ → SampleUnit → ResultRecord) (entry : ℕ → Entr
           )
           (one_stored (written recording new entry n) (units_among entry n) (old unit.code) grade (recording n unit) rest
           (length_written recording new entry n))
-      go (Redesignation new_grade_holds) here earlier = nothing (earlier rest)
-      go Break here earlier = nothing (earlier rest)
+      go (Redesignation new_grade_holds) here earlier = simp (append-nil, add-zero) (earlier rest)
+      go Break here earlier = simp (append-nil, add-zero) (earlier rest)
 
 -- ---- what the pass reads, and what it leaves
 

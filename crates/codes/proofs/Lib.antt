@@ -1,5 +1,4 @@
 pub mod Coding
-pub mod Records
 mod CodeGrades
 mod Parts
 pub mod Next

@@ -66,7 +66,9 @@ fn worst_from(results: &[u8], code: u16, first: usize) -> u8
     worst
 }
 
-// Stores the grade of a code that is first met in this record.
+// Stores the grade of a code that is first met in this record. By number: of a slice whose parts `as_chunks_mut` lends a proof does not
+// know what it ends as.
+#[tactic(auto, using(crate::proofs::OneCode::written_start, crate::proofs::OneCode::written_next, crate::proofs::OneCode::written_end))]
 fn write_code(results: &mut [u8], code: u16, grade: u8, first: usize)
     requires { FirstWithCode results.old code first (result_records results.old) }
     ensures { results.new ≡ with_code_grades (grade_with results.old code grade) results.old (result_records results.old) }

@@ -41,7 +41,7 @@ pub struct Stepped {
 fn ten_times(number: u16) -> u32
     ensures { result ≡ ten_times number }
 {
-    let wide = number as u32;
+    let wide = u32::from(number);
     (wide << 3) + (wide << 1)
 }
 
@@ -59,7 +59,7 @@ impl DefectiveFields {
     pub fn tenths(self) -> u32
         ensures { result ≡ field_tenths self }
     {
-        ten_times(self.0 as u16)
+        ten_times(u16::from(self.0))
     }
 }
 
@@ -83,18 +83,19 @@ impl Cusum {
         ensures { result ≡ start_of numbers }
     {
         Cusum {
-            tenths: numbers.start as u32,
+            tenths: u32::from(numbers.start),
         }
     }
 
-    // Rule 2: the CuSum after a unit with this count, in tenths, whether the class fails, and the overshoot.
+    // Rule 2: the CuSum after a unit with this count, in tenths, whether the class fails, and the overshoot. The CuSum is narrowed, by which
+    // it is proved to lose nothing: it is at most L.
     #[tactic(auto, using(crate::proofs::Laws::step_is))]
     pub fn step(self, numbers: PlanNumbers, tenths: u32) -> Stepped
         ensures { result ≡ step_of numbers self tenths }
     {
-        let sum = self.tenths as u64 + tenths as u64;
-        let tolerance = numbers.tolerance as u64;
-        let limit = numbers.limit as u64;
+        let sum = u64::from(self.tenths) + u64::from(tenths);
+        let tolerance = u64::from(numbers.tolerance);
+        let limit = u64::from(numbers.limit);
         let above = sum.saturating_sub(tolerance);
         Stepped {
             cusum: Cusum {

@@ -1,4 +1,5 @@
-// The archive for C and Rust: the functions of hatmuyon, exported under their own names by the C calling convention.
+// The archive for C and Rust: the functions of hatmuyon, exported under their own names by the C calling convention. A crate of its own, as
+// one is a library for other crates or an archive for C, and not both.
 #![tactic(auto)]
 
 ghost use Rattle.std.specs.Prelude.{◌≡◌};

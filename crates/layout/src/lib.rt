@@ -1,4 +1,5 @@
-// The tally sheet in bytes: its plan and its records, and a walk over them.
+// The tally sheet in bytes: its plan and its records, and a walk over them. What stands in a sheet is named by its offset, here and in the
+// crates above, as in the specification: a slice from there on is no plainer, and a unit before a place is read alike.
 #![tactic(auto)]
 
 ghost use Rattle.std.specs.Prelude.{◌≡◌, ◌+◌, ◌≤◌, length};
@@ -69,8 +70,6 @@ pub struct Place {
     pub units: usize,
 }
 
-// What stands in a sheet is named by its offset, as in the specification: a slice from there on is no plainer, and a unit before a place is
-// read alike.
 fn plan_numbers_at(bytes: &[u8], at: usize) -> PlanNumbers
     requires { at + plan_numbers_size ≤ length bytes.now }
     ensures { result ≡ plan_numbers_at bytes.now at }

@@ -3,7 +3,7 @@
 
 ghost use Rattle.std.specs.Prelude.{◌≡◌, ◌≤◌, length};
 ghost use Rattle.sheet.specs.Refusals.{most_units};
-ghost use Rattle.text.specs.Text.{rest_of_line, text_by, Printing, leaving};
+ghost use Rattle.text.specs.Text.{refused_line, rest_of_line, text_by, Printing, leaving};
 ghost use Rattle.text.specs.Wrote.{Wrote, HasRoom};
 ghost use Rattle.lines.specs.Lines.{grade_letter, standing_letter, cusum_fields, line_of, printing};
 ghost use Rattle.lines.specs.Rooms.{HasRecord, letter_fields, cusums_size, line_size};
@@ -15,9 +15,7 @@ use results::{
     PORTION_GRADE_OFFSET, RESULT_SIZE, STANDING_OFFSET,
 };
 use sheet::MOST_UNITS;
-use text::{
-    CUSUM_SIZE, LARGEST_INPUT, NUMBER_DIGITS, Page, UnitLines, WORD_SIZE, letter_of, print_refusal,
-};
+use text::{CUSUM_SIZE, LARGEST_INPUT, NUMBER_DIGITS, Page, UnitLines, WORD_SIZE, letter_of};
 use units::CLASSES;
 
 // Portion grade, code grade, standing and plan grade.
@@ -99,13 +97,20 @@ impl UnitLines for TallyLines<'_> {
     fn unit_line(&self, unit: usize, page: &mut Page) {
         let code = number_at(self.results, RESULT_SIZE * unit + CODE_OFFSET);
         page.decimal(unit + 1);
-        page.number_field(code as usize);
+        page.number_field(usize::from(code));
         self.letter_fields(unit, page);
         self.cusum_fields(unit, page);
     }
 }
 
 // ---- the whole text, which stands first in the caller's; the answer is its size
+
+// A refusal alone.
+pub fn print_refusal(number: u32, offset: usize, text: &mut [u8; TEXT_SIZE]) -> usize
+    ensures { ◌≡◌ {A = Printing} (record { size = result; text = text.new }) (leaving (refused_line number offset) text.old) }
+{
+    text::print_refusal(number, offset, text)
+}
 
 // What is printed for an answer and the results that stand beside it, whoever graded them: the lines of the units, or the refusal.
 pub fn print_answer(
@@ -120,12 +125,14 @@ pub fn print_answer(
 }
 
 // What is printed for an input: the lines of the sheet that it is, or the refusal. It stands first in the text; the answer is its size.
+// Mold sheets and regradings are printed by functions of their own: one for all would take the grader, its buffer and the lines, and share no
+// more than the test of the length beside `print_refusal` and `print_answer`, which are shared.
 #[tactic(auto, using(text::proofs::Printed::too_much))]
 pub fn print_into(input: &[u8], text: &mut [u8; TEXT_SIZE]) -> usize
     ensures { ◌≡◌ {A = Printing} (record { size = result; text = text.new }) (printing input.now text.old) }
 {
     if LARGEST_INPUT < input.len() {
-        return print_refusal(Ground::TooMuchInput.number(), LARGEST_INPUT, text);
+        return print_refusal(u32::from(Ground::TooMuchInput), LARGEST_INPUT, text);
     }
     let mut results = [0u8; RESULTS_SIZE];
     let answer = tally::grade(input, &mut results);

@@ -86,7 +86,22 @@ part_inside results code part given = subst (Inside results) (sym given) (go (ca
     go (found whole first at is) = rw is (omega (arith, at.inside))
     go (none whole no_record is) = rw is (omega arith)
 
--- of a record that is found, from its start to its end: its size, and where it is in memory
+-- taken from its start to its end
+pub handed_part : (start : ℕ × ℕ) (results : List ℕ) (part : Part)
+    → ◌≡◌ {A = Handed}
+    (record {
+      number = part.number;
+      start = (start.0, part.offset + start.1);
+      bytes = take (part.offset + part.length - part.offset) (drop part.offset results);
+    })
+    (handed_as start results part)
+unfolding handed_as
+handed_part start results part =
+    let size : part.offset + part.length - part.offset ≡ part.length = omega arith in
+    let begin : part.offset + start.1 ≡ start.1 + part.offset = omega arith in
+    ap₂ (λ (from many : ℕ). record { number = part.number; start = (start.0, from); bytes = take many (drop part.offset results) }) begin size
+
+-- of a record that is found: its size, and where it is in memory
 module _ (results : List ℕ) (code first : ℕ) (is : lookup results code ≡ found_at first) where
   size_is : length (take (result_size * first + result_size - result_size * first) (drop (result_size * first) results)) ≡ result_size
   size_is =
@@ -102,7 +117,7 @@ module _ (results : List ℕ) (code first : ℕ) (is : lookup results code ≡ f
       (lookup results code)
   found_part = ap (λ (size : ℕ). record { number = 0; offset = result_size * first; length = size }) size_is ∙ sym is
 
-  pub handed_part : (start : ℕ × ℕ)
+  pub found_handed : (start : ℕ × ℕ)
       → ◌≡◌ {A = Handed}
       (record {
         number = 0;
@@ -110,12 +125,7 @@ module _ (results : List ℕ) (code first : ℕ) (is : lookup results code ≡ f
         bytes = take (result_size * first + result_size - result_size * first) (drop (result_size * first) results);
       })
       (handed start results code)
-  unfolding handed_as
-  handed_part start =
-      let size : result_size * first + result_size - result_size * first ≡ result_size = omega arith in
-      let begin : result_size * first + start.1 ≡ start.1 + result_size * first = omega arith in
-      ap₂ (λ (from many : ℕ). record { number = 0; start = (start.0, from); bytes = take many (drop (result_size * first) results) }) begin size
-      ∙ ap (handed_as start results) (sym is)
+  found_handed start = handed_part start results (found_at first) ∙ ap (handed_as start results) (sym is)
 
 -- an empty one
 pub handed_nothing : (results : List ℕ) (code number : ℕ) (start : ℕ × ℕ) → lookup results code ≡ record { number = number; offset = 0; length = 0 }

@@ -51,7 +51,7 @@ impl Part {
                 length: 0,
             },
             Err(cause) => Part {
-                number: cause.number(),
+                number: u32::from(cause),
                 offset: 0,
                 length: 0,
             },

@@ -9,7 +9,7 @@ ghost use Rattle.lots.specs.Layout.{classes, cells, kinds, sample_units, aql_of_
 ghost use Rattle.lots.specs.Acceptance.{acceptance_number};
 ghost use Rattle.lots.specs.Refusals.{not_among, is_unlisted, aql_falls_in_class, count_too_large, field_refusal, lot_refusal};
 ghost use Rattle.lots.specs.Grading.{admits, defect_grade, lot_grade};
-ghost use Rattle.lots.specs.Answer.{lot_answer};
+ghost use Rattle.lots.specs.Answer.{answered, lot_answer};
 
 use cusum::Defects;
 use encoding::number_at;
@@ -27,7 +27,8 @@ const CELLS: usize = GRADES * CLASSES;
 // Counts are of critical, severe, major and minor defects, by number, too.
 const KINDS: usize = 4;
 
-// The headings of the table: the sample units that are listed over its columns, the AQLs, in tenths, beside its rows.
+// The headings of the table: the sample units that are listed over its columns, the AQLs, in tenths, beside its rows. Lists of their own, as
+// each is asked for itself whether it has a number.
 const SAMPLE_UNITS: [u16; 4] = [6, 13, 21, 29];
 
 const AQLS: [u16; 6] = [10, 15, 25, 40, 50, 125];
@@ -55,7 +56,7 @@ const PREREQUISITE_OFFSET: usize = COUNTS_OFFSET + NUMBER_SIZE * KINDS;
 
 pub const LOT_SIZE: usize = PREREQUISITE_OFFSET + 1;
 
-// What a refusal has in the place of a grade.
+// What a refusal has in the place of a grade: C's struct has no variants.
 const NO_GRADE: u8 = 3;
 
 // The bytes of a lot, which are all there: their number is in the type.
@@ -88,7 +89,7 @@ fn place_among<const LISTED: usize>(listed: &[u16; LISTED], number: u16) -> Opti
     listed.iter().position(|member| *member == number)
 }
 
-// The acceptance number at so many sample units for an AQL, if both are listed; else it counts as 0, but such a lot is refused before.
+// The acceptance number at so many sample units for an AQL, if both are listed, as they are in every lot that is not refused.
 fn acceptance_number(units: u16, aql: u16) -> Option<u16>
     ensures { unwrap_or result 0 ≡ acceptance_number units aql }
 {
@@ -244,21 +245,40 @@ impl<'a> Lot<'a> {
     }
 }
 
-// Grades a lot, any bytes of any length: accepted with its grade, or refused by a listed number.
+impl LotAnswer {
+    // The answer where a lot gets a grade, or is refused.
+    pub fn of(graded: Result<u8, Ground>) -> LotAnswer
+        ensures { result ≡ answered graded }
+    {
+        match graded {
+            Ok(grade) => LotAnswer {
+                number: 0,
+                grade,
+                offset: 0,
+            },
+            Err(cause) => LotAnswer {
+                number: u32::from(cause),
+                grade: NO_GRADE,
+                offset: 0,
+            },
+        }
+    }
+}
+
+// Grades a lot, any bytes of any length: its grade, or the first ground of refusal that it meets.
 #[tactic(auto, unfolding(crate::specs::Answer::lot_answer, units::specs::Conditions::pick))]
+pub fn grade(lot: &[u8]) -> Result<u8, Ground>
+    ensures { answered result ≡ lot_answer lot.now }
+{
+    match Lot::read(lot) {
+        Ok(lot) => Ok(lot.grade()),
+        Err(cause) => Err(cause),
+    }
+}
+
+// Grades a lot for C: accepted with its grade, or refused by a listed number.
 pub fn grade_lot(lot: &[u8]) -> LotAnswer
     ensures { result ≡ lot_answer lot.now }
 {
-    match Lot::read(lot) {
-        Ok(lot) => LotAnswer {
-            number: 0,
-            grade: lot.grade(),
-            offset: 0,
-        },
-        Err(cause) => LotAnswer {
-            number: cause.number(),
-            grade: NO_GRADE,
-            offset: 0,
-        },
-    }
+    LotAnswer::of(grade(lot))
 }

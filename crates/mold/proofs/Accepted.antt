@@ -1,21 +1,19 @@
 -- The cases of the outcome of a mold sheet: an answer of 0 is acceptance, of a sheet that its units fill, into a buffer with room for
--- them; any other keeps the buffer. By the tests of `mold_outcome`.
+-- them; any other keeps the buffer. By the law of each case.
 use Prim.Native.Nat.{ℕ, ◌*◌, ◌≤◌, ◌<◌}
-use mathlib.Core.Path.{◌≡◌, refl, sym, ◌∙◌, ap, subst⁻¹}
-use mathlib.Core.Bool.{Bool, true, false}
+use mathlib.Core.Path.{◌≡◌, refl, sym, ◌∙◌, ap, subst, subst⁻¹}
+use mathlib.Core.Logic.{inl, inr}
 use mathlib.Core.List.{List, ◌++◌}
 use native.Mathlib.Omega.{arith}
-use lib.Dec.{ltb, eqb}
 use lib.ListN.{length, drop}
-use borrow.Author.Tests.{eqb-true, eqb-false, ltb-true, ltb-false}
+use Rattle.std.proofs.lemmas.Bool.{cases_lt, cases_eq}
 use Rattle.outcome.specs.declared.Answer.{Answer}
 use Rattle.outcome.specs.Outcome.{Outcome, refusal}
-use Rattle.units.specs.Conditions.{pick}
 use Rattle.mold.specs.Refusals.{checked}
 use Rattle.mold.specs.Results.{result_size, written}
-use Rattle.mold.specs.Outcome.{acceptance, mold_outcome}
+use Rattle.mold.specs.Outcome.{acceptance, mold_outcome, MoldAcceptedAs}
 use Rattle.mold.proofs.Checking.{Facts, accepted_facts}
-use Rattle.mold.specs.Outcome.{MoldAcceptedAs}
+use Rattle.mold.proofs.Cases.{outcome_refused, outcome_short, outcome_graded}
 
 -- what each case says of the outcome
 pub data Case (bytes buffer : List ℕ) : Outcome → Type 0 where
@@ -24,19 +22,16 @@ pub data Case (bytes buffer : List ℕ) : Outcome → Type 0 where
   graded : (units : ℕ) → Facts bytes units → result_size * units ≤ length buffer → Case bytes buffer (acceptance bytes buffer units)
 
 pub outcome_case : (bytes buffer : List ℕ) → Case bytes buffer (mold_outcome bytes buffer)
-unfolding mold_outcome pick
-outcome_case bytes buffer = go (eqb (checked bytes).number 0) refl (ltb (length buffer) (result_size * (checked bytes).units)) refl
-  where
-    go : (passed : Bool) → eqb (checked bytes).number 0 ≡ passed → (short : Bool) → ltb (length buffer) (result_size * (checked bytes).units) ≡ short
-        → Case bytes buffer (pick passed (pick short (refusal 13 (length bytes) buffer) (acceptance bytes buffer (checked bytes).units))
-        (record { answer = checked bytes; buffer = buffer }))
-    go false e short s = by_check (eqb-false (checked bytes).number 0 e)
-    go true e true s =
-        without_room (checked bytes).units (accepted_facts bytes (eqb-true (checked bytes).number 0 e)).1
-        (ltb-true (length buffer) (result_size * (checked bytes).units) s)
-    go true e false s =
-        graded (checked bytes).units (accepted_facts bytes (eqb-true (checked bytes).number 0 e)).1
-        (ltb-false (length buffer) (result_size * (checked bytes).units) s)
+outcome_case bytes buffer =
+    elim (cases_eq (checked bytes).number 0) [
+      | inr refused ↦ subst (Case bytes buffer) (outcome_refused bytes buffer (checked bytes) refl (omega arith)) (by_check refused)
+      | inl accepted ↦
+          let (is, facts) = accepted_facts bytes accepted in
+          elim (cases_lt (length buffer) (result_size * (checked bytes).units)) [
+            | inl short ↦ subst (Case bytes buffer) (outcome_short bytes _ (sym is) buffer short) (without_room _ facts short)
+            | inr room ↦ subst (Case bytes buffer) (outcome_graded bytes _ (sym is) buffer room) (graded _ facts room)
+          ]
+    ]
 
 -- an accepted sheet
 pub record MoldAccepted (bytes buffer : List ℕ) (answer : Answer) (results : List ℕ) : Type 0 where

@@ -1,13 +1,12 @@
 -- What the check of a mold sheet comes to. A unit that passes is whole, and each has the same size.
-use Rattle.std.proofs.Common.{◌≡◌, ℕ, suc, ◌+◌, ◌≤◌, ◌<◌, Bool, true, false, eqb, List, length, ◌⊎◌, inl, inr, refl, lit<, arith, eqb-true}
-use Rattle.std.proofs.lemmas.Bool.{eqb-false}
+use Rattle.std.proofs.Common.{◌≡◌, ℕ, suc, ◌+◌, ◌≤◌, ◌<◌, List, length, ◌⊎◌, inl, inr, refl, arith, eq-eqb, ne_eqb}
+use Rattle.std.proofs.lemmas.Bool.{cases_eq}
+use Rattle.std.proofs.lemmas.Bool.Decides.{nat_tests}
 use mathlib.Core.Logic.{⊎_elim}
-use borrow.Author.Tests.{ltb-false}
 use Rattle.outcome.specs.Outcome.{accepted_as, refused_as}
 use Rattle.outcome.specs.declared.Answer.{Answer}
 use Rattle.units.specs.Conditions.{pick}
-use Rattle.units.proofs.Tests.{or_first}
-use Rattle.sheet.proofs.Grounds.{ground_passed}
+use Rattle.sheet.specs.Refusals.{refused_if}
 use Rattle.sheet.proofs.LeftToRight.{Stops, check_says}
 use Rattle.mold.specs.Levels.{last_row}
 use Rattle.mold.specs.Layout.{opening_size, unit_size, level_row, offset}
@@ -15,19 +14,13 @@ use Rattle.mold.specs.Refusals.{no_opening, opening_refusal, unit_refusal, recor
 
 -- an opening that is not refused is whole, and its row has a level
 pub opening_passed : (bytes : List ℕ) → opening_refusal bytes ≡ 0 → (opening_size ≤ length bytes) × (level_row bytes ≤ last_row)
-unfolding opening_refusal no_opening
-opening_passed bytes e =
-    let (opened, rest) = ground_passed (no_opening bytes) 1 _ (lit< tt) e in (
-      ltb-false (length bytes) opening_size (or_first _ _ opened),
-      ltb-false last_row (level_row bytes) (ground_passed _ 16 _ (lit< tt) rest).0,
-    )
+unfolding opening_refusal no_opening refused_if
+opening_passed bytes passed = (grind (arith, nat_tests), grind (arith, nat_tests))
 
 -- a unit that is not refused is whole
 pub unit_passed : (bytes : List ℕ) (at units : ℕ) → unit_refusal bytes at units ≡ 0 → at + unit_size ≤ length bytes
-unfolding unit_refusal
-unit_passed bytes at units e =
-    let (marked, rest) = ground_passed _ 6 _ (lit< tt) e in
-    ltb-false (length bytes) (at + unit_size) (ground_passed _ 7 _ (lit< tt) rest).0
+unfolding unit_refusal refused_if
+unit_passed bytes at units passed = grind (arith, nat_tests)
 
 -- every unit stands further on than its number says
 pub further : (i : ℕ) → i < offset i
@@ -59,12 +52,11 @@ module _ (bytes : List ℕ) where
 
   pub checked_says : Says bytes (checked bytes)
   unfolding checked pick
-  checked_says = go (eqb (opening_refusal bytes) 0) refl
-    where
-      go : (test : Bool) → eqb (opening_refusal bytes) 0 ≡ test
-          → Says bytes (pick test (check_from bytes (length bytes) 0) (refused_as (opening_refusal bytes) 0))
-      go true e = says_records (eqb-true (opening_refusal bytes) 0 e)
-      go false e = inr (eqb-false (opening_refusal bytes) 0 e, refl, inl (refl, refl))
+  checked_says =
+      elim (cases_eq (opening_refusal bytes) 0) [
+        | inl passed ↦ rw (eq-eqb (opening_refusal bytes) 0 passed) (says_records passed)
+        | inr refused ↦ rw (ne_eqb (opening_refusal bytes) 0 refused) (inr (refused, refl, inl (refl, refl)))
+      ]
 
   -- an answer of 0 is acceptance
   pub accepted_facts : (checked bytes).number ≡ 0 → (checked bytes ≡ accepted_as (checked bytes).units (length bytes)) × Facts bytes (checked bytes).units

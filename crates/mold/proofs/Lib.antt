@@ -1,4 +1,3 @@
-pub mod Placed
 pub mod Checking
 pub mod Records
 pub mod Written

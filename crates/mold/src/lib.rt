@@ -15,7 +15,7 @@ use cusum::{Cusum, DefectiveFields, PlanNumbers, Stepped};
 use encoding::number_at;
 use layout::{MARK_SIZE, NUMBER_SIZE};
 use outcome::{Answer, Ground, Refusal};
-use results::CUSUM_WIDTH;
+use results::{CUSUM_WIDTH, put};
 use sheet::MOST_UNITS;
 
 // S, T and L of a defect action level, in whole fields.
@@ -91,14 +91,15 @@ pub struct MoldUnit {
     pub fields: DefectiveFields,
 }
 
-// Whole fields in tenths, as S, T and L are kept.
+// Whole fields in tenths, as S, T and L are kept: narrowed, by which 2,550 is proved to lose nothing.
 fn plan_tenths(fields: DefectiveFields) -> u16
     ensures { result ≡ field_tenths fields }
 {
     fields.tenths() as u16
 }
 
-// S, T and L of a row.
+// S, T and L of a row that is there: the check refuses another one, and an `Option` would be asked again.
+#[tactic(auto, unfolding(crate::specs::Levels::level_numbers))]
 fn level_numbers(row: u8) -> PlanNumbers
     requires { row ≤ last_row }
     ensures { result ≡ level_numbers row }
@@ -111,7 +112,8 @@ fn level_numbers(row: u8) -> PlanNumbers
     }
 }
 
-// The unit at an offset, whole.
+// The unit at an offset, whole: by offset, as in `layout`.
+#[tactic(auto, unfolding(crate::specs::Layout::mold_unit_at))]
 pub fn mold_unit_at(bytes: &[u8], at: usize) -> MoldUnit
     requires { at + unit_size ≤ length bytes.now }
     ensures { result ≡ mold_unit_at bytes.now at }
@@ -131,6 +133,7 @@ fn tenths_at(bytes: &[u8], at: usize) -> u32
 }
 
 // The first ground that the opening meets.
+#[tactic(auto, using(std::proofs::lemmas::Bool::Decides::nat_tests), unfolding(crate::specs::Refusals::opening_refusal, crate::specs::Refusals::no_opening, sheet::specs::Refusals::refused_if))]
 fn check_opening(bytes: &[u8]) -> Result<(), Ground>
     ensures { refusal_number result ≡ opening_refusal bytes.now }
 {
@@ -144,6 +147,7 @@ fn check_opening(bytes: &[u8]) -> Result<(), Ground>
 }
 
 // The first ground that a record meets, with so many units before it. The sheet may cut it short.
+#[tactic(auto, using(std::proofs::lemmas::Bool::Decides::nat_tests), unfolding(crate::specs::Refusals::unit_refusal, crate::specs::Refusals::no_unit_mark, sheet::specs::Refusals::refused_if))]
 fn check_unit(bytes: &[u8], units: usize) -> Result<(), Ground>
     ensures { refusal_number result ≡ unit_refusal bytes.now 0 units }
 {
@@ -186,6 +190,7 @@ fn check(bytes: &[u8]) -> Result<usize, Refusal>
 }
 
 // The result record of a unit.
+#[tactic(auto, unfolding(crate::specs::Results::result_bytes, encoding::specs::Bytes::bytes_of))]
 fn result_bytes(stepped: Stepped) -> [u8; RESULT_SIZE]
     ensures { result ≡ result_bytes stepped.fails stepped.cusum.tenths }
 {
@@ -198,13 +203,11 @@ fn write(rest: &mut [u8], stepped: Stepped)
     requires { result_size ≤ length rest.old }
     ensures { rest.new ≡ result_bytes stepped.fails stepped.cusum.tenths ++ drop result_size rest.old }
 {
-    let Some(slot) = rest.first_chunk_mut() else {
-        unreachable!()
-    };
-    *slot = result_bytes(stepped);
+    put(rest, result_bytes(stepped));
 }
 
 // Writes the result records of so many units, which are whole.
+#[tactic(auto, unfolding(crate::specs::Results::written, crate::specs::Grading::cusum_before))]
 fn write_units(bytes: &[u8], units: usize, results: &mut [u8])
     requires { (level_row bytes.now ≤ last_row) × (offset units ≤ length bytes.now) × (result_size * units ≤ length results.old) }
     ensures { results.new ≡ written bytes.now units ++ drop (result_size * units) results.old }
@@ -220,7 +223,7 @@ fn write_units(bytes: &[u8], units: usize, results: &mut [u8])
     }
 }
 
-// The units of a sheet whose result records stand in the buffer.
+// The units of a sheet whose result records stand in the buffer. One of three gradings of this shape: see `regrade::regraded`.
 fn graded(sheet: &[u8], results: &mut [u8]) -> Result<usize, Refusal>
     ensures { ◌≡◌ {A = Outcome} (record { answer = answered (length sheet.now) result; buffer = results.new }) (mold_outcome sheet.now results.old) }
 {

@@ -48,7 +48,7 @@ impl UnitLines for MoldLines<'_> {
         let met = met_letter(self.results[record + MET_OFFSET]);
         let tenths = number_at(self.results, record + CUSUM_OFFSET);
         page.decimal(unit + 1);
-        page.number_field(code as usize);
+        page.number_field(usize::from(code));
         page.bytes(&[b' ', met]);
         page.tenths_field(tenths);
         page.byte(b'\n');
@@ -56,13 +56,13 @@ impl UnitLines for MoldLines<'_> {
 }
 
 // What is printed for an input: the lines of the mold sheet that it is, or the refusal. It stands first in the text; the answer is its
-// size.
+// size. By a function of its own for the reason that `lines::print_into` gives.
 #[tactic(auto, using(text::proofs::Printed::too_much))]
 pub fn print_mold_into(input: &[u8], text: &mut [u8; MOLD_TEXT_SIZE]) -> usize
     ensures { ◌≡◌ {A = Printing} (record { size = result; text = text.new }) (mold_printing input.now text.old) }
 {
     if LARGEST_INPUT < input.len() {
-        return print_refusal(Ground::TooMuchInput.number(), LARGEST_INPUT, text);
+        return print_refusal(u32::from(Ground::TooMuchInput), LARGEST_INPUT, text);
     }
     let mut results = [0u8; RESULT_SIZE * MOST_UNITS];
     let answer = mold::grade_mold(input, &mut results);

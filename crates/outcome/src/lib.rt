@@ -49,12 +49,6 @@ pub struct Answer {
 }
 
 impl Ground {
-    pub fn number(self) -> u32
-        ensures { result ≡ number_of self }
-    {
-        self as u32
-    }
-
     pub fn at(self, offset: usize) -> Refusal
         ensures { result ≡ record { cause = self; offset = offset } }
     {
@@ -65,13 +59,21 @@ impl Ground {
     }
 }
 
+impl From<Ground> for u32 {
+    ghost from_gives = { λ cause number. number ≡ number_of cause };
+
+    fn from(cause: Ground) -> u32 {
+        cause as u32
+    }
+}
+
 impl From<Refusal> for Answer {
     ghost from_gives = { λ refusal answer. answer ≡ refused_as (number_of refusal.cause) refusal.offset };
 
     // A refusal has no units.
     fn from(refusal: Refusal) -> Answer {
         Answer {
-            number: refusal.cause.number(),
+            number: u32::from(refusal.cause),
             units: 0,
             offset: refusal.offset,
         }

@@ -19,7 +19,7 @@ use Rattle.units.specs.Records.{units_of, units_among}
 use Rattle.units.specs.declared.SampleUnit.{SampleUnit}
 use Rattle.units.specs.declared.Entry.{Entry}
 use Rattle.units.specs.declared.Entry.TheVariants.{UnitRecord, Redesignation, Break}
-use Rattle.units.proofs.Tests.{and_true, and_false, or_true}
+use Rattle.std.proofs.Math.Bool.{and-true, and-false, or-true}
 use Rattle.rules.specs.Sheet.{Sheet, designated_at, step_three_ends_at, in_finished_run, recovered, standing_of}
 use Rattle.results.specs.Record.{result_size, portion_grade_offset, standing_offset, result_bytes}
 use Rattle.results.specs.Written.{bytes_by, written}
@@ -75,7 +75,7 @@ module _ (sheet : Sheet) where
   not_yet : (m : ℕ) (unit : SampleUnit) → recovered_so_far sheet m m unit ≡ false
   unfolding recovered_so_far
   not_yet m unit =
-      rw (ended_behind m m (omega arith), ended_behind m (m + 1) (omega arith), ended_behind m (m + 2) (omega arith)) (and_false unit.recoverable)
+      rw (ended_behind m m (omega arith), ended_behind m (m + 1) (omega arith), ended_behind m (m + 2) (omega arith)) (and-false unit.recoverable)
 
   -- ---- one record more
 
@@ -236,11 +236,11 @@ recovered_with sheet m i unit ends from to = go (eqb m i) refl (eqb m (i + 1)) r
 
     go : (first : Bool) → eqb m i ≡ first → (second : Bool) → eqb m (i + 1) ≡ second
         → (unit.recoverable && (ended_at sheet (suc m) i || (ended_at sheet (suc m) (i + 1) || ended_at sheet (suc m) (i + 2)))) ≡ unit.recoverable
-    go true e second f = rw (ended i (sym (eqb-true m i e))) (and_true unit.recoverable)
-    go false e true f = rw (ended (i + 1) (sym (eqb-true m (i + 1) f)), or_true) (and_true unit.recoverable)
+    go true e second f = rw (ended i (sym (eqb-true m i e))) (and-true unit.recoverable)
+    go false e true f = rw (ended (i + 1) (sym (eqb-true m (i + 1) f)), or-true) (and-true unit.recoverable)
     go false e false f =
         let last : i + 2 ≡ m = omega (arith, eqb-false m i e, eqb-false m (i + 1) f) in
-        rw (ended (i + 2) last, or_true, or_true) (and_true unit.recoverable)
+        rw (ended (i + 2) last, or-true, or-true) (and-true unit.recoverable)
 
 unmarked_not : (sheet : Sheet) (m i : ℕ) (unit : SampleUnit) → unit.recoverable ≡ false → recovered_so_far sheet m i unit ≡ false
 unfolding recovered_so_far

@@ -25,7 +25,7 @@ pub fn result_of(state: State, unit: SampleUnit, grading: Grading) -> ResultReco
         code: unit.code,
         portion: worse_of(grading.grade, unit.prerequisite),
         plan: state.in_force(),
-        standing: state.phase.standing(grading.fails, false).code(),
+        standing: u8::from(state.phase.standing(grading.fails, false)),
         cusums,
         overshoots,
     }
@@ -39,7 +39,7 @@ fn recover(unit: SampleUnit, designated: u8, results: &mut [u8], start: usize)
 {
     if unit.recoverable {
         results[start + PORTION_GRADE_OFFSET] = worse_of(designated, unit.prerequisite);
-        results[start + STANDING_OFFSET] = Standing::Recovered.code();
+        results[start + STANDING_OFFSET] = u8::from(Standing::Recovered);
     }
 }
 
@@ -59,7 +59,7 @@ pub fn recover_three(bytes: &[u8], place: Place, designated: u8, results: &mut [
     recover(third, designated, results, start);
 }
 
-// Writes a result record into the rest of the buffer, from its start.
+// Writes a result record at an offset of the buffer, as the definitions name it.
 pub fn write_at(results: &mut [u8], at: usize, res: ResultRecord)
     requires { at + result_size ≤ length results.old }
     ensures { results.new ≡ sets results.old at (result_bytes ungraded res) }

@@ -49,8 +49,9 @@ fn write_regraded(bytes: &[u8], records: usize, plan: Plan, results: &mut [u8])
     write_again(&sheet, plan.designated, results);
 }
 
-// The units of a sheet that is graded again into a result buffer, or the refusal. Beside the grading of a sheet by its own plan: what is
-// left to share are the calls.
+// The units of a sheet that is graded again into a result buffer, or the refusal. Three gradings have this shape, those of `tally` and of
+// `mold` and this one: a check, the room, the records. One function for all would take closures for the check and for the writing, whose
+// contracts speak of the whole buffer: no plainer than three calls.
 fn regraded(bytes: &[u8], plan: &[u8], results: &mut [u8]) -> Result<usize, Refusal>
     ensures { ◌≡◌ {A = Outcome} (record { answer = answered (length bytes.now) result; buffer = results.new }) (regrade_outcome bytes.now plan.now results.old) }
 {

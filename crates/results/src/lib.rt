@@ -5,7 +5,6 @@ ghost use Rattle.std.specs.Prelude.{◌≡◌, ◌≤◌, length};
 ghost use Rattle.std.proofs.lemmas.List.Edits.{sets};
 ghost use Rattle.results.specs.Record.{result_size, result_bytes};
 
-use encoding::four_bytes;
 use units::{CLASSES, Cusums, Overshoots};
 
 // Bytes of a result record, and offsets of its fields.
@@ -30,7 +29,8 @@ pub const CUSUM_WIDTH: usize = 2;
 
 const OVERSHOOT_WIDTH: usize = 4;
 
-// What a result record says of a unit, but for its code grade, which is known last.
+// What a result record says of a unit, but for its code grade, which is known last. Grades and standing are its bytes: the enum of standings
+// is of `rules`, which this crate does not know.
 #[derive(Clone, Copy)]
 pub struct ResultRecord {
     pub code: u16,
@@ -41,66 +41,67 @@ pub struct ResultRecord {
     pub overshoots: Overshoots,
 }
 
-// The bytes of a record with this code grade, one by one: the one place here that spells the classes out.
+// The bytes of a record with this code grade, one by one: the one place here that spells the classes out. Of a CuSum the lowest two bytes
+// stand there, of an overshoot the lowest four. Not `map` over the classes, nor `last_chunk`: with them a sheet of units that meet takes
+// some 20 percent more instructions.
 fn bytes_of(res: ResultRecord, grade: u8) -> [u8; RESULT_SIZE]
     ensures { result ≡ result_bytes grade res }
 {
+    let code = res.code.to_be_bytes();
     let cusums = res.cusums;
-    let critical = cusums[0].tenths;
-    let severe = cusums[1].tenths;
-    let major = cusums[2].tenths;
-    let total = cusums[3].tenths;
+    let critical = cusums[0].tenths.to_be_bytes();
+    let severe = cusums[1].tenths.to_be_bytes();
+    let major = cusums[2].tenths.to_be_bytes();
+    let total = cusums[3].tenths.to_be_bytes();
     let overshoots = res.overshoots;
-    let over_critical = four_bytes(overshoots[0]);
-    let over_severe = four_bytes(overshoots[1]);
-    let over_major = four_bytes(overshoots[2]);
-    let over_total = four_bytes(overshoots[3]);
-    let code = res.code;
+    let over_critical = overshoots[0].to_be_bytes();
+    let over_severe = overshoots[1].to_be_bytes();
+    let over_major = overshoots[2].to_be_bytes();
+    let over_total = overshoots[3].to_be_bytes();
     [
         0x47,
         0x52,
-        (code / 256 % 256) as u8,
-        (code % 256) as u8,
+        code[0],
+        code[1],
         res.portion,
         grade,
         res.plan,
         res.standing,
-        (critical / 256 % 256) as u8,
-        (critical % 256) as u8,
-        (severe / 256 % 256) as u8,
-        (severe % 256) as u8,
-        (major / 256 % 256) as u8,
-        (major % 256) as u8,
-        (total / 256 % 256) as u8,
-        (total % 256) as u8,
-        over_critical[0],
-        over_critical[1],
-        over_critical[2],
-        over_critical[3],
-        over_severe[0],
-        over_severe[1],
-        over_severe[2],
-        over_severe[3],
-        over_major[0],
-        over_major[1],
-        over_major[2],
-        over_major[3],
-        over_total[0],
-        over_total[1],
-        over_total[2],
-        over_total[3],
+        critical[2],
+        critical[3],
+        severe[2],
+        severe[3],
+        major[2],
+        major[3],
+        total[2],
+        total[3],
+        over_critical[4],
+        over_critical[5],
+        over_critical[6],
+        over_critical[7],
+        over_severe[4],
+        over_severe[5],
+        over_severe[6],
+        over_severe[7],
+        over_major[4],
+        over_major[5],
+        over_major[6],
+        over_major[7],
+        over_total[4],
+        over_total[5],
+        over_total[6],
+        over_total[7],
     ]
 }
 
-// Copies a record to the start of `rest`.
-fn put(rest: &mut [u8], bytes: [u8; RESULT_SIZE])
-    requires { result_size ≤ length rest.old }
-    ensures { rest.new ≡ sets rest.old 0 bytes }
+// Copies a record to the start of `rest`. Not by `copy_from_slice` or `first_chunk_mut`: with them a sheet of units that meet takes some
+// 20 percent more instructions.
+pub fn put<const N: usize>(rest: &mut [u8], bytes: [u8; N])
+    requires { N ≤ length rest.old }
+    ensures { rest.new ≡ sets rest.old 0 bytes.entry }
 {
-    let mut i: usize = 0;
-    while i < RESULT_SIZE {
+    for i in 0..N {
         rest[i] = bytes[i];
-        i += 1;
     }
 }
 

@@ -12,7 +12,8 @@ use Rattle.units.specs.declared.Entry.TheVariants.{UnitRecord, Redesignation, Br
 use Rattle.units.proofs.Bounds.{new_cusum_le}
 use Rattle.units.proofs.Classes.{at_class}
 use Rattle.units.proofs.Failing as failing
-use Rattle.units.proofs.Tests.{and_both, and_false}
+use Rattle.std.proofs.Math.Bool.{and-false}
+use Rattle.units.proofs.Tests.{and_both}
 use Rattle.rules.specs.StepThree.{in_step_three, in_force_in, in_force, worse_of_two, without_run, restarted, graded, qualifies_with, qualifies_in, after_break, next}
 use Rattle.rules.specs.Sheet.{Sheet, before, in_force_at, graded_at, qualifies_at}
 use Rattle.rules.specs.declared.Phase.{Phase}
@@ -130,4 +131,4 @@ failing_never_qualifies sheet orderly i unit fails =
       orderly.tolerance_rises (before sheet i).designated (in_force_at sheet i) class (designated_no_worse sheet i) has_plan_holds known,
     ))
     fails)
-    ∙ and_false (in_step_three (before sheet i).phase)
+    ∙ and-false (in_step_three (before sheet i).phase)

@@ -37,11 +37,11 @@ pub struct State {
     pub cusums: Cusums,
 }
 
-impl Standing {
-    pub fn code(self) -> u8
-        ensures { result ≡ standing_code self }
-    {
-        self as u8
+impl From<Standing> for u8 {
+    ghost from_gives = { λ standing code. code ≡ standing_code standing };
+
+    fn from(standing: Standing) -> u8 {
+        standing as u8
     }
 }
 

@@ -1,20 +1,14 @@
 -- Tests of a list, joined one after the other, as the code folds them: of the members of a list, and of the cells of a plan. By induction
 -- on the list.
-use Rattle.std.proofs.Common.{◌≡◌, refl, sym, ◌∙◌, ap, ℕ, zero, suc, Bool, true, false, ◌||◌, List, [], ◌∷◌, length, get_or, fold}
+use Rattle.std.proofs.Common.{◌≡◌, refl, sym, ◌∙◌, ap, ℕ, zero, suc, Bool, false, ◌||◌, List, [], ◌∷◌, length, get_or, fold}
 use Rattle.std.specs.List.{list_any}
 use Rattle.cusum.specs.declared.PlanNumbers.{PlanNumbers}
 use Rattle.units.specs.Conditions.{any}
 use Rattle.units.specs.Words.{up_from, no_numbers}
+use Rattle.units.proofs.Lists.{folded}
 use Rattle.units.specs.declared.Plan.{Plan}
 use Rattle.layout.specs.Layout.{table_size}
 use Rattle.sheet.specs.Refusals.{any_numbers}
-
--- folded from what is found before the list
-pub folded : {A : Type 0} (test : A → Bool) (found : Bool) (all : List A) → fold (λ before member. before || test member) found all ≡ (found || list_any test all)
-folded test true [] = refl
-folded test false [] = refl
-folded test true (first ∷ others) = folded test true others
-folded test false (first ∷ others) = folded test (test first) others
 
 any_behind : (test : ℕ → Bool) (first n : ℕ) → any test (up_from (suc first) n) ≡ any (λ i. test (suc i)) (up_from first n)
 unfolding any

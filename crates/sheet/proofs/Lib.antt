@@ -1,6 +1,5 @@
 pub mod LeftToRight
 pub mod Any
-pub mod Placed
 pub mod Grounds
 pub mod Checking
 pub mod Accepted

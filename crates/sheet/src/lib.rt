@@ -175,7 +175,8 @@ fn designated_after(bytes: &[u8], at: usize, mark: Option<Mark>, designated: u8)
     }
 }
 
-// The records behind a plan, from left to right. A `while`: each record says where the next begins, and no range does.
+// The records behind a plan, from left to right. A `while`, and no iterator over places: where the next record begins is known only once
+// this one is not refused.
 fn check_records(bytes: &[u8]) -> Result<Checked, Refusal>
     requires { plan_size ≤ length bytes.now }
     ensures { verdict_of result ≡ check_from bytes.now (length bytes.now) 0 }

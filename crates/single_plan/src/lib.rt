@@ -20,7 +20,8 @@ use units::{
     step_classes,
 };
 
-// A sheet whose records, so many, are whole, and the table of the plan that it is graded under.
+// A sheet that has passed the check: so many records, and the table of the plan that it is graded under. That the records are whole is part
+// of `Walk`, which the contracts say of the place. The designated grade is no part: a redesignation changes it.
 #[derive(Clone, Copy)]
 pub struct CheckedSheet<'a> {
     pub bytes: &'a [u8],
@@ -28,7 +29,8 @@ pub struct CheckedSheet<'a> {
     pub table: &'a Table,
 }
 
-// Where the writing stands: before a record, with the CuSums there.
+// Where the writing stands: before a record, with the CuSums there. No struct of sheet, place and buffer, for the reason of `Position` in
+// `writing`.
 #[derive(Clone, Copy)]
 pub struct Reached {
     pub place: Place,
@@ -90,7 +92,8 @@ pub fn graded_by(table: Table, grade: u8, unit: SampleUnit, stepped: SteppedClas
 }
 
 // Grades a unit under the designated plan, whether it meets or fails, and writes what is recorded of it: its grading.
-fn write_unit(
+#[inline(always)]
+pub fn write_unit(
     table: Table,
     designated: u8,
     here: Reached,
@@ -109,7 +112,7 @@ fn write_unit(
 
 // Writes what units that meet the designated plan write, and goes past them and past breaks: up to a unit that fails, a redesignation or the
 // end. Most records of most sheets are such; this loop has the row of their plan alone, and not the table, which it would keep in memory. Where
-// no class fails none is over.
+// no class fails none is over. A `while`, and no iterator over places: the pass stops among the records and hands its place on.
 #[inline(always)]
 pub fn write_meeting(
     sheet: &CheckedSheet,

@@ -1,4 +1,5 @@
 pub mod Entries
+pub mod Gradings
 pub mod Cases
 pub mod AcceptedSheet
 pub mod Computing

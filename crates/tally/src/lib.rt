@@ -13,7 +13,7 @@ use sheet::check;
 use single_plan::CheckedSheet;
 use writing::write_records;
 
-// The units of a sheet that is graded into a result buffer, or its refusal.
+// The units of a sheet that is graded into a result buffer, or its refusal. One of three gradings of this shape: see `regrade::regraded`.
 fn graded(bytes: &[u8], results: &mut [u8]) -> Result<usize, Refusal>
     ensures { ◌≡◌ {A = Outcome} (record { answer = answered (length bytes.now) result; buffer = results.new }) (outcome bytes.now results.old) }
 {

@@ -68,7 +68,7 @@ fn read_kind<R: Read>(input: &mut R) -> Result<Kind, Stop>
     Ok(Kind::try_from(code[0])?)
 }
 
-// Reads a length and as many bytes, or fewer where the input ends before them.
+// Reads a length and as many bytes, or fewer where the input ends before them. A `usize` has no `From` of four bytes.
 fn read_bytes<'a, R: Read>(input: &mut R, room: &'a mut [u8]) -> Result<&'a [u8], Stop>
     ensures { IfOk result (λ bytes. LosesSized (R.remaining input.old) (R.remaining input.new) bytes.now) }
 {
@@ -114,7 +114,7 @@ fn print_part(out: &mut impl Write, results: &[u8], code: u16) -> io::Result<()>
     match lookup::find(results, code) {
         Ok(Some(found)) => print_found(out, found.offset, found.part),
         Ok(None) => writeln!(out, "not on this sheet"),
-        Err(cause) => print_refused(out, cause.number()),
+        Err(cause) => print_refused(out, u32::from(cause)),
     }
 }
 
@@ -126,14 +126,14 @@ fn print_lookup<R: Read, W: Write>(input: &mut R, out: &mut W, results: &[u8]) -
     Ok(())
 }
 
-// The answer is what C gets, with number 0 where a lot is graded.
 fn print_lot(out: &mut impl Write, lot: &[u8]) -> io::Result<()> {
-    let answer = lots::grade_lot(lot);
-    if answer.number != 0 {
-        return print_refused(out, answer.number);
+    match lots::grade(lot) {
+        Ok(grade) => {
+            let letter = char::from(letter_of(b"ABC", b'S', grade));
+            writeln!(out, "lot {letter}")
+        }
+        Err(cause) => print_refused(out, u32::from(cause)),
     }
-    let letter = char::from(letter_of(b"ABC", b'S', answer.grade));
-    writeln!(out, "lot {letter}")
 }
 
 // Prints what has this kind, with what stands behind it in the input.

@@ -24,7 +24,7 @@ pub const CUSUM_SIZE: usize = NUMBER_DIGITS + 1;
 pub fn letter_of(letters: &[u8], other: u8, number: u8) -> u8
     ensures { result ≡ get_or letters.now number other }
 {
-    letters.get(number as usize).copied().unwrap_or(other)
+    letters.get(usize::from(number)).copied().unwrap_or(other)
 }
 
 // Lines of the units of a sheet, from its bytes or those of its results.
@@ -64,10 +64,11 @@ pub fn print_refusal(number: u32, offset: usize, text: &mut [u8]) -> usize
 {
     let mut page = Page::new(text);
     page.refusal_line(number, offset);
-    page.size
+    page.size()
 }
 
-// What is printed for an answer: the lines of the units, or the refusal.
+// What is printed for an answer: the lines of the units, or the refusal. An answer and no `Result`: that is what graders give for C and for
+// printing, and any number is printed.
 #[tactic(auto, using(crate::proofs::Pages::whole_text), unfolding(crate::specs::Text::text_by))]
 pub fn print_answer<L: UnitLines>(answer: Answer, lines: &L, text: &mut [u8]) -> usize
     requires there { answer.number ≡ 0 → (unit : ℕ) → unit < answer.units → L.HasUnit lines.now unit }
@@ -80,5 +81,5 @@ pub fn print_answer<L: UnitLines>(answer: Answer, lines: &L, text: &mut [u8]) ->
     }
     let mut page = Page::new(text);
     unit_lines(lines, answer.units, &mut page);
-    page.size
+    page.size()
 }

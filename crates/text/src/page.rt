@@ -2,23 +2,30 @@
 ghost use Rattle.std.specs.Prelude.{◌≡◌, ◌+◌, ◌≤◌, [], ◌∷◌, length};
 ghost use Rattle.text.specs.Text.{space, decimal, one_decimal, refused_line};
 
-// The caller's bytes, and how many of them are written.
+// The caller's bytes, and how many of them are written. No `fmt::Write`: what it writes may fail, and here the room is proved, so that
+// nothing does.
 #[derive(Drop)]
 pub struct Page<'a> {
     text: &'a mut [u8],
-    pub(crate) size: usize,
+    size: usize,
     ghost inside: { size ≤ length text.now },
 }
 
 impl<'a> Page<'a> {
     ghost use Rattle.text.specs.Wrote.{Wrote, HasRoom};
 
-    pub(crate) fn new(text: &'a mut [u8]) -> Page<'a>
+    pub fn new(text: &'a mut [u8]) -> Page<'a>
         ensures same_bytes { result.text.ghost_name ≡ text.entry.ghost_name }
         ensures empty { result.size ≡ 0 }
         ensures kept { result.text.now ≡ text.old }
     {
         Page { text, size: 0 }
+    }
+
+    pub fn size(&self) -> usize
+        ensures { result ≡ self.now.size }
+    {
+        self.size
     }
 
     pub fn byte(&mut self, byte: u8)
@@ -42,15 +49,11 @@ impl<'a> Page<'a> {
         self.size = end;
     }
 
-    // One digit, as most numbers of a line have, needs no buffer.
-    #[tactic(auto, using(crate::proofs::Decimals::one_digit, crate::proofs::Decimals::as_printed))]
+    #[tactic(auto, using(crate::proofs::Decimals::as_printed))]
     pub fn decimal(&mut self, value: usize)
         requires { HasRoom self.old (length (decimal value)) }
         ensures { Wrote self.old (decimal value) self.new }
     {
-        if value < 10 {
-            return self.byte(b'0' + value as u8);
-        }
         let mut digits = itoa::Buffer::new();
         self.bytes(digits.format(value).as_bytes());
     }
@@ -71,14 +74,14 @@ impl<'a> Page<'a> {
         requires { HasRoom self.old (1 + length (one_decimal tenths)) }
         ensures { Wrote self.old (space ∷ one_decimal tenths) self.new }
     {
-        self.number_field((tenths / 10) as usize);
+        self.number_field(usize::from(tenths / 10));
         self.byte(b'.');
-        self.byte(b'0' + (tenths % 10) as u8);
+        self.decimal(usize::from(tenths % 10));
     }
 
-    // "refused", number and offset.
+    // "refused", number and offset. A `usize` has no `From` of a `u32`.
     #[tactic(auto, using(crate::proofs::Pages::joined), unfolding(crate::specs::Text::rest_of_line, crate::specs::Text::line_with, crate::specs::Text::refused_line))]
-    pub(crate) fn refusal_line(&mut self, number: u32, offset: usize)
+    pub fn refusal_line(&mut self, number: u32, offset: usize)
         requires { HasRoom self.old (length (refused_line number offset)) }
         ensures { Wrote self.old (refused_line number offset) self.new }
     {

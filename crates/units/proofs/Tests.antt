@@ -1,29 +1,8 @@
--- Laws of tests: the ends of `any` and `all`, both over any condition, and the two ways out of a test.
--- By cases on the test.
+-- Laws of tests: of two conditions, and of some or all members of a list. By cases on the test, and by induction on the list.
 use mathlib.Core.Path.{◌≡◌, refl}
 use mathlib.Core.Bool.{Bool, true, false, ◌&&◌, ◌||◌, false≢true, true≢false}
 use mathlib.Core.List.{List, [], ◌∷◌}
 use Rattle.units.specs.Conditions.{any, all}
-
-pub and_true : (b : Bool) → (b && true) ≡ b
-and_true true = refl
-and_true false = refl
-
-pub and_false : (b : Bool) → (b && false) ≡ false
-and_false true = refl
-and_false false = refl
-
-pub or_false : (b : Bool) → (b || false) ≡ b
-or_false true = refl
-or_false false = refl
-
-pub or_true : (b : Bool) → (b || true) ≡ true
-or_true true = refl
-or_true false = refl
-
-pub or_assoc : (a b c : Bool) → (a || (b || c)) ≡ ((a || b) || c)
-or_assoc true b c = refl
-or_assoc false b c = refl
 
 -- of two conditions neither of which holds
 pub or_first : (first second : Bool) → (first || second) ≡ false → first ≡ false

@@ -25,7 +25,8 @@ pub const CELLS: usize = GRADES * CLASSES;
 // The plan of a grade: S, T and L of each class.
 pub type Row = [PlanNumbers; CLASSES];
 
-// The plan is a table of three grades by four classes.
+// The plan is a table of three grades by four classes. An alias, and no struct whose methods take a grade: the definitions and theorems are
+// over lists, and each would name a field first.
 pub type Table = [Row; GRADES];
 
 // A CuSum of each class.
@@ -34,10 +35,10 @@ pub type Cusums = [Cusum; CLASSES];
 // An overshoot of each class, in tenths.
 pub type Overshoots = [u64; CLASSES];
 
-// The count of each class, in tenths.
+// The count of each class, in tenths. No struct with a row: each goes without the other, too.
 type Tenths = [u32; CLASSES];
 
-// The designated grade, and S, T and L of grades A, B, C, in each by class.
+// The designated grade, and S, T and L of grades A, B, C, in each by class: flat, as they are read and checked. `table` has them by grade.
 #[derive(Clone, Copy)]
 pub struct Plan {
     pub designated: u8,
@@ -65,7 +66,8 @@ pub enum Entry {
     Break,
 }
 
-// A unit graded under the plan of a grade: its new CuSums and overshoots, whether it fails, its defect grade.
+// A unit graded under the plan of a grade: its new CuSums and overshoots, whether it fails, its defect grade. No `Option` by whether it
+// fails: the other fields are recorded of every unit.
 #[derive(Clone, Copy)]
 pub struct Grading {
     pub cusums: Cusums,
@@ -75,7 +77,8 @@ pub struct Grading {
 }
 
 // The CuSums after a unit, how far over each class is, and whether a class fails. Two lists, and none of `Stepped`: the CuSums alone go
-// on to the next unit, and a result record has them before the overshoots.
+// on to the next unit, and a result record has them before the overshoots. No `Option`, for the reason of `Grading`, which has these fields
+// again, flat, as the definitions name them.
 #[derive(Clone, Copy)]
 pub struct SteppedClasses {
     pub cusums: Cusums,
@@ -112,7 +115,8 @@ fn no_row() -> Row
     [none; CLASSES]
 }
 
-// The plan of a grade; zeros where there is none. Literal indices: a computed one copies the whole table at each call.
+// The plan of a grade; zeros where there is none, and no `Option`, as in the definitions, so that the rules speak of a row at every grade.
+// Literal indices: a computed one copies the whole table at each call.
 pub fn row_of(table: Table, grade: u8) -> Row
     ensures { result ≡ row_of table grade }
 {
@@ -150,26 +154,25 @@ pub fn starts(row: Row) -> Cusums
     row.map(Cusum::starting)
 }
 
-// Rule 2 in every class of a plan. A loop and no chain: three maps over an array of the steps take 39 percent more instructions in a sheet of
-// units that meet.
-#[tactic(auto, unfolding(crate::specs::Unit::stepped_in))]
+// Rule 2 in every class of a plan, one by one.
+fn step_each(row: Row, cusums: Cusums, tenths: Tenths) -> [Stepped; CLASSES]
+    ensures { result ≡ map (λ class. step_of (in_class row class) (get_or cusums class zero_cusum) (count_tenths tenths class)) classes }
+{
+    array::from_fn(|class| cusums[class].step(row[class], tenths[class]))
+}
+
+// Rule 2 in every class of a plan.
+#[tactic(auto, unfolding(crate::specs::Unit::stepped_in, crate::specs::Conditions::any))]
 pub fn step_classes(row: Row, cusums: Cusums, unit: SampleUnit) -> SteppedClasses
     ensures { result ≡ stepped_in row cusums (tenths_of unit) }
 {
-    let tenths = tenths_of(unit);
-    let mut new = [Cusum::ZERO; CLASSES];
-    let mut over = [0; CLASSES];
-    let mut fails = false;
-    for class in 0..CLASSES {
-        let stepped = cusums[class].step(row[class], tenths[class]);
-        new[class] = stepped.cusum;
-        over[class] = stepped.overshoot;
-        fails = fails | stepped.fails;
-    }
+    let stepped = step_each(row, cusums, tenths_of(unit));
     SteppedClasses {
-        cusums: new,
-        overshoots: over,
-        fails,
+        cusums: stepped.map(|class| class.cusum),
+        overshoots: stepped.map(|class| class.overshoot),
+        fails: stepped
+            .iter()
+            .fold(false, |fails, class| fails | class.fails),
     }
 }
 
@@ -198,7 +201,7 @@ fn none_above<F: Fn(PlanNumbers) -> u64>(bound: F, row: Row, tenths: Tenths) -> 
 {
     row.iter()
         .zip(tenths.iter())
-        .all(|(numbers, tenths)| *tenths as u64 <= bound(*numbers))
+        .all(|(numbers, tenths)| u64::from(*tenths) <= bound(*numbers))
 }
 
 // Whether a plan admits the counts: T+L is not exceeded in any class.
@@ -207,7 +210,7 @@ fn admits(row: Row, tenths: Tenths) -> bool
     ensures { result ≡ admits row tenths }
 {
     none_above(
-        |numbers| numbers.tolerance as u64 + numbers.limit as u64,
+        |numbers| u64::from(numbers.tolerance) + u64::from(numbers.limit),
         row,
         tenths,
     )
@@ -218,7 +221,7 @@ fn admits(row: Row, tenths: Tenths) -> bool
 fn within_tolerance(row: Row, tenths: Tenths) -> bool
     ensures { result ≡ within_tolerance row tenths }
 {
-    none_above(|numbers| numbers.tolerance as u64, row, tenths)
+    none_above(|numbers| u64::from(numbers.tolerance), row, tenths)
 }
 
 #[tactic(auto, unfolding(crate::specs::Unit::all_zero, crate::specs::Conditions::all))]

@@ -31,6 +31,9 @@ use Rattle.results.specs.declared.ResultRecord.{ResultRecord}
 use Rattle.codes.specs.Codes.{ungraded}
 use Rattle.recording.specs.Sheet.{sheet_of, result_with, result_if}
 use Rattle.recording.specs.Recovering.{written_at, written_so_far, recovered_in, ThreeHere, three_recovered}
+use Rattle.single_plan.specs.SinglePlan.{result_under}
+use Rattle.single_plan.specs.declared.Reached.{Reached}
+use Rattle.single_plan.proofs.Passing.{result_outside}
 use Rattle.writing.specs.Writing.{UnitHere, OneMore}
 use Rattle.single_plan.specs.Passing.{grading_by}
 use Rattle.recording.proofs.Recovering.{unit_written, nothing_recovered, run_recovered}
@@ -245,6 +248,20 @@ unit_under_designated {bytes} {n} {table} {place} {state} {unit} results here ou
       next_by table state unit grading false after grades (outside_none table state unit outside) is_after,
       designated_done here grading grades results behind refl (stored ∙ same_result) outside,
     )
+
+-- as the pass of `single_plan` writes it, from the place and its CuSums on
+pub unit_by_plan : {bytes : List ℕ} {n : ℕ} {table : Table} {place : Place} {state : State} {unit : SampleUnit} (results : List ℕ)
+    → UnitHere bytes n table place state unit (length results) → state.phase ≡ Designated
+    → {reached : Reached} → reached ≡ record { place = place; cusums = state.cusums }
+    → {grading : Grading} → grading ≡ grading_of table state.designated reached.cusums (tenths_of unit)
+    → {behind : List ℕ} → behind ≡ sets results (result_size * reached.place.units)
+    (result_bytes ungraded (result_under state.designated unit (grading_of table state.designated reached.cusums (tenths_of unit))))
+    → {after : State} → after ≡ after_unit table state grading false
+    → (after ≡ next table state (UnitRecord unit)) × OneMore (sheet_of bytes n) place.index results behind
+unit_by_plan {table = table} {state = state} {unit = unit} results here outside {reached} is_reached {grading} is_grading stored is_after =
+    let by_plan : grading ≡ grading_of table state.designated state.cusums (tenths_of unit) = rw is_reached at is_grading in
+    unit_under_designated results here outside by_plan
+    (ap (result_under state.designated unit) (sym by_plan) ∙ sym (result_outside state unit grading outside)) (rw is_reached at stored) is_after
 
 -- in step 3: its grading and whether it qualifies are those of the state
 module _ {bytes : List ℕ} {n : ℕ} {table : Table} {place : Place} {state : State} {unit : SampleUnit} (results : List ℕ)

@@ -20,9 +20,10 @@ use recording::{recover_three, result_of, write_at};
 use results::RESULT_SIZE;
 use rules::{Phase, State};
 use single_plan::{CheckedSheet, Reached, graded_by, outside, write_meeting};
-use units::{Entry, SampleUnit, qualifies_with, row_of, step_classes, step_in_force};
+use units::{Entry, SampleUnit, qualifies_with, step_in_force};
 
-// Where the writing stands: before a record, with the state of the grading there.
+// Where the writing stands: before a record, with the state of the grading there. Sheet, position and buffer stay three parameters, and what
+// is asked of them clauses: a struct of them would lend the buffer on, and each contract would have to say that it is the same buffer.
 #[derive(Clone, Copy)]
 struct Position {
     place: Place,
@@ -63,15 +64,10 @@ fn write_designated(
     ensures buffer { OneMore (sheet_of sheet.now.bytes.now sheet.now.records) position.place.index results.old results.new }
 {
     let state = position.state;
-    let row = row_of(*sheet.table, state.designated);
-    let stepped = step_classes(row, state.cusums, unit);
-    let grading = graded_by(*sheet.table, state.designated, unit, stepped);
-    write_at(
-        results,
-        RESULT_SIZE * position.place.units,
-        result_of(state, unit, grading),
-    );
-    state.after_unit(*sheet.table, grading, false)
+    let table = *sheet.table;
+    let here = position.reached();
+    let grading = single_plan::write_unit(table, state.designated, here, unit, results);
+    state.after_unit(table, grading, false)
 }
 
 // The same for a unit in step 3; where step 3 ends, it and the two before it are recovered.
@@ -207,7 +203,7 @@ impl Course for Again {
 }
 
 // Writes the result records of a sheet, one after the other from the buffer's start, no code graded yet. Where it is graded again, failures
-// in a row and redesignations mean nothing.
+// in a row and redesignations mean nothing. A `while`, and no iterator over places: a step may pass many records.
 fn write_pass<C: Course>(sheet: &CheckedSheet, designated: u8, results: &mut [u8])
     requires { Ready C.again sheet.now.bytes.now sheet.now.records sheet.now.table.now designated (length results.old) }
     ensures { Done C.again sheet.now.bytes.now sheet.now.records sheet.now.table.now designated results.old results.new }

@@ -5,7 +5,7 @@ use Rattle.codes.proofs.OneCode.{Written}
 use Rattle.codes.proofs.write_code.Given as goal
 
 abbrev pub invariant-loop-next : goal.invariant-loop-next
-invariant-loop-next l = Written l.initial.results l.code l.grade (result_records l.initial.results) l.from l.results
+invariant-loop-next l = Written l.initial.results l.code l.grade l.from l.results
 
 abbrev pub decreases-loop-next : goal.decreases-loop-next
 decreases-loop-next l = result_records l.results - l.from

@@ -9,7 +9,7 @@ unfolding empty_results
 print_answer-requires c =
     let input = c.args.input.now in
     let grade = c.grade-answer in
-    few_units input grade.result grade.new.results grade.ensures
+    λ accepted. few_units input grade.result grade.new.results grade.ensures
 
 pub returns : goal.returns
 unfolding empty_results

@@ -1,6 +1,6 @@
 -- By the case of the look-up: the reading gives the first of the worst portions, and the part is that record, where it is in memory.
 use Rattle.std.proofs.Common.{sym}
-use Rattle.lookup.proofs.Cases.{refused_is, reading_found, reading_none, found_part, handed_part, handed_nothing}
+use Rattle.lookup.proofs.Cases.{refused_is, reading_found, reading_none, found_part, found_handed, handed_nothing}
 use Rattle.lookup.proofs.find.Goals as goal
 
 pub returns-then-results-ne0 : goal.returns-then-results-ne0
@@ -19,4 +19,4 @@ pub returns : goal.returns
 returns c =
     let results = c.args.results in
     let is = reading_found results.now c.args.code c.if-results-ne0.false c.read_records.ensures c.in-Some.is in
-    record { place = found_part results.now c.args.code _ is; back = handed_part results.now c.args.code _ is results.ref_ptr }
+    record { place = found_part results.now c.args.code _ is; back = found_handed results.now c.args.code _ is results.ref_ptr }

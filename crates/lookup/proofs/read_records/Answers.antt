@@ -1,7 +1,7 @@
 -- The loop's invariant: what is found in the records before the rest.
-use Rattle.std.proofs.Common.{◌∙◌, sym, ap, eqb-true}
+use Rattle.std.proofs.Common.{◌∙◌, sym, eqb-true}
 use Rattle.std.proofs.lemmas.Bool.{eqb-false}
-use Rattle.lookup.proofs.SoFar.{reads_start, reads_end, reads_no_worse, reads_others, reads_worse, reads_ends}
+use Rattle.lookup.proofs.SoFar.{reads_end, reads_no_worse, reads_others, reads_worse, reads_ends}
 use Rattle.lookup.proofs.read_records.Goals as goal
 
 pub returns-then-grade-ge-SUBSTANDARD : goal.returns-then-grade-ge-SUBSTANDARD

@@ -1,7 +1,7 @@
 -- Each return is a case of `mold_outcome`.
 use Rattle.std.proofs.Common.{arith}
 use Rattle.std.proofs.lemmas.Result.{err_from_is_err_and}
-use Rattle.mold.proofs.Placed.{number_positive}
+use Rattle.outcome.proofs.Placed.{number_positive}
 use Rattle.mold.proofs.Cases.{outcome_refused, passed_whole, outcome_short, outcome_graded}
 use Rattle.mold.proofs.graded.Goals as goal
 

@@ -10,7 +10,7 @@ unfolding empty_results
 print_answer-requires c =
     let args = c.args in
     let regrade = c.regrade-answer in
-    few_units args.sheet.now args.plan.now regrade.result regrade.new.results regrade.ensures
+    λ accepted. few_units args.sheet.now args.plan.now regrade.result regrade.new.results regrade.ensures
 
 pub returns : goal.returns
 unfolding empty_results

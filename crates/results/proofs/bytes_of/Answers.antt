@@ -1,32 +1,70 @@
--- Byte for byte the definition, by computation.
-use Prim.Native.Nat.{ℕ}
-use mathlib.Core.Path.{◌≡◌}
-use mathlib.Core.List.{List, [], ◌∷◌, ◌++◌}
-use lib.ListN.{take}
-use Rattle.encoding.specs.Bytes.{byte, bytes_of}
-use Rattle.units.specs.Words.{overshoot_for}
+-- Byte for byte the definition: the lowest bytes of each number.
+use Prim.Native.Nat.{ℕ, ◌/◌, ◌^◌}
+use mathlib.Core.Path.{◌≡◌, refl}
+use mathlib.Core.List.{[], ◌∷◌}
+use native.Mathlib.Omega.{arith}
+use lib.ListN.{get_or}
+use Rattle.std.specs.Int.{w16, w32, w64, to_be_bytes, bytes_high_first}
+use Rattle.encoding.specs.Bytes.{bytes_of}
+use Rattle.units.specs.Words.{tenths_in, overshoot_for}
 use Rattle.results.specs.declared.ResultRecord.{ResultRecord}
-use Rattle.results.specs.Record.{overshoots_offset, overshoot_width, result_bytes, class_bytes}
+use Rattle.results.specs.Record.{result_bytes, class_bytes}
 use Rattle.results.proofs.bytes_of.Goals as goal
 
--- four bytes of each overshoot in their place
-bytes_are : (grade : ℕ) (result : ResultRecord) {critical severe major total : List ℕ}
-    → critical ≡ bytes_of overshoot_width (overshoot_for result.overshoots 0)
-    → severe ≡ bytes_of overshoot_width (overshoot_for result.overshoots 1)
-    → major ≡ bytes_of overshoot_width (overshoot_for result.overshoots 2)
-    → total ≡ bytes_of overshoot_width (overshoot_for result.overshoots 3)
-    → take overshoots_offset (result_bytes grade result)
-    ++ (byte critical 0 ∷ byte critical 1 ∷ byte critical 2 ∷ byte critical 3
-    ∷ byte severe 0 ∷ byte severe 1 ∷ byte severe 2 ∷ byte severe 3
-    ∷ byte major 0 ∷ byte major 1 ∷ byte major 2 ∷ byte major 3
-    ∷ byte total 0 ∷ byte total 1 ∷ byte total 2 ∷ byte total 3 ∷ [])
+-- a byte's place is a power of 256, or as many divisions
+lowest_two : (value : ℕ) → bytes_of 2 value ≡ bytes_high_first 2 value
+unfolding bytes_of
+lowest_two value = refl
+
+lowest_four : (value : ℕ) → bytes_of 4 value ≡ bytes_high_first 4 value
+unfolding bytes_of
+lowest_four value =
+    let third : value / 256 / 256 / 256 ≡ value / 256 ^ 3 = omega arith in
+    let second : value / 256 / 256 ≡ value / 256 ^ 2 = omega arith in
+    rw (third, second)
+
+abbrev cusum_byte : ResultRecord → ℕ → ℕ → ℕ
+cusum_byte result class k = get_or (to_be_bytes w32 (tenths_in result.cusums class)) k 0
+
+abbrev overshoot_byte : ResultRecord → ℕ → ℕ → ℕ
+overshoot_byte result class k = get_or (to_be_bytes w64 (overshoot_for result.overshoots class)) k 0
+
+spelled : (grade : ℕ) (result : ResultRecord) →
+    0x47 ∷ 0x52 ∷ get_or (to_be_bytes w16 result.code) 0 0 ∷ get_or (to_be_bytes w16 result.code) 1 0
+    ∷ result.portion ∷ grade ∷ result.plan ∷ result.standing
+    ∷ cusum_byte result 0 2 ∷ cusum_byte result 0 3 ∷ cusum_byte result 1 2 ∷ cusum_byte result 1 3
+    ∷ cusum_byte result 2 2 ∷ cusum_byte result 2 3 ∷ cusum_byte result 3 2 ∷ cusum_byte result 3 3
+    ∷ overshoot_byte result 0 4 ∷ overshoot_byte result 0 5 ∷ overshoot_byte result 0 6 ∷ overshoot_byte result 0 7
+    ∷ overshoot_byte result 1 4 ∷ overshoot_byte result 1 5 ∷ overshoot_byte result 1 6 ∷ overshoot_byte result 1 7
+    ∷ overshoot_byte result 2 4 ∷ overshoot_byte result 2 5 ∷ overshoot_byte result 2 6 ∷ overshoot_byte result 2 7
+    ∷ overshoot_byte result 3 4 ∷ overshoot_byte result 3 5 ∷ overshoot_byte result 3 6 ∷ overshoot_byte result 3 7 ∷ []
     ≡ result_bytes grade result
-unfolding result_bytes class_bytes bytes_of
-bytes_are grade result first second third fourth = rw (first, second, third, fourth)
+unfolding result_bytes class_bytes
+spelled grade result =
+    let cusum = tenths_in result.cusums in
+    let over = overshoot_for result.overshoots in
+    rw (
+      lowest_two (cusum 0),
+      lowest_two (cusum 1),
+      lowest_two (cusum 2),
+      lowest_two (cusum 3),
+      lowest_four (over 0),
+      lowest_four (over 1),
+      lowest_four (over 2),
+      lowest_four (over 3),
+    )
 
 pub returns : goal.returns
-unfolding result_bytes class_bytes bytes_of
 returns c =
-    let args = c.args in
-    bytes_are args.grade args.res
-    c.four_bytes-over_critical.ensures c.four_bytes-over_severe.ensures c.four_bytes-over_major.ensures c.four_bytes-over_total.ensures
+    rw (
+      c.to_be_bytes-code.ensures,
+      c.to_be_bytes-critical.ensures,
+      c.to_be_bytes-severe.ensures,
+      c.to_be_bytes-major.ensures,
+      c.to_be_bytes-total.ensures,
+      c.to_be_bytes-over_critical.ensures,
+      c.to_be_bytes-over_severe.ensures,
+      c.to_be_bytes-over_major.ensures,
+      c.to_be_bytes-over_total.ensures,
+    )
+    (spelled c.args.grade c.args.res)

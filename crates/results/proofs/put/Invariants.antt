@@ -1,14 +1,10 @@
 -- The loop's invariant: what is left to store, stored, gives what all the stores give.
-use Prim.Native.Nat.{◌-◌, ◌≤◌}
+use Prim.Native.Nat.{◌≤◌}
 use mathlib.Core.Path.{◌≡◌}
 use lib.ListN.{length, drop}
 use lib.Seq.{sets}
-use Rattle.results.specs.Record.{result_size}
 use Rattle.results.proofs.put.Given as goal
 
 abbrev pub invariant-loop-i : goal.invariant-loop-i
-invariant-loop-i l =
-    (l.i ≤ result_size) × (length l.bytes ≡ result_size) × (length l.rest ≡ length l.initial.rest) × (sets l.initial.rest 0 l.bytes ≡ sets l.rest l.i (drop l.i l.bytes))
-
-abbrev pub decreases-loop-i : goal.decreases-loop-i
-decreases-loop-i l = result_size - l.i
+invariant-loop-i g l =
+    (l.i ≤ g.row.N) × (length l.bytes ≡ g.row.N) × (length l.rest ≡ length l.initial.rest) × (sets l.initial.rest 0 l.bytes ≡ sets l.rest l.i (drop l.i l.bytes))

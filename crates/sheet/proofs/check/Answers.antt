@@ -4,7 +4,7 @@ use Rattle.outcome.specs.Grounds.{refusal_number}
 use Rattle.units.specs.Conditions.{pick}
 use Rattle.sheet.specs.Refusals.{verdict}
 use Rattle.sheet.proofs.Grounds.{plan_whole}
-use Rattle.sheet.proofs.Placed.{Placed, passed, met}
+use Rattle.outcome.proofs.Placed.{Placed, passed, met}
 use Rattle.sheet.proofs.check.Goals as goal
 
 pub returns-in_err-map_err : goal.returns-in_err-map_err

@@ -2,7 +2,7 @@
 -- or more.
 use Rattle.std.proofs.Common.{arith, rules}
 use Rattle.sheet.proofs.Checking.{GoesOn, stands_first, stands_refused, stands_on, stands_short, stands_done}
-use Rattle.sheet.proofs.Placed.{Placed, passed, met}
+use Rattle.outcome.proofs.Placed.{Placed, passed, met}
 use Rattle.sheet.proofs.check_records.Goals as goal
 use Rattle.sheet.proofs.check_records.Goals.{In_ok-map_err}
 

@@ -5,7 +5,8 @@ use Rattle.std.proofs.lemmas.Iterator.Consumers.{fold_from_yields_List}
 use Rattle.units.specs.Conditions.{any}
 use Rattle.units.specs.Words.{classes}
 use Rattle.sheet.specs.Refusals.{too_large, start_above_limit, smaller_in_class, any_numbers, table_refusal, refused_if}
-use Rattle.sheet.proofs.Any.{folded, any_cell}
+use Rattle.units.proofs.Lists.{folded}
+use Rattle.sheet.proofs.Any.{any_cell}
 use Rattle.sheet.proofs.check_table.Goals as goal
 use Rattle.sheet.proofs.check_table.Goals.{After-fold, After-fold-2, After-fold-3}
 

@@ -1,33 +1,32 @@
--- The loop's invariant: every class below this one has its new CuSum and its overshoot, and a class fails if one below did or one that
--- is left does.
-use Rattle.units.proofs.step_classes.Invariants.{Stepped}
-use Prim.Native.Nat.{ℕ, ◌≤◌}
-use mathlib.Core.Path.{◌≡◌, ap}
-use mathlib.Core.Bool.{Bool}
-use mathlib.Core.List.{List}
-use native.Mathlib.Omega.{arith}
-use lib.ListN.{length}
-use Rattle.cusum.specs.declared.PlanNumbers.{PlanNumbers}
-use Rattle.cusum.specs.declared.Cusum.{Cusum}
-use Rattle.units.specs.Words.{classes}
+-- The CuSums and the overshoots are those of the steps, and a class fails if a step does: by what `map` and `fold` give, class by class.
+use mathlib.Core.Path.{◌≡◌, ◌∙◌}
+use mathlib.Core.Bool.{◌||◌}
+use mathlib.Core.List.{map}
+use Rattle.std.proofs.Common.{rules, tests, false}
+use Rattle.std.specs.List.{list_any}
+use Rattle.std.proofs.lemmas.Iterator.{YieldsList-from_slice}
+use Rattle.std.proofs.lemmas.Iterator.Consumers.{fold_from_yields_List}
+use Rattle.cusum.specs.declared.Stepped.{Stepped}
+use Rattle.cusum.specs.Step.{step_of}
+use Rattle.units.specs.Conditions.{any}
+use Rattle.units.specs.Words.{no_numbers, zero_cusum}
 use Rattle.units.specs.Unit.{stepped_in}
-use Rattle.units.proofs.Lists.{fill_next, fill_last, tested_next, tested_last}
+use Rattle.units.proofs.Lists.{mapped, folded}
 use Rattle.units.proofs.step_classes.Goals as goal
 
-all_stepped : (row : List PlanNumbers) (cusums : List Cusum) {counts counts' : List ℕ} {new : List Cusum} {over : List ℕ} {failed : Bool} {class : ℕ}
-    → counts ≡ counts' → Stepped row cusums counts new over failed class → length classes ≤ class
-    → record { cusums = new; overshoots = over; fails = failed } ≡ stepped_in row cusums counts'
-unfolding stepped_in
-all_stepped row cusums same (filled, over_filled, tested) past =
-    rw (← same, fill_last filled past, fill_last over_filled past, tested_last tested past)
-
-pub loop-class-preserved : goal.loop-class-preserved
-loop-class-preserved c =
-    let loop = c.loop-class in (
-      fill_next loop.invariant.0 (omega arith) (ap (λ s. s.cusum) c.step-stepped.ensures),
-      fill_next loop.invariant.1 (omega arith) (ap (λ s. s.overshoot) c.step-stepped.ensures),
-      tested_next loop.invariant.2 (omega arith) (ap (λ s. s.fails) c.step-stepped.ensures),
-    )
+none : Stepped
+none = step_of no_numbers zero_cusum 0
 
 pub returns : goal.returns
-returns c = all_stepped _ _ c.tenths_of-tenths.ensures c.loop-class.invariant (omega arith)
+unfolding stepped_in any
+returns c =
+    let steps = c.step_each-stepped.result in
+    let new : c.map.result ≡ map (λ class. class.cusum) steps
+    = mapped _ _ none (λ p q x y call. search rules) c.map.ensures.items (search rules) in
+    let over : c.map-2.result ≡ map (λ class. class.overshoot) steps
+    = mapped _ _ none (λ p q x y call. search rules) c.map-2.ensures.items (search rules) in
+    let failed : c.fold.result ≡ list_any (λ class. class.fails) steps
+    = fold_from_yields_List _ (λ found class. found || class.fails) false _ c.fold.ensures.ran (YieldsList-from_slice steps cc)
+    (λ a x b q k. search (rules, tests))
+    ∙ folded (λ class. class.fails) false steps in
+    rw (new, over, failed, c.step_each-stepped.ensures, c.tenths_of.ensures)

@@ -13,10 +13,10 @@ returns c =
     let args = c.args in
     let lines = args.self.now in
     let number = length_word (args.unit + 1) (omega arith) in
-    let code = length_number c.mold_unit_at-code.result.code (omega arith) in
+    let code = length_number c.from.result (omega (arith, c.from.ensures)) in
     let cusum = length_cusum c.number_at-tenths.result (omega arith) in
     let line : Wrote args.page.now (mold_line_of lines.sheet.now lines.results.now args.unit) c.byte.new.self =
-    rw (← c.mold_unit_at-code.ensures, ← c.met_letter-met.ensures, ← c.number_at-tenths.ensures)
+    rw (← c.mold_unit_at-code.ensures, ← c.from.ensures, ← c.met_letter-met.ensures, ← c.number_at-tenths.ensures)
     (joined c.decimal.ensures
     (joined c.number_field.ensures (joined c.bytes.ensures (joined c.tenths_field.ensures c.byte.ensures))))
     in

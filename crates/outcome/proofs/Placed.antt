@@ -1,4 +1,4 @@
--- A ground that a check meets, and the refusal that the code makes of it at a place. By cases on what the check found.
+-- A ground that a check meets, and the refusal that `map_err` makes of it at an offset. By cases on what the check found.
 use Rattle.std.proofs.Common.{◌≡◌, ℕ, ◌<◌, Result, Ok, Err, MatchResult, refl, lit<}
 use Rattle.std.specs.Result.{IsErrAnd}
 use Rattle.outcome.specs.Grounds.{number_of, refusal_number}
@@ -31,20 +31,28 @@ number_positive UnlistedSampleUnits = lit< tt
 number_positive UnlistedAql = lit< tt
 number_positive FallingAql = lit< tt
 
--- what a check found, and the refusal that `map_err` makes of it at a place
+-- what a check found, and the same with its ground at an offset
 abbrev pub Placed : ℕ → Result (Unit {0}) Ground → Result (Unit {0}) Refusal → Type 0
 Placed at found placed = MatchResult found (λ passed. placed ≡ Ok passed) (λ cause. placed ≡ Err (record { cause = cause; offset = at }))
 
+-- where `?` goes on, no ground is met
 pub passed : (at : ℕ) (found : Result (Unit {0}) Ground) (placed : Result (Unit {0}) Refusal) → Placed at found placed → placed ≡ Ok tt
     → refusal_number found ≡ 0
-passed at (Ok x) placed h e = refl
-passed at (Err cause) placed h e = cc
+passed at (Ok none) placed is_placed goes_on = refl
+passed at (Err cause) placed is_placed goes_on = cc
 
--- and the exit by `?`
+-- where it leaves, with the ground at the offset
 pub met : (at : ℕ) (found : Result (Unit {0}) Ground) (placed : Result (Unit {0}) Refusal) → Placed at found placed
+    → (refusal : Refusal) → placed ≡ Err refusal → {A : Type 0} (left : Result A Refusal) → IsErrAnd left (λ given. given ≡ refusal)
+    → (cause : Ground) × (0 < number_of cause) × (refusal_number found ≡ number_of cause) × (left ≡ Err (record { cause = cause; offset = at }))
+met at found placed is_placed refusal leaves (Ok units) gives = absurd gives
+met at (Ok none) placed is_placed refusal leaves (Err given) gives = absurd (let other : Ok none ≡ Err refusal = cc in cc)
+met at (Err cause) placed is_placed refusal leaves (Err given) gives = (cause, number_positive cause, refl, cc)
+
+-- and what is answered there, of a sheet of any length
+pub met_answer : (at : ℕ) (found : Result (Unit {0}) Ground) (placed : Result (Unit {0}) Refusal) → Placed at found placed
     → (refusal : Refusal) → placed ≡ Err refusal → (left : Result ℕ Refusal) → IsErrAnd left (λ given. given ≡ refusal)
     → (length : ℕ) → (0 < refusal_number found) × (answered length left ≡ refused_as (refusal_number found) at)
-met at found placed h refusal e (Ok units) gives length = absurd gives
-met at (Ok x) placed h refusal e (Err given) gives length = let other : Ok x ≡ Err refusal = cc in cc
-met at (Err cause) placed h refusal e (Err given) gives length =
-    let same : given ≡ record { cause = cause; offset = at } = cc in (number_positive cause, rw same)
+met_answer at found placed is_placed refusal leaves left gives length =
+    let (cause, positive, number, is_left) = met at found placed is_placed refusal leaves left gives in
+    (rw number positive, rw (is_left, number))
