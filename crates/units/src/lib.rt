@@ -35,7 +35,8 @@ pub type Cusums = [Cusum; CLASSES];
 // An overshoot of each class, in tenths.
 pub type Overshoots = [u64; CLASSES];
 
-// The count of each class, in tenths. No struct with a row: each goes without the other, too.
+// The count of each class, in tenths. No struct with a row: `best_lower` holds the same counts against two rows, and `starts` takes a row
+// alone.
 type Tenths = [u32; CLASSES];
 
 // The designated grade, and S, T and L of grades A, B, C, in each by class: flat, as they are read and checked. `table` has them by grade.
