@@ -6,6 +6,7 @@ use Rattle.hatmuyon.proofs.hatmuyon_grade_mold.Met as hatmuyon_grade_mold
 use Rattle.regrade.proofs.regrade.Met as regrade
 use Rattle.hatmuyon.proofs.hatmuyon_regrade.Met as hatmuyon_regrade
 use Rattle.lookup.proofs.find.Met as find
+use Rattle.lookup.proofs.look_up.Met as look_up
 use Rattle.lookup.proofs.find_place.Met as find_place
 use Rattle.lookup.proofs.read_records.Met as read_records
 use Rattle.hatmuyon.proofs.hatmuyon_find_code.Met as hatmuyon_find_code
@@ -42,6 +43,7 @@ demands =
       promise_of_regrade = regrade.met;
       promise_of_hatmuyon_regrade = hatmuyon_regrade.met;
       promise_of_find = find.met;
+      promise_of_look_up = look_up.met;
       promise_of_find_place = find_place.met;
       promise_of_read_records = read_records.met;
       promise_of_hatmuyon_find_code = hatmuyon_find_code.met;

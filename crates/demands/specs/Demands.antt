@@ -3,10 +3,11 @@
 -- are the `outcome` of the sheet and the buffer; of `mold::grade_mold` and `hatmuyon_grade_mold` the same with `mold_outcome`; of
 -- `regrade::regrade` and `hatmuyon_regrade` the same with `regrade_outcome`, which looks at a second plan, too; of `lookup::find` that the
 -- number and the part of the lent results are those of `handed`, of `lookup::find_place` and `hatmuyon_find_code` that number and place are
--- those of `lookup`, and of `lookup::read_records`, which reads for them, that what it finds and how many records it reads are `reading_of`;
--- of `lots::grade_lot` and `hatmuyon_grade_lot` that the answer is the `lot_answer` of the lot; of `lines::print_into` that the text is that
--- of `printing`, with `printed` of the input in front, of `mold_lines::print_mold_into` the same with `mold_printing` and `mold_printed`, and
--- of `regrade_lines::print_regrading_into` with `regrade_printing` and `regrade_printed`.
+-- those of `lookup`, of `lookup::look_up`, whose result has a part only where a record is found, both, and of `lookup::read_records`, which
+-- reads for them, that what it finds and how many records it reads are `reading_of`; of `lots::grade_lot` and `hatmuyon_grade_lot` that the
+-- answer is the `lot_answer` of the lot; of `lines::print_into` that the text is that of `printing`, with `printed` of the input in front, of
+-- `mold_lines::print_mold_into` the same with `mold_printing` and `mold_printed`, and of `regrade_lines::print_regrading_into` with
+-- `regrade_printing` and `regrade_printed`.
 -- Demands 1 to 3, P9 and P10, the further sheets and the instances speak of `outcome`; the lines of P10 and the printed text of `printed`;
 -- the layout of the bytes alone, P1 to P8 of the rules alone, `mold` of mold sheets, `regradings` of recorded sheets that are graded again
 -- under a second plan, `lookups` of `lookup`, `handed` and `records_read`, `lookups_graded`, with three of the instances, of look-ups in
@@ -19,6 +20,7 @@ use Rattle.hatmuyon.proofs.hatmuyon_grade_mold.Statement as hatmuyon_grade_mold
 use Rattle.regrade.proofs.regrade.Statement as regrade
 use Rattle.hatmuyon.proofs.hatmuyon_regrade.Statement as hatmuyon_regrade
 use Rattle.lookup.proofs.find.Statement as find
+use Rattle.lookup.proofs.look_up.Statement as look_up
 use Rattle.lookup.proofs.find_place.Statement as find_place
 use Rattle.lookup.proofs.read_records.Statement as read_records
 use Rattle.hatmuyon.proofs.hatmuyon_find_code.Statement as hatmuyon_find_code
@@ -52,6 +54,7 @@ pub record Demands : Type 2 where
   pub promise_of_regrade : {M : Type 1} → regrade.statement M
   pub promise_of_hatmuyon_regrade : {M : Type 1} → hatmuyon_regrade.statement M
   pub promise_of_find : {M : Type 1} → find.statement M
+  pub promise_of_look_up : {M : Type 1} → look_up.statement M
   pub promise_of_find_place : {M : Type 1} → find_place.statement M
   pub promise_of_read_records : {M : Type 1} → read_records.statement M
   pub promise_of_hatmuyon_find_code : {M : Type 1} → hatmuyon_find_code.statement M

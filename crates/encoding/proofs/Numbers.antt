@@ -7,6 +7,7 @@ use native.Mathlib.Nat.{add_assoc, add-zero}
 use native.Mathlib.Omega.{arith}
 use lib.ListN.{length, length-append}
 use lib.Seq.{get_or-append-add}
+use Rattle.std.specs.Int.{bytes_high_first}
 use Rattle.encoding.specs.Bytes.{byte, number, high, low, wide_number, bytes_of}
 
 pub byte_behind : (xs ys : List ℕ) (at : ℕ) → byte (xs ++ ys) (length xs + at) ≡ byte ys at
@@ -50,3 +51,16 @@ bytes_read (suc width) value rest small =
     (ap₂ (λ (x y : ℕ). 256 * x + y)
     (bytes_read width (value / 256) behind (omega arith)) (ap (byte (higher ++ behind)) last ∙ byte_behind higher behind 0)
     ∙ omega arith)
+
+-- ---- as the library writes them: a byte's place is a power of 256, or as many divisions
+
+pub lowest_two : (value : ℕ) → bytes_of 2 value ≡ bytes_high_first 2 value
+unfolding bytes_of
+lowest_two value = refl
+
+pub lowest_four : (value : ℕ) → bytes_of 4 value ≡ bytes_high_first 4 value
+unfolding bytes_of
+lowest_four value =
+    let third : value / 256 / 256 / 256 ≡ value / 256 ^ 3 = omega arith in
+    let second : value / 256 / 256 ≡ value / 256 ^ 2 = omega arith in
+    rw (third, second)

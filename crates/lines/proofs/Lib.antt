@@ -1,2 +1,3 @@
 pub mod Classes
+pub mod LineLengths
 pub mod Printed

@@ -2,7 +2,7 @@
 #![tactic(auto)]
 
 ghost use Rattle.std.specs.Prelude.{◌≡◌};
-ghost use Rattle.lookup.specs.Lookup.{lookup, handed};
+ghost use Rattle.lookup.specs.Lookup.{lookup, Handed, handed};
 ghost use Rattle.lookup.specs.Found.{part_of, handed_back};
 ghost use Rattle.lookup.specs.Reading.{reading_of};
 
@@ -94,7 +94,7 @@ pub fn read_records(results: &[u8], code: u16) -> Reading
 }
 
 // Looks a code up in finished results, any bytes of any length.
-pub fn find<'a>(results: &'a [u8], code: u16) -> Result<Option<Found<'a>>, Ground>
+pub fn look_up<'a>(results: &'a [u8], code: u16) -> Result<Option<Found<'a>>, Ground>
     ensures place { part_of result ≡ lookup results.now code }
     ensures back { handed_back results.entry.ref_ptr result ≡ handed results.entry.ref_ptr results.now code }
 {
@@ -115,5 +115,18 @@ pub fn find<'a>(results: &'a [u8], code: u16) -> Result<Option<Found<'a>>, Groun
 pub fn find_place(results: &[u8], code: u16) -> Part
     ensures { result ≡ lookup results.now code }
 {
-    Part::of(find(results, code))
+    Part::of(look_up(results, code))
+}
+
+// Looks a code up in finished results, and hands back the part, which is one of the lent results themselves; the number is set beside it.
+pub fn find<'a>(results: &'a [u8], code: u16, number: &mut u32) -> &'a [u8]
+    ensures { ◌≡◌ {A = Handed} (record { number = number.exit.now; start = result.ref_ptr; bytes = result.now }) (handed results.entry.ref_ptr results.now code) }
+{
+    let (told, part) = match look_up(results, code) {
+        Ok(Some(found)) => (0, found.part),
+        Ok(None) => (1, &results[..0]),
+        Err(cause) => (u32::from(cause), &results[..0]),
+    };
+    *number = told;
+    part
 }

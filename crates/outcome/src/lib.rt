@@ -67,16 +67,22 @@ impl From<Ground> for u32 {
     }
 }
 
+// A refusal by any number, with no units.
+pub fn refused_as(number: u32, offset: usize) -> Answer
+    ensures { result ≡ refused_as number offset }
+{
+    Answer {
+        number,
+        units: 0,
+        offset,
+    }
+}
+
 impl From<Refusal> for Answer {
     ghost from_gives = { λ refusal answer. answer ≡ refused_as (number_of refusal.cause) refusal.offset };
 
-    // A refusal has no units.
     fn from(refusal: Refusal) -> Answer {
-        Answer {
-            number: u32::from(refusal.cause),
-            units: 0,
-            offset: refusal.offset,
-        }
+        refused_as(u32::from(refusal.cause), refusal.offset)
     }
 }
 

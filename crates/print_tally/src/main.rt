@@ -12,15 +12,21 @@ use std::io::{Read, Write};
 use streams::{print_text, read_input};
 use text::LARGEST_INPUT;
 
+// The text in a function of its own: beside the read it is cleared twice.
+fn print_sheet<W: Write>(out: &mut W, sheet: &[u8]) -> io::Result<()>
+    ensures { OnOk result (Appends (W.contents out.old) (W.contents out.new) (printed sheet.now)) }
+{
+    let mut text = [0u8; TEXT_SIZE];
+    print_text(out, &mut text, |text| lines::print_into(sheet, text))
+}
+
 // What is printed is the printed text of the whole input, however long that is. After an error it is left open what was read and printed.
 fn print_input<R: Read, W: Write>(input: &mut R, out: &mut W) -> io::Result<()>
     ensures { OnOk result (IfSome (R.remaining input.old) (λ sheet. Appends (W.contents out.old) (W.contents out.new) (printed sheet))) }
 {
     let mut room = [0u8; LARGEST_INPUT + 1];
     let sheet = read_input(input, &mut room)?;
-    print_text(out, &mut [0u8; TEXT_SIZE], |text| {
-        lines::print_into(sheet, text)
-    })
+    print_sheet(out, sheet)
 }
 
 fn main(rt: HostRuntime) -> io::Result<()> {

@@ -121,7 +121,7 @@ pub fn write_meeting(
     results: &mut [u8],
 ) -> Reached
     requires { Passable sheet.now.bytes.now sheet.now.records designated start (length results.old) }
-    ensures { Further sheet.now.bytes.now sheet.now.records sheet.now.table.now designated true start results.old result results.new }
+    ensures { (table : Table) → row_of table designated ≡ row_of sheet.now.table.now designated → Further sheet.now.bytes.now sheet.now.records table designated true start results.old result results.new }
 {
     let bytes = sheet.bytes;
     let row = row_of(*sheet.table, designated);

@@ -45,7 +45,7 @@ module _ (bytes : List ℕ) {records units : ℕ} (accepted : Accepted records u
   sheet_facts : Facts bytes records
   sheet_facts = (facts bytes records units (sym accepted)).0
 
-  units_counted : units ≡ units_before bytes records
+  pub units_counted : units ≡ units_before bytes records
   units_counted = (facts bytes records units (sym accepted)).1
 
   pub units_few : units ≤ most_units

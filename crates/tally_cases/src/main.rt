@@ -79,6 +79,32 @@ fn read_bytes<'a, R: Read>(input: &mut R, room: &'a mut [u8]) -> Result<&'a [u8]
     Ok(read_input(input, part)?)
 }
 
+// A text of its own for each kind, in a function of its own: beside a read or another text it is cleared for nothing.
+fn print_tally<W: Write>(out: &mut W, sheet: &[u8]) -> io::Result<()>
+    ensures { OnOk result (Appends (W.contents out.old) (W.contents out.new) (printed sheet.now)) }
+{
+    let mut text = [0u8; TEXT_SIZE];
+    print_text(out, &mut text, |text| lines::print_into(sheet, text))
+}
+
+fn print_mold<W: Write>(out: &mut W, sheet: &[u8]) -> io::Result<()>
+    ensures { OnOk result (Appends (W.contents out.old) (W.contents out.new) (mold_printed sheet.now)) }
+{
+    let mut text = [0u8; MOLD_TEXT_SIZE];
+    print_text(out, &mut text, |text| {
+        mold_lines::print_mold_into(sheet, text)
+    })
+}
+
+fn print_regraded<W: Write>(out: &mut W, sheet: &[u8], plan: &[u8]) -> io::Result<()>
+    ensures { OnOk result (Appends (W.contents out.old) (W.contents out.new) (regrade_printed sheet.now plan.now)) }
+{
+    let mut text = [0u8; TEXT_SIZE];
+    print_text(out, &mut text, |text| {
+        regrade_lines::print_regrading_into(sheet, plan, text)
+    })
+}
+
 // Reads the second plan, and prints the regrading.
 fn print_regrading<R: Read, W: Write>(input: &mut R, out: &mut W, sheet: &[u8]) -> Result<(), Stop>
     ensures { OnOk result ((plan : List ℕ) × LosesSized (R.remaining input.old) (R.remaining input.new) plan
@@ -86,9 +112,7 @@ fn print_regrading<R: Read, W: Write>(input: &mut R, out: &mut W, sheet: &[u8]) 
 {
     let mut room = [0u8; ROOM];
     let plan = read_bytes(input, &mut room)?;
-    print_text(out, &mut [0u8; TEXT_SIZE], |text| {
-        regrade_lines::print_regrading_into(sheet, plan, text)
-    })?;
+    print_regraded(out, sheet, plan)?;
     Ok(())
 }
 
@@ -111,7 +135,7 @@ fn print_refused<W: Write>(out: &mut W, number: u32) -> io::Result<()>
 }
 
 fn print_part(out: &mut impl Write, results: &[u8], code: u16) -> io::Result<()> {
-    match lookup::find(results, code) {
+    match lookup::look_up(results, code) {
         Ok(Some(found)) => print_found(out, found.offset, found.part),
         Ok(None) => writeln!(out, "not on this sheet"),
         Err(cause) => print_refused(out, u32::from(cause)),
@@ -149,12 +173,8 @@ fn print_sheet<R: Read, W: Write>(
         × Appends (W.contents out.old) (W.contents out.new) (regrade_printed sheet.now plan)) }
 {
     match kind {
-        Kind::Tally => print_text(out, &mut [0u8; TEXT_SIZE], |text| {
-            lines::print_into(sheet, text)
-        })?,
-        Kind::Mold => print_text(out, &mut [0u8; MOLD_TEXT_SIZE], |text| {
-            mold_lines::print_mold_into(sheet, text)
-        })?,
+        Kind::Tally => print_tally(out, sheet)?,
+        Kind::Mold => print_mold(out, sheet)?,
         Kind::Regrading => print_regrading(input, out, sheet)?,
         Kind::Lookup => print_lookup(input, out, sheet)?,
         Kind::Lot => print_lot(out, sheet)?,

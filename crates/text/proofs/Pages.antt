@@ -1,10 +1,9 @@
 -- Texts written one behind the other are one text; and a text on a page that was empty stands first in the caller's bytes.
-use Rattle.std.proofs.Common.{◌≡◌, ℕ, ◌+◌, ◌^◌, ◌<◌, ◌≤◌, List, [], ◌∷◌, ◌++◌, length, take, drop, refl, sym, ap, ◌∙◌, append_assoc, append-nil, add-one, arith, length-append, length-take-le}
+use Rattle.std.proofs.Common.{◌≡◌, ℕ, ◌+◌, List, [], ◌++◌, length, take, drop, refl, sym, ap, ◌∙◌, append_assoc, append-nil, add-one, arith, length-append, length-take-le}
 use Rattle.std.proofs.lemmas.List.{drop-drop, take-append-drop}
 use Rattle.text.specs.declared.page.Page.{Page}
-use Rattle.text.specs.Text.{newline, space, decimal, rest_of_line, line_with, lines_by, refused_line, Printing, leaving}
-use Rattle.text.specs.Wrote.{written, behind, Wrote, longest_refusal}
-use Rattle.text.proofs.Decimals.{length_word}
+use Rattle.text.specs.Text.{lines_by, Printing, leaving}
+use Rattle.text.specs.Wrote.{written, behind, Wrote}
 
 pub joined : {before middle after : Page} {first second : List ℕ}
     → Wrote before first middle → Wrote middle second after → Wrote before (first ++ second) after
@@ -39,15 +38,3 @@ whole_text printed {before} {after} empty wrote =
     let rest : drop after.size after.text.now ≡ drop (length printed) before.text.now = wrote.kept ∙ rw empty in
     let size : after.size ≡ length printed = sym (length-take-le after.size after.text.now after.inside) ∙ ap length front in
     rw (← take-append-drop after.size after.text.now, front, rest, size)
-
--- no refusal is longer: the word, and two numbers of 64 bits
-pub short_refusal : (number offset : ℕ) → number < 2 ^ 64 → offset < 2 ^ 64 → length (refused_line number offset) ≤ longest_refusal
-unfolding refused_line line_with rest_of_line
-short_refusal number offset numbered placed =
-    omega (
-      arith,
-      length_word number numbered,
-      length_word offset placed,
-      length-append (decimal number) ((space ∷ decimal offset) ++ (newline ∷ [])),
-      length-append (decimal offset) (newline ∷ []),
-    )

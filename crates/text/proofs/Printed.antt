@@ -1,5 +1,6 @@
--- What is printed in each case of an input: too long, accepted, refused. From the definitions, by what each test says.
-use Prim.Native.Nat.{ℕ, ◌<◌, ◌≤◌}
+-- What is printed in each case of an input: too long, accepted, refused; and how long a refusal is. From the definitions, by what each test
+-- says.
+use Prim.Native.Nat.{ℕ, ◌+◌, ◌*◌, ◌^◌, ◌<◌, ◌≤◌}
 use mathlib.Core.Path.{◌≡◌, refl, sym, ◌∙◌, ap}
 use mathlib.Core.List.{List, ◌++◌, append_assoc}
 use native.Mathlib.Omega.{arith}
@@ -10,6 +11,8 @@ use Rattle.outcome.specs.Outcome.{Outcome}
 use Rattle.text.specs.Ascii.{ascii}
 use Rattle.text.specs.Text.{digits, decimal, rest_of_line, line_with, lines_by, refused_line, text_by, largest_input, too_much_input, SheetKind, printed_as, Printing, leaving}
 use Rattle.text.specs.TextCases.{TextCases}
+use Rattle.text.specs.Wrote.{word_size, longest_refusal}
+use Rattle.text.proofs.Decimals.{length_decimal}
 
 -- ---- the cases
 
@@ -40,6 +43,12 @@ module _ (kind : SheetKind) (input : List ℕ) where
 
 -- ---- a refusal
 
+pub length_refusal : (number offset : ℕ)
+    → length (refused_line number offset)
+    ≡ length (ascii "refused") + (1 + length (decimal number)) + (1 + length (decimal offset)) + 1
+unfolding refused_line line_with rest_of_line
+length_refusal number offset = simp length-append (omega arith)
+
 pub refused_line_holds : (number offset : ℕ) → refused_line number offset ≡ ascii "refused " ++ decimal number ++ ascii " " ++ decimal offset ++ ascii "\n"
 unfolding rest_of_line line_with refused_line
 refused_line_holds number offset = simp append_assoc
@@ -58,6 +67,21 @@ text_cases kind =
           refusal_printed kind input _ _ (sym promise) within (λ none. omega arith) ∙ refused_line_holds number offset;
       accepted = λ input results units offset within promise. lines_printed kind input _ _ (sym promise) within refl;
     }
+
+-- no refusal is longer: the word, and two numbers of at most so many digits as one of 64 bits
+pub short_refusal : (number offset : ℕ) → number < 10 ^ word_size → offset < 10 ^ word_size
+    → length (refused_line number offset) ≤ length (ascii "refused") + 2 * (1 + word_size) + 1
+short_refusal number offset numbered placed =
+    omega (
+      arith,
+      length_refusal number offset,
+      length_decimal word_size number (omega arith) numbered,
+      length_decimal word_size offset (omega arith) placed,
+    )
+
+-- so one of two words has room
+pub refusal_fits : (number offset : ℕ) → number < 2 ^ 64 → offset < 2 ^ 64 → length (refused_line number offset) ≤ longest_refusal
+refusal_fits number offset numbered placed = omega (arith, short_refusal number offset (omega arith) (omega arith))
 
 -- ---- the caller's text
 

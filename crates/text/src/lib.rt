@@ -57,7 +57,7 @@ fn unit_lines<L: UnitLines>(lines: &L, units: usize, page: &mut Page)
 // ---- the whole text, which stands first in the caller's; the answer is its size
 
 // A refusal alone.
-#[tactic(auto, using(crate::proofs::Pages::whole_text, crate::proofs::Pages::short_refusal))]
+#[tactic(auto, using(crate::proofs::Pages::whole_text, crate::proofs::Printed::refusal_fits))]
 pub fn print_refusal(number: u32, offset: usize, text: &mut [u8]) -> usize
     requires { longest_refusal ≤ length text.old }
     ensures { ◌≡◌ {A = Printing} (record { size = result; text = text.new }) (leaving (refused_line number offset) text.old) }

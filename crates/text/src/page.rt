@@ -49,11 +49,18 @@ impl<'a> Page<'a> {
         self.size = end;
     }
 
-    #[tactic(auto, using(crate::proofs::Decimals::as_printed))]
+    // A number of one digit or two, as most CuSums are, is these bytes: by `itoa` they take several times as long.
+    #[tactic(auto, using(crate::proofs::Decimals::as_printed, crate::proofs::Decimals::one_digit, crate::proofs::Decimals::two_digits))]
     pub fn decimal(&mut self, value: usize)
         requires { HasRoom self.old (length (decimal value)) }
         ensures { Wrote self.old (decimal value) self.new }
     {
+        if value < 10 {
+            return self.byte(b'0' + value as u8);
+        }
+        if value < 100 {
+            return self.bytes(&[b'0' + (value / 10) as u8, b'0' + (value % 10) as u8]);
+        }
         let mut digits = itoa::Buffer::new();
         self.bytes(digits.format(value).as_bytes());
     }
@@ -75,8 +82,7 @@ impl<'a> Page<'a> {
         ensures { Wrote self.old (space ∷ one_decimal tenths) self.new }
     {
         self.number_field(usize::from(tenths / 10));
-        self.byte(b'.');
-        self.decimal(usize::from(tenths % 10));
+        self.bytes(&[b'.', b'0' + (tenths % 10) as u8]);
     }
 
     // "refused", number and offset. A `usize` has no `From` of a `u32`.

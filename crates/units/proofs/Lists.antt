@@ -1,20 +1,31 @@
 -- Laws of lists: one read at a place, and that of the first numbers, 0, 1, 2, .., as the list of the classes and that of the cells are:
--- a list with a member for each, and a condition of some or all of them. By induction on the list. And what an array's `map` gives.
+-- a list with a member for each, a condition of some or all of them, and loops that fill such a list and test such a condition. By
+-- induction on the list. And what an array's `map` gives.
 use Prim.Native.Nat.{ℕ, zero, suc, ◌+◌, ◌≤◌, ◌<◌}
 use mathlib.Core.Path.{◌≡◌, refl, sym, ◌∙◌, ap}
+use mathlib.Core.Logic.{◌⊎◌, inl, inr}
 use mathlib.Core.Bool.{Bool, true, false, ◌||◌, false≢true}
 use mathlib.Core.List.{List, [], ◌∷◌, map}
+use native.Mathlib.Nat.{eq-or-lt_of_le}
+use native.Mathlib.Numerals.{add-one}
 use native.Mathlib.Omega.{arith}
-use lib.ListN.{length, get_or, length-map, get_or-eq_default, get_or-map}
-use Rattle.std.proofs.Common.{fold}
-use Rattle.std.specs.List.{list_any}
-use lib.Seq.{ext_get_or}
-use denote.Param.Members.{Mut}
-use Rattle.std.specs.Array.{IsMapOf}
-use Rattle.std.specs.Fn.{Called}
+use lib.ListN.{length, get_or, length-map, get_or-eq_default, get_or-map, drop, set, length-set, drop_of_length-le}
+use lib.Seq.{ext_get_or, drop-cons, get_or-set_same, get_or-set_other}
 use Rattle.units.specs.Conditions.{any, all}
 use Rattle.units.specs.Words.{up_from}
 use Rattle.units.proofs.Tests.{and_both, or_first, or_second}
+use Rattle.std.proofs.Math.Bool.{or-false, or_assoc}
+use Rattle.std.proofs.Common.{fold}
+use Rattle.std.specs.List.{list_any}
+use denote.Param.Members.{Mut}
+use Rattle.std.specs.Array.{IsMapOf}
+use Rattle.std.specs.Fn.{Called}
+
+-- inside a list the default of `get_or` does not matter
+pub any_default {ℓ} : {A : Type ℓ} (l : List A) (i : ℕ) (d e : A) → i < length l → get_or l i d ≡ get_or l i e
+any_default [] i d e h = absurd (omega arith)
+any_default (x ∷ l) zero d e h = refl
+any_default (x ∷ l) (suc i) d e h = any_default l i d e (omega arith)
 
 -- ---- the first numbers
 
@@ -59,6 +70,27 @@ module _ (n : ℕ) where
 pub map_same {ℓ} : {A : Type ℓ} (n : ℕ) (f g : ℕ → A) → ((i : ℕ) → i < n → f i ≡ g i) → map f (up_from 0 n) ≡ map g (up_from 0 n)
 map_same n f g same = map_of n g (g 0) (map f (up_from 0 n)) (map_length n f (g 0)) (λ i inside. map_at n f (g 0) i inside ∙ same i inside)
 
+-- for a loop that fills such a list: every member before this one is there
+pub record Filled {A : Type 0} (n : ℕ) (f : ℕ → A) (d : A) (l : List A) (k : ℕ) : Type 0 where
+  pub whole : length l ≡ n
+  pub within : k ≤ n
+  pub done : (i : ℕ) → i < k → get_or l i d ≡ f i
+
+module _ {A : Type 0} {n : ℕ} {f : ℕ → A} {d : A} {l : List A} where
+  pub fill_first : length l ≡ n → Filled n f d l 0
+  fill_first e = record { whole = e; within = omega arith; done = λ i h. absurd (omega arith) }
+
+  module _ {k : ℕ} (filled : Filled n f d l k) where
+    pub fill_next : {v : A} → k < n → v ≡ f k → Filled n f d (set l k v) (k + 1)
+    fill_next {v} h e = record { whole = length-set l k v ∙ filled.whole; within = omega arith; done = λ i below. go i (eq-or-lt_of_le (omega arith)) }
+      where
+        go : (i : ℕ) → (i ≡ k) ⊎ (i < k) → get_or (set l k v) i d ≡ f i
+        go i (inl same) = rw (same, get_or-set_same l k v d (omega arith)) e
+        go i (inr less) = get_or-set_other l k i v d (λ same. omega arith) ∙ filled.done i less
+
+    pub fill_last : n ≤ k → l ≡ map f (up_from 0 n)
+    fill_last h = map_of n f d l filled.whole (λ i inside. filled.done i (omega arith))
+
 -- ---- a condition of them
 
 none_at : (p : ℕ → Bool) (l : List ℕ) → any p l ≡ false → (i : ℕ) → i < length l → p (get_or l i 0) ≡ false
@@ -66,6 +98,11 @@ unfolding any
 none_at p [] e i h = absurd (omega arith)
 none_at p (x ∷ l) e zero h = or_first (p x) (any p l) e
 none_at p (x ∷ l) e (suc i) h = none_at p l (or_second (p x) (any p l) e) i (omega arith)
+
+at_none : (p : ℕ → Bool) (l : List ℕ) → ((i : ℕ) → i < length l → p (get_or l i 0) ≡ false) → any p l ≡ false
+unfolding any
+at_none p [] h = refl
+at_none p (x ∷ l) h = rw (h 0 (omega arith)) (at_none p l (λ i k. h (suc i) (omega arith)))
 
 each_at : (p : ℕ → Bool) (l : List ℕ) → all p l ≡ true → (i : ℕ) → i < length l → p (get_or l i 0) ≡ true
 unfolding all
@@ -108,6 +145,56 @@ module _ (n : ℕ) (p : ℕ → Bool) where
   -- it holds of none
   pub in_none : any p (up_from 0 n) ≡ false → (k : ℕ) → k < n → p k ≡ false
   in_none e k h = rw (number_at n k 0 h) at (none_at p (up_from 0 n) e k (rw (numbers_length 0 n) h))
+
+  pub none_in : ((k : ℕ) → k < n → p k ≡ false) → any p (up_from 0 n) ≡ false
+  none_in none =
+      at_none p (up_from 0 n)
+      (λ k h. let inside : k < n = omega (arith, numbers_length 0 n) in rw (number_at n k 0 inside) (none k inside))
+
+  -- those from the k-th on
+  module _ (k : ℕ) where
+    left : k < n → drop k (up_from 0 n) ≡ k ∷ drop (k + 1) (up_from 0 n)
+    left h = rw (add-one k, drop-cons (up_from 0 n) k 0 (rw (numbers_length 0 n) h), number_at n k 0 h)
+
+    none_left : n ≤ k → drop k (up_from 0 n) ≡ []
+    none_left h = let past : length (up_from 0 n) ≤ k = rw (numbers_length 0 n) h in drop_of_length-le (up_from 0 n) past
+
+    pub all_hit : k < n → p k ≡ true → all p (drop k (up_from 0 n)) ≡ all p (drop (k + 1) (up_from 0 n))
+    unfolding all
+    all_hit h e = rw (left h, e)
+
+    pub all_miss : k < n → p k ≡ false → all p (drop k (up_from 0 n)) ≡ false
+    unfolding all
+    all_miss h e = rw (left h, e)
+
+    pub all_end : n ≤ k → all p (drop k (up_from 0 n)) ≡ true
+    unfolding all
+    all_end h = rw (none_left h)
+
+    any_next : k < n → any p (drop k (up_from 0 n)) ≡ (p k || any p (drop (k + 1) (up_from 0 n)))
+    unfolding any
+    any_next h = rw (left h)
+
+    any_end : n ≤ k → any p (drop k (up_from 0 n)) ≡ false
+    unfolding any
+    any_end h = rw (none_left h)
+
+-- for a loop that tests one after the other: it holds of one if one is found, or one is left
+pub record Tested (n : ℕ) (p : ℕ → Bool) (found : Bool) (k : ℕ) : Type 0 where
+  pub inside : k ≤ n
+  pub found_or_left : any p (up_from 0 n) ≡ (found || any p (drop k (up_from 0 n)))
+
+module _ {n : ℕ} {p : ℕ → Bool} where
+  pub tested_first : Tested n p false 0
+  tested_first = record { inside = omega arith; found_or_left = refl }
+
+  module _ {found : Bool} {k : ℕ} (tested : Tested n p found k) where
+    pub tested_next : {test : Bool} → k < n → test ≡ p k → Tested n p (found || test) (k + 1)
+    tested_next {test} h e =
+        record { inside = omega arith; found_or_left = tested.found_or_left ∙ rw (any_next n p k h, e) (sym (or_assoc found (p k) _)) }
+
+    pub tested_last : n ≤ k → found ≡ any p (up_from 0 n)
+    tested_last h = sym (tested.found_or_left ∙ rw (any_end n p k h) (or-false found))
 
 -- a condition of some members, folded from what is found before them
 pub folded : {A : Type 0} (test : A → Bool) (found : Bool) (all : List A) → fold (λ before member. before || test member) found all ≡ (found || list_any test all)

@@ -1,27 +1,14 @@
 -- Byte for byte the definition: the lowest bytes of each number.
-use Prim.Native.Nat.{ℕ, ◌/◌, ◌^◌}
-use mathlib.Core.Path.{◌≡◌, refl}
+use Prim.Native.Nat.{ℕ}
+use mathlib.Core.Path.{◌≡◌}
 use mathlib.Core.List.{[], ◌∷◌}
-use native.Mathlib.Omega.{arith}
 use lib.ListN.{get_or}
-use Rattle.std.specs.Int.{w16, w32, w64, to_be_bytes, bytes_high_first}
-use Rattle.encoding.specs.Bytes.{bytes_of}
+use Rattle.std.specs.Int.{w16, w32, w64, to_be_bytes}
+use Rattle.encoding.proofs.Numbers.{lowest_two, lowest_four}
 use Rattle.units.specs.Words.{tenths_in, overshoot_for}
 use Rattle.results.specs.declared.ResultRecord.{ResultRecord}
 use Rattle.results.specs.Record.{result_bytes, class_bytes}
 use Rattle.results.proofs.bytes_of.Goals as goal
-
--- a byte's place is a power of 256, or as many divisions
-lowest_two : (value : ℕ) → bytes_of 2 value ≡ bytes_high_first 2 value
-unfolding bytes_of
-lowest_two value = refl
-
-lowest_four : (value : ℕ) → bytes_of 4 value ≡ bytes_high_first 4 value
-unfolding bytes_of
-lowest_four value =
-    let third : value / 256 / 256 / 256 ≡ value / 256 ^ 3 = omega arith in
-    let second : value / 256 / 256 ≡ value / 256 ^ 2 = omega arith in
-    rw (third, second)
 
 abbrev cusum_byte : ResultRecord → ℕ → ℕ → ℕ
 cusum_byte result class k = get_or (to_be_bytes w32 (tenths_in result.cusums class)) k 0

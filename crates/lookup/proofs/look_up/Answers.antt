@@ -1,7 +1,7 @@
 -- By the case of the look-up: the reading gives the first of the worst portions, and the part is that record, where it is in memory.
 use Rattle.std.proofs.Common.{sym}
 use Rattle.lookup.proofs.Cases.{refused_is, reading_found, reading_none, found_part, found_handed, handed_nothing}
-use Rattle.lookup.proofs.find.Goals as goal
+use Rattle.lookup.proofs.look_up.Goals as goal
 
 pub returns-then-results-ne0 : goal.returns-then-results-ne0
 returns-then-results-ne0 c =
